@@ -12,9 +12,9 @@ use Rattle.dw_board.specs.inner.FenReader.{behind}
 use Rattle.dw_board.specs.FenTokens.{first_is, first_named, is_empty}
 use Rattle.dw_board.specs.inner.FenReading.{listing}
 use Rattle.dw_board.specs.FenTokens.{no_item}
-use Rattle.dw_board.specs.FenGrammar.{Placing, IsRange, IsItem, IsItems, IsList, IsEnd, IsTail, named, all_named}
-use Rattle.dw_board.specs.FenGrammar.{Sets, Names, number, range, men, kings, single, more, bare, full, nothing, stop}
-use Rattle.dw_board.specs.FenGrammar.{ends, fields, one_list, two_lists}
+use Rattle.dw_board.specs.FenGrammar.{Placing, IsRange, IsItem, IsItems, IsList, IsEnd, IsTail, named, all_named, Sets}
+use Rattle.dw_board.specs.FenGrammar.{Names, number, range, men, kings, single, more, bare, full, nothing, stop, ends}
+use Rattle.dw_board.specs.FenGrammar.{fields, one_list, two_lists}
 use Rattle.dw_board.specs.Fen.{◌>>=◌, Listing, Item, Stage, Start, AfterTurn, AfterColon, AfterColour, AfterComma}
 use Rattle.dw_board.specs.Fen.{AfterKing, AfterNumber, AfterDash, AfterItem, read_from, at_end, with_item, then_set}
 use Rattle.dw_board.specs.Fen.{set_squares, piece_of}
@@ -287,8 +287,8 @@ module _ (g : Geometry) (end : ℕ) where
       let b = king-no_sign c.first.text 46 refl refl (ap is_king_letter c.text ∙ king) in
       ap no_item c.is ∙ rw (a, b) refl
 
-  items-not_closed : (ws : List (List ℕ)) (is : List Placing) → IsItems g ws is → (ts : List Token) (tail : List (List ℕ))
-      → texts ts ≡ ws ++ tail → no_item ts ≡ false
+  items-not_closed : (ws : List (List ℕ)) (is : List Placing) → IsItems g ws is → (ts : List Token) (tail : List (List
+      ℕ)) → texts ts ≡ ws ++ tail → no_item ts ≡ false
   items-not_closed ws is (single {i = i} item) ts tail e = item-not_closed ws i item ts tail e
   items-not_closed ws is (more {i = i} front comma vs item sign items) ts tail e = item-not_closed front i item ts
       (comma ∷ (vs ++ tail)) (e ∙ append_assoc front (comma ∷ vs) tail)

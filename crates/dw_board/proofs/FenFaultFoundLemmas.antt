@@ -1,26 +1,26 @@
 -- A fault that is found is one that the grammar gives.
-use Rattle.std.proofs.Common.{◌≡◌, ℕ, suc, zero, ◌+◌, ◌-◌, ◌≤◌, Bool, true, false, ◌||◌, cond, ltb, List, [], ◌∷◌}
-use Rattle.std.proofs.Common.{◌++◌, map, Option, Some, None, Result, Ok, Err, refl, sym, ap, ◌∙◌, subst, arith}
-use Rattle.std.proofs.Common.{◌⊎◌, inl, inr, append_assoc, ◌≢◌}
+use Rattle.std.proofs.Common.{◌≡◌, ℕ, suc, zero, ◌+◌, ◌-◌, ◌≤◌, Bool, true, false, ◌||◌, cond, ltb, List, [], ◌∷◌, ◌++◌}
+use Rattle.std.proofs.Common.{map, Option, Some, None, Result, Ok, Err, refl, sym, ap, ◌∙◌, subst, arith, ◌⊎◌, inl, inr}
+use Rattle.std.proofs.Common.{append_assoc, ◌≢◌}
 use Rattle.std.specs.List.{range_with_len}
 use Rattle.std.proofs.lemmas.Bool.{ltb-true, ltb-false}
 use Rattle.std.proofs.lemmas.List.{map-append}
 use Rattle.std.proofs.lemmas.Grind.{flat_map-append}
 use Rattle.dw_board.specs.Geometry.{Geometry}
 use Rattle.dw_board.specs.Placement.{Placement, empty, placed, put_fault, same_side}
-use Rattle.dw_board.specs.FenTokens.{Token, is_sign, side_named, is_king_letter, number_named}
-use Rattle.dw_board.specs.FenTokens.{first_is, is_empty, no_item, place_of}
+use Rattle.dw_board.specs.FenTokens.{Token, is_sign, side_named, is_king_letter, number_named, first_is, is_empty}
+use Rattle.dw_board.specs.FenTokens.{no_item, place_of}
 use Rattle.dw_board.specs.inner.FenReading.{listing}
-use Rattle.dw_board.specs.FenGrammar.{texts, Placing, IsRange, IsItem, IsItems, IsList, named, all_named, Sets}
-use Rattle.dw_board.specs.FenGrammar.{number, range, men, kings, single, more, bare, full}
+use Rattle.dw_board.specs.FenGrammar.{texts, Placing, IsRange, IsItem, IsItems, IsList, named, all_named, Sets, number}
+use Rattle.dw_board.specs.FenGrammar.{range, men, kings, single, more, bare, full}
 use Rattle.dw_board.specs.FenFaults.{put_kind, ListNext, first, second, ListRead, listed, ItemNext, behind_colour}
 use Rattle.dw_board.specs.FenFaults.{behind_comma, NumberNext, of_men, of_kings, of_range, RangeNext, whole, FaultAt}
 use Rattle.dw_board.specs.FenFaults.{no_turn, no_colon, no_colour, same_colour, no_number, backwards, not_put}
 use Rattle.dw_board.specs.FenFaults.{behind_item, behind_stop}
 use Rattle.dw_board.specs.Fen.{fault, Listing, Item, Stage, Start, AfterTurn, AfterColon, AfterColour, AfterComma}
 use Rattle.dw_board.specs.Fen.{AfterKing, AfterNumber, AfterDash, AfterItem, AfterStop, AfterLists, next_stage, at_end}
-use Rattle.dw_board.specs.Fen.{read_from, with_item, item_ended, item_begun, list_begun, if_named, then_set, set_squares}
-use Rattle.dw_board.specs.Fen.{piece_of}
+use Rattle.dw_board.specs.Fen.{read_from, with_item, item_ended, item_begun, list_begun, if_named, then_set}
+use Rattle.dw_board.specs.Fen.{set_squares, piece_of}
 use Rattle.dw_board.specs.declared.piece.Side.{Side}
 use Rattle.dw_board.specs.declared.piece.Side.TheVariants.{White, Black}
 use Rattle.dw_board.specs.declared.piece.Piece.{Piece}
@@ -139,7 +139,8 @@ full_grow : {g : Geometry} (ws : List (List ℕ)) (side : Side) (i : Placing) (i
     → IsList g ws side js → js ≡ i ∷ is → is_sign 44 c ≡ true → IsItem g vs j
     → IsList g (ws ++ c ∷ vs) side (js ++ j ∷ [])
 full_grow ws side i is js c vs j (bare h) e comma item = cc
-full_grow ws side i is js c vs j (full {ws = us} h items) e comma item = full h (items_grow us js c vs j items comma item)
+full_grow ws side i is js c vs j (full {ws = us} h items) e comma item = full h (items_grow us js c vs j items comma
+    item)
 
 named-grow : (side : Side) (is : List Placing) (j : Placing) → all_named side (is ++ j ∷ []) ≡ all_named side is
     ++ (named side j ++ [])
@@ -300,8 +301,8 @@ module _ (g : Geometry) where
       → NumberNext g tokens after (Some item.from) item.is_king list.side list.placed
   last_next tokens list item d after =
       let n = d.number in
-      let split : tokens ≡ n.front ++ n.first ∷ d.dash ∷ [] = d.is ∙ number_split d.numbered list item n (d.dash ∷ []) in
-      subst (λ l. NumberNext g l after (Some item.from) item.is_king list.side list.placed) (sym split)
+      let split : tokens ≡ n.front ++ n.first ∷ d.dash ∷ [] = d.is ∙ number_split d.numbered list item n (d.dash ∷ [])
+      in subst (λ l. NumberNext g l after (Some item.from) item.is_king list.side list.placed) (sym split)
       (of_range (n.next (d.dash ∷ after)) n.names d.sign)
 
   -- a range whose pieces can't all be put
@@ -514,8 +515,8 @@ module _ (g : Geometry) where
   next_read tokens (AfterColour list) t s r e = elim (chosen (is_sign 58 t.text || is_sign 46 t.text) _ _ _ e) [
     | inl closed ↦ ended_read tokens list [] t s r (λ comma. no_comma_here t.text t.text [] []
         closed.0 comma refl) closed.1
-    | inr begun ↦ begun_read tokens list t s (λ after. behind_colour (is_listed tokens list.is_second list.side [] list.placed r)
-        begun.0) (colour_takes tokens list r) begun.1
+    | inr begun ↦ begun_read tokens list t s (λ after. behind_colour (is_listed tokens list.is_second list.side []
+        list.placed r) begun.0) (colour_takes tokens list r) begun.1
   ]
   next_read tokens (AfterComma list) t s r e = begun_read tokens list t s (λ after. r.0 (t ∷ after)) r.1 e
   next_read tokens (AfterKing list) t s r e = number_read tokens list true t s (λ after. r.0 (t ∷ after)) r.1 e
@@ -577,8 +578,8 @@ module _ (g : Geometry) where
       elim (chosen (is_sign 58 t.text || is_sign 46 t.text) _ _ _ e) [
         | inl closed ↦ ended_found end tokens list t ts f
             (λ some comma. true-false (sym closed.0 ∙ some)) closed.1
-        | inr begun ↦ begun_found end tokens list t ts f (behind_colour (is_listed tokens list.is_second list.side [] list.placed r)
-            begun.0) begun.1
+        | inr begun ↦ begun_found end tokens list t ts f (behind_colour (is_listed tokens list.is_second list.side []
+            list.placed r) begun.0) begun.1
       ]
   next_found end tokens (AfterComma list) t ts f r e = begun_found end tokens list t ts f (r.0 (t ∷ ts)) e
   next_found end tokens (AfterKing list) t ts f r e = number_found end tokens list true t ts f (r.0 (t ∷ ts)) e

@@ -1,7 +1,7 @@
 -- A fault that the grammar gives is found.
-use Rattle.std.proofs.Common.{◌≡◌, ℕ, suc, zero, ◌+◌, ◌-◌, ◌<◌, Bool, true, false, ◌||◌, List, [], ◌∷◌, ◌++◌}
-use Rattle.std.proofs.Common.{map, length, Option, Some, None, Ok, refl, sym, ap, ◌∙◌, subst, arith}
-use Rattle.std.proofs.Common.{append_assoc, length-append, ◌≢◌}
+use Rattle.std.proofs.Common.{◌≡◌, ℕ, suc, zero, ◌+◌, ◌-◌, ◌<◌, Bool, true, false, ◌||◌, List, [], ◌∷◌, ◌++◌, map}
+use Rattle.std.proofs.Common.{length, Option, Some, None, Ok, refl, sym, ap, ◌∙◌, subst, arith, append_assoc}
+use Rattle.std.proofs.Common.{length-append, ◌≢◌}
 use Rattle.std.specs.List.{range_with_len}
 use Rattle.std.proofs.lemmas.List.{map-append, length-map}
 use Rattle.dw_board.specs.Geometry.{Geometry}
@@ -10,8 +10,8 @@ use Rattle.dw_board.specs.FenTokens.{Token, is_sign, side_named, number_named}
 use Rattle.dw_board.specs.inner.FenReader.{behind}
 use Rattle.dw_board.specs.FenTokens.{first_is, first_named, no_item, place_of}
 use Rattle.dw_board.specs.inner.FenReading.{listing}
-use Rattle.dw_board.specs.FenGrammar.{texts, Placing, IsRange, IsList, named, all_named, Sets, number, range}
-use Rattle.dw_board.specs.FenGrammar.{bare, full, single, more}
+use Rattle.dw_board.specs.FenGrammar.{texts, Placing, IsRange, IsList, named, all_named, Sets, number, range, bare}
+use Rattle.dw_board.specs.FenGrammar.{full, single, more}
 use Rattle.dw_board.specs.FenFaults.{put_kind, ListNext, first, second, ListRead, listed, ItemNext, behind_colour}
 use Rattle.dw_board.specs.FenFaults.{behind_comma, NumberNext, of_men, of_kings, of_range, RangeNext, whole, FaultAt}
 use Rattle.dw_board.specs.FenFaults.{no_turn, no_colon, no_colour, same_colour, no_number, backwards, not_put}
@@ -23,12 +23,11 @@ use Rattle.dw_board.specs.declared.piece.Side.TheVariants.{White, Black}
 use Rattle.dw_board.specs.declared.piece.Piece.{Piece}
 use Rattle.dw_board.specs.declared.piece.PutFault.{PutFault}
 use Rattle.dw_board.specs.declared.fen.fault.FenFaultKind.{FenFaultKind}
-use Rattle.dw_board.specs.declared.fen.fault.FenFaultKind.TheVariants.{Number, Rest}
-use Rattle.dw_board.specs.declared.fen.fault.FenFaultKind.TheVariants.{RangeBackwards}
+use Rattle.dw_board.specs.declared.fen.fault.FenFaultKind.TheVariants.{Number, Rest, RangeBackwards}
 use Rattle.dw_board.proofs.FenStageLemmas.{turn_read, turn_fault, colon_read, colon_fault, colour_read, colour_fault}
-use Rattle.dw_board.proofs.FenStageLemmas.{second_read, second_fault, list_something, comma_read, king_read, king_number}
-use Rattle.dw_board.proofs.FenStageLemmas.{king_fault, man_number, man_fault, dash_read, dash_fault, range_backwards}
-use Rattle.dw_board.proofs.FenStageLemmas.{range_read, number_read, list_colon, list_ended}
+use Rattle.dw_board.proofs.FenStageLemmas.{second_read, second_fault, list_something, comma_read, king_read}
+use Rattle.dw_board.proofs.FenStageLemmas.{king_number, king_fault, man_number, man_fault, dash_read, dash_fault}
+use Rattle.dw_board.proofs.FenStageLemmas.{range_backwards, range_read, number_read, list_colon, list_ended}
 use Rattle.dw_board.proofs.FenCompleteLemmas.{Reads, cut, closes, no_dash, closes-no_dash, comma-no_dash, colon-closes}
 use Rattle.dw_board.proofs.FenCompleteLemmas.{stop-closes, apart, sets_item, list_begins, list_read}
 
@@ -203,8 +202,8 @@ module _ (g : Geometry) (end : ℕ) where
       let nothing : texts c.items ≡ [] = cc in (
         h.0,
         c.reads after
-            ∙ (ap (λ l. read_from g end (AfterColour (listing side h.0 c.start)) (l ++ after)) (no_texts c.items nothing)
-            ∙ (ap (λ q. read_from g end (AfterColour (listing side h.0 q)) after) c.sets
+            ∙ (ap (λ l. read_from g end (AfterColour (listing side h.0 c.start)) (l ++ after)) (no_texts c.items
+            nothing) ∙ (ap (λ q. read_from g end (AfterColour (listing side h.0 q)) after) c.sets
             ∙ list_something g end (listing side h.0 p) after some)),
       )
   item_next before after side p (behind_comma {before = front} c {i = i} {is = is} l sign) =
@@ -334,8 +333,8 @@ module _ (g : Geometry) (end : ℕ) where
       (number_next before after from kings side p next).missing h
   fault_read before after what (backwards {m = m} {n = n} {kings = kings} {side = side} {p = p} next h below) =
       (number_next before after (Some m) kings side p next).low m n refl h below
-  fault_read before after what (not_put ts rest {i = i} {side = side} {p = p} q put others s piece {why = why} next split
-      sets h) =
+  fault_read before after what (not_put ts rest {i = i} {side = side} {p = p} q put others s piece {why = why} next
+      split sets h) =
       let r = item_read before ts rest i side p next in
       let place = place_of (ts ++ rest) end in
       r.reads

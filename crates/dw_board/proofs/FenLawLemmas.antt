@@ -40,7 +40,8 @@ is_fen g text p e = elim (cases_lt 1024 (length text)) [
 ]
 
 is_read : (g : Geometry) (text : List ℕ) (p : Placement) → Fen g text p → fen g text ≡ Ok p
-is_read g text p h = fen-short g text h.0 ∙ names_read g (length text + 1) (texts (tokens_from 1 text)) p h.1 (tokens_from 1 text) refl
+is_read g text p h = fen-short g text h.0 ∙ names_read g (length text + 1) (texts (tokens_from 1 text)) p h.1
+    (tokens_from 1 text) refl
 
 -- ---- the earliest fault
 err_read : (g : Geometry) (text : List ℕ) (f : FenFault) → length text ≤ 1024 → fen g text ≡ Err f

@@ -7,9 +7,9 @@ use Rattle.std.proofs.lemmas.Bool.{cases_Bool, ltb-false, eqb-true, eq-eqb, or_c
 use Rattle.dw_board.specs.Geometry.{Geometry}
 use Rattle.dw_board.specs.Placement.{Placement, empty, placed, put_fault, same_side}
 use Rattle.dw_board.specs.FenTokens.{Token, is_sign, side_named, is_king_letter, number_named}
-use Rattle.dw_board.specs.FenGrammar.{Placing, IsRange, IsItem, IsItems, IsList, IsEnd, IsTail, named, all_named}
-use Rattle.dw_board.specs.FenGrammar.{Sets, Names, number, range, men, kings, single, more, bare, full, nothing, stop}
-use Rattle.dw_board.specs.FenGrammar.{ends, fields, one_list, two_lists}
+use Rattle.dw_board.specs.FenGrammar.{Placing, IsRange, IsItem, IsItems, IsList, IsEnd, IsTail, named, all_named, Sets}
+use Rattle.dw_board.specs.FenGrammar.{Names, number, range, men, kings, single, more, bare, full, nothing, stop, ends}
+use Rattle.dw_board.specs.FenGrammar.{fields, one_list, two_lists}
 use Rattle.dw_board.specs.Fen.{fault, ◌>>=◌, Listing, Item, Stage, Start, AfterTurn, AfterColon, AfterColour}
 use Rattle.dw_board.specs.Fen.{AfterComma, AfterKing, AfterNumber, AfterDash, AfterItem, AfterStop, AfterLists}
 use Rattle.dw_board.specs.Fen.{next_stage, at_end, read_from, with_item, item_ended, item_begun, list_begun, if_named}
@@ -220,8 +220,8 @@ ended g list t s ws p e f = elim (chosen (is_sign 44 t.text) _ _ _ e) [
   ]
 ]
 
-begun : (g : Geometry) (list : Listing) (t : Token) (s : Stage) (ws : List (List ℕ)) (p : Placement) → item_begun g list t
-    ≡ Ok s → Follows g s ws p → Items g list (t.text ∷ ws) p
+begun : (g : Geometry) (list : Listing) (t : Token) (s : Stage) (ws : List (List ℕ)) (p : Placement) → item_begun g list
+    t ≡ Ok s → Follows g s ws p → Items g list (t.text ∷ ws) p
 begun g list t s ws p e f = elim (chosen (is_king_letter t.text) _ _ _ e) [
   | inl king ↦ subst (λ x. Follows g x ws p) (same_ok _ _ _ refl king.1) f t.text king.0
   | inr man ↦
@@ -275,8 +275,8 @@ second_then g first second q d ws p colon other with = elim with.after [
   ]
 ]
 
-bare_list : (g : Geometry) (list : Listing) (w : List ℕ) (ws : List (List ℕ)) (p : Placement) → side_named w ≡ Some list.side
-    → After g list ws p → WithList g list (w ∷ ws) p
+bare_list : (g : Geometry) (list : Listing) (w : List ℕ) (ws : List (List ℕ)) (p : Placement) → side_named w ≡ Some
+    list.side → After g list ws p → WithList g list (w ∷ ws) p
 bare_list g list w ws p named after = record {
   vs = w ∷ [];
   tail = ws;
@@ -289,8 +289,8 @@ bare_list g list w ws p named after = record {
   after = after;
 }
 
-full_list : (g : Geometry) (list : Listing) (w : List ℕ) (ws : List (List ℕ)) (p : Placement) → side_named w ≡ Some list.side
-    → Items g list ws p → WithList g list (w ∷ ws) p
+full_list : (g : Geometry) (list : Listing) (w : List ℕ) (ws : List (List ℕ)) (p : Placement) → side_named w ≡ Some
+    list.side → Items g list ws p → WithList g list (w ∷ ws) p
 full_list g list w ws p named items = record {
   vs = w ∷ items.vs;
   tail = items.tail;
@@ -317,8 +317,8 @@ no_comma_here w c ws vs h k e =
       | inr stopped ↦ true-false (sym (eq-eqb 46 44 (two_signs w 46 44 stopped comma)))
     ]
 
-step : (g : Geometry) (stage : Stage) (t : Token) (s : Stage) (ws : List (List ℕ)) (p : Placement) → next_stage g stage t
-    ≡ Ok s → Follows g s ws p → Follows g stage (t.text ∷ ws) p
+step : (g : Geometry) (stage : Stage) (t : Token) (s : Stage) (ws : List (List ℕ)) (p : Placement) → next_stage g stage
+    t ≡ Ok s → Follows g s ws p → Follows g stage (t.text ∷ ws) p
 unfolding next_stage
 step g Start t s ws p e f =
     let h = named_ok (side_named t.text) Turn t.place (λ side. Ok (AfterTurn side)) s e in

@@ -9,10 +9,9 @@ use Rattle.std.proofs.lemmas.Fmt.{decimal_digit, decimal_step, length-decimal-le
 use Rattle.dw_board.specs.Geometry.{Geometry, IsBoard, OnBoard, squares}
 use Rattle.dw_board.specs.Placement.{Placement, IsPosition, empty, at, is_of, is_man}
 use Rattle.dw_board.specs.FenTokens.{Token, tokens_from, with_byte, onto_run, is_blank, is_digit, begins_with_digit}
-use Rattle.dw_board.specs.FenTokens.{side_named, number_named}
-use Rattle.dw_board.specs.FenTokens.{AreDigits}
-use Rattle.dw_board.specs.FenGrammar.{texts, Placing, IsItem, IsItems, IsList, named, all_named, Sets, Names}
-use Rattle.dw_board.specs.FenGrammar.{number, men, kings, single, more, bare, full, nothing, ends, two_lists}
+use Rattle.dw_board.specs.FenTokens.{side_named, number_named, AreDigits}
+use Rattle.dw_board.specs.FenGrammar.{texts, Placing, IsItem, IsItems, IsList, named, all_named, Sets, Names, number}
+use Rattle.dw_board.specs.FenGrammar.{men, kings, single, more, bare, full, nothing, ends, two_lists}
 use Rattle.dw_board.specs.FenText.{squares_held, king_mark, item_text, items_text, side_text, written}
 use Rattle.dw_board.specs.declared.piece.Side.{Side}
 use Rattle.dw_board.specs.declared.piece.Side.TheVariants.{White, Black}

@@ -1,7 +1,6 @@
 -- Three sets tell of the same as the sets of each side and kind.
 use Rattle.std.proofs.Common.{◌≡◌, ◌∙◌, ◌-◌, ℕ, Bool, true, false, ◌&&◌, ◌||◌, not, leb, List, Option, Some, None}
-use Rattle.std.proofs.Common.{get_or}
-use Rattle.std.proofs.Common.{refl, sym, subst}
+use Rattle.std.proofs.Common.{get_or, refl, sym, subst}
 use Rattle.std.specs.FinSet as set
 use Rattle.std.specs.Cmp.{nat_cmp_total}
 use Rattle.dw_board.specs.declared.piece.Side.{Side}

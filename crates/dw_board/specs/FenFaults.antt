@@ -1,11 +1,10 @@
 -- The earliest fault of a FEN text, by the grammar: what has to stand behind the tokens before it, and does not.
-use Rattle.std.specs.Prelude.{◌≡◌, ◌≢◌, ℕ, ◌+◌, ◌≤◌, ◌<◌, Bool, true, false, Option, Some, None, List, []}
-use Rattle.std.specs.Prelude.{◌∷◌, ◌++◌, length}
+use Rattle.std.specs.Prelude.{◌≡◌, ◌≢◌, ℕ, ◌+◌, ◌≤◌, ◌<◌, Bool, true, false, Option, Some, None, List, [], ◌∷◌, ◌++◌}
+use Rattle.std.specs.Prelude.{length}
 use Rattle.dw_board.specs.Geometry.{Geometry}
 use Rattle.dw_board.specs.Placement.{Placement, empty, put_fault}
 use Rattle.dw_board.specs.FenTokens.{Token, tokens_from, colon, comma, dash, full_stop, is_sign, side_named}
-use Rattle.dw_board.specs.FenTokens.{is_king_letter, number_named}
-use Rattle.dw_board.specs.FenTokens.{first_is, first_named, is_empty, no_item, place_of}
+use Rattle.dw_board.specs.FenTokens.{is_king_letter, number_named, first_is, first_named, is_empty, no_item, place_of}
 use Rattle.dw_board.specs.FenGrammar.{texts, Placing, IsRange, IsList, named, all_named, Sets}
 use Rattle.dw_board.specs.declared.piece.Side.{Side}
 use Rattle.dw_board.specs.declared.piece.Piece.{Piece}

@@ -3,8 +3,7 @@ use Rattle.std.proofs.Common.{◌≡◌, ℕ, suc, zero, ◌+◌, ◌/◌, ◌%�
 use Rattle.std.proofs.Common.{None, is_some, bit_or}
 use Rattle.std.specs.Int.{bit_at}
 use Rattle.std.specs.FinSet as set
-use Rattle.dw_board.specs.Geometry.{Geometry, IsBoard, squares, OnBoard, bit, square_of}
-use Rattle.dw_board.specs.Geometry.{Squares}
+use Rattle.dw_board.specs.Geometry.{Geometry, IsBoard, squares, OnBoard, bit, square_of, Squares}
 
 -- whether a bit of a word is set
 abbrev pub is_set : ℕ → ℕ → Bool

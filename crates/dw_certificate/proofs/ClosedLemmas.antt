@@ -1,7 +1,7 @@
 -- Rows that all follow are a certificate.
 use Rattle.std.proofs.Common.{◌≡◌, ℕ, zero, suc, ◌+◌, ◌-◌, ◌≤◌, ◌<◌, ◌⊎◌, Bool, true, false, List, [], ◌∷◌, ◌++◌}
-use Rattle.std.proofs.Common.{length, map, take}
-use Rattle.std.proofs.Common.{slice_get, Some, None, refl, sym, ap, ◌∙◌, subst, inl, inr, add-one, arith, IsTrue}
+use Rattle.std.proofs.Common.{length, map, take, slice_get, Some, None, refl, sym, ap, ◌∙◌, subst, inl, inr, add-one}
+use Rattle.std.proofs.Common.{arith, IsTrue}
 use Rattle.std.specs.Prelude.{◌↔◌}
 use Rattle.std.proofs.lemmas.Bool.{cases_Bool}
 use Rattle.std.proofs.lemmas.List.{map-append, take_all}
@@ -34,7 +34,8 @@ first_new : (p : Placement) (n : ℕ) (old new : List Row) → old ≡ [] → (g
     → (r : Row) → Member r new → Member r grown.more
 first_new p n old new none grown r m = subst (λ z. Member r (z ++ grown.more)) none (subst (Member r) grown.is m)
 
-pub rows_first : (p : Placement) (n : ℕ) (old new : List Row) → old ≡ [] → IsGrown (λ q. q ≡ p) n old new → AreRows n new
+pub rows_first : (p : Placement) (n : ℕ) (old new : List Row) → old ≡ [] → IsGrown (λ q. q ≡ p) n old new → AreRows n
+    new
 rows_first p n old new none grown = record {
   once = grown.once (subst (λ z. NoRepeat (positions_of z)) (sym none) tt);
   some = λ r m. grown.some r (first_new p n old new none grown r m);
@@ -108,7 +109,18 @@ module _ (g : Geometry) (p : Placement) (win : Bool) (old new : List Row) (count
     | inr h ↦
         let to = here.grown.positions r h in
         let few = here.grown.few r h in
-        inr (taken, to.0, laws.mem_right taken before.all (taken ∷ []) (inl refl), to.1, to.2, omega (arith, few, whole))
+        inr (
+          taken,
+          to.0,
+          laws.mem_right taken before.all (taken ∷ []) (inl refl),
+          to.1,
+          to.2,
+          omega (
+            arith,
+            few,
+            whole,
+          ),
+        )
   ]
 
   pub followed_more : AreFollowed g p win new (count + 1)

@@ -68,8 +68,10 @@ not_empty (suc n) e = omega arith
 -- ---- children in turn
 -- a step that has a parent and a move is known by both
 pub same_step : (steps : List BranchStep) (p q : Option ℕ) (m n : Move) (k : ℕ)
-    → slice_get steps k ≡ Some (record { parent = p; mv = m }) → slice_get steps k ≡ Some (record { parent = q; mv = n })
-    → (p ≡ q) × (m ≡ n)
+    → slice_get steps k ≡ Some (record { parent = p; mv = m }) → slice_get steps k ≡ Some (record {
+      parent = q;
+      mv = n;
+    }) → (p ≡ q) × (m ≡ n)
 same_step steps p q m n k a b =
     let e : record { parent = p; mv = m } ≡ record { parent = q; mv = n } = same _ _ (sym a ∙ b) in
     (ap (λ s. s.parent) e, ap (λ s. s.mv) e)
@@ -84,12 +86,13 @@ unseen_next steps p m other from n unseen first here ne = λ k low e. elim (case
     | inl between ↦ first.2 k after between (m, e)
     | inr last ↦
         let is : k ≡ n = omega arith in
-        ne ((same_step steps p p other m n here (subst (λ x. slice_get steps x ≡ Some (record { parent = p; mv = m })) is e)).1)
+        ne ((same_step steps p p other m n here (subst (λ x. slice_get steps x ≡ Some (record { parent = p; mv = m }))
+        is e)).1)
   ]
 ]
 
-last_of : (steps : List BranchStep) (p last : Option ℕ) → IsChildOrNone steps p last → IsFirstChild steps p (behind last) None
-    → IsLastChild steps p last
+last_of : (steps : List BranchStep) (p last : Option ℕ) → IsChildOrNone steps p last → IsFirstChild steps p (behind
+    last) None → IsLastChild steps p last
 last_of steps p None is none = none
 last_of steps p (Some n) is none = (is, none)
 
@@ -115,8 +118,8 @@ found_by steps p m n child by =
     subst (λ x. slice_get steps n ≡ Some (record { parent = p; mv = x })) is child.1
 
 -- what holds after the next child, if it is not
-pub goes_on : (P : Type 0) (steps : List BranchStep) (p : Option ℕ) (m : Move) (from n : ℕ) (next : Option ℕ) → IsUnseen steps p m from
-    → IsFirstChild steps p from (Some n)
+pub goes_on : (P : Type 0) (steps : List BranchStep) (p : Option ℕ) (m : Move) (from n : ℕ) (next : Option ℕ) → IsUnseen
+    steps p m from → IsFirstChild steps p from (Some n)
     → ((parent : Option ℕ) (other : Move) → slice_get steps n ≡ Some (record { parent = parent; mv = other })
     → (false ≡ true) ↔ (other ≡ m))
     → MatchOption (slice_get steps n) P (λ s. IsFirstChild steps s.parent (n + 1) next)

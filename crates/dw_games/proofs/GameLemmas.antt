@@ -1,8 +1,8 @@
 -- Lemmas on the games of a text.
-use Rattle.std.proofs.Common.{◌≡◌, ◌==◌, ◌||◌, ◌&&◌, ◌+◌, ◌<◌, ◌≤◌, ℕ, List, [], ◌∷◌, ◌++◌, drop, true}
-use Rattle.std.proofs.Common.{false, refl, sym, ap, ◌∙◌, subst, arith}
-use Rattle.std.proofs.Common.{inl, inr}
-use Rattle.std.proofs.lemmas.Bool.{and_parts, eqb-true, cases_Bool, cond-true, cond-false, lt-ltb, le-ltb, ne_eqb, cases_lt}
+use Rattle.std.proofs.Common.{◌≡◌, ◌==◌, ◌||◌, ◌&&◌, ◌+◌, ◌<◌, ◌≤◌, ℕ, List, [], ◌∷◌, ◌++◌, drop, true, false, refl}
+use Rattle.std.proofs.Common.{sym, ap, ◌∙◌, subst, arith, inl, inr}
+use Rattle.std.proofs.lemmas.Bool.{and_parts, eqb-true, cases_Bool, cond-true, cond-false, lt-ltb, le-ltb, ne_eqb}
+use Rattle.std.proofs.lemmas.Bool.{cases_lt}
 use Rattle.dw_board.specs.Geometry.{Geometry}
 use Rattle.dw_notation.specs.TextLines.{Found, without_mark}
 use Rattle.dw_notation.specs.WholeTexts.{SectionsSay}
@@ -10,7 +10,8 @@ use Rattle.dw_notation.specs.TagLaws.{TextsOfTagsSay}
 use Rattle.dw_notation.specs.WholeTexts.SectionsSay.{nothing, other, comment, last_comment, section, last_section}
 use Rattle.dw_games.specs.Games.{Said, said_with, HasGames, games_from}
 use Rattle.dw_games.specs.Games.HasGames.{nothing as no_games, other as no_section, comment as no_comment}
-use Rattle.dw_games.specs.Games.HasGames.{last_comment as open_comment, section as with_section, last_section as with_last}
+use Rattle.dw_games.specs.Games.HasGames.{last_comment as open_comment, section as with_section}
+use Rattle.dw_games.specs.Games.HasGames.{last_section as with_last}
 use Rattle.dw_games.specs.inner.GameReaders.{counted_found}
 use Rattle.dw_games.specs.inner.Playing.{unclosed}
 use Rattle.dw_games.proofs.SectionLemmas.{first, IsSection-begins}
@@ -34,8 +35,8 @@ pub games_some : TextsOfTagsSay → (g : Geometry) (text : List ℕ)
 games_some law g text = from_says g (law.some g true text).1
 
 -- ---- a text that begins with a section has no front
-pub bracket_front : (g : Geometry) (rest : List ℕ) {text front : List ℕ} {games : List Said} → HasGames g text front games
-    → text ≡ 91 ∷ rest → HasGames g text [] games
+pub bracket_front : (g : Geometry) (rest : List ℕ) {text front : List ℕ} {games : List Said} → HasGames g text front
+    games → text ≡ 91 ∷ rest → HasGames g text [] games
 bracket_front g rest no_games e = no_games
 bracket_front g rest (no_section byte neither has) e =
     let bracket : byte ≡ 91 = ap first e in let bad : true ≡ false = rw bracket at neither in absurd (no_true bad) where

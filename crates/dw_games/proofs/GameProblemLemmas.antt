@@ -1,6 +1,5 @@
 -- What the games of a text say are its problems.
-use Rattle.std.proofs.Common.{◌≡◌, ◌==◌, ◌+◌, ℕ, List, [], ◌∷◌, true, map, nat_lt, refl, ap, ◌∙◌}
-use Rattle.std.proofs.Common.{inl, inr}
+use Rattle.std.proofs.Common.{◌≡◌, ◌==◌, ◌+◌, ℕ, List, [], ◌∷◌, true, map, nat_lt, refl, ap, ◌∙◌, inl, inr}
 use Rattle.std.proofs.lemmas.Bool.{cases_Bool}
 use Rattle.dw_board.specs.Geometry.{Geometry}
 use Rattle.dw_notation.specs.TextLines.{Found}
@@ -9,7 +8,8 @@ use Rattle.dw_notation.specs.WholeTexts.{SectionsSay}
 use Rattle.dw_notation.specs.WholeTexts.SectionsSay.{nothing, other, comment, last_comment, section, last_section}
 use Rattle.dw_games.specs.Games.{Said, HasGames, games_from, problem_of}
 use Rattle.dw_games.specs.Games.HasGames.{nothing as no_games, other as no_section, comment as no_comment}
-use Rattle.dw_games.specs.Games.HasGames.{last_comment as open_comment, section as with_section, last_section as with_last}
+use Rattle.dw_games.specs.Games.HasGames.{last_comment as open_comment, section as with_section}
+use Rattle.dw_games.specs.Games.HasGames.{last_section as with_last}
 use Rattle.dw_games.specs.GameLaws.{GamesSayProblems}
 
 abbrev found_in : List Said → List Found

@@ -1,7 +1,6 @@
 -- Lemmas on handing out games.
-use Rattle.std.proofs.Common.{◌≡◌, ◌+◌, ◌<◌, ◌≤◌, nat_lt, cond, MatchBool, ℕ, List, [], ◌∷◌, ◌++◌, take, drop, Bool, true, false, Option}
-use Rattle.std.proofs.Common.{Some, None, Result, Ok, Err, refl, sym, ap, ◌∙◌, subst}
-use Rattle.std.proofs.Common.{append_assoc}
+use Rattle.std.proofs.Common.{◌≡◌, ◌+◌, ◌<◌, ◌≤◌, nat_lt, cond, MatchBool, ℕ, List, [], ◌∷◌, ◌++◌, take, drop, Bool}
+use Rattle.std.proofs.Common.{true, false, Option, Some, None, Result, Ok, Err, refl, sym, ap, ◌∙◌, subst, append_assoc}
 use Rattle.std.proofs.lemmas.Bool.{lt-ltb, le-ltb, ltb-true}
 use Rattle.std.proofs.KnownBytes.{Consumes-nil}
 use Rattle.std.specs.Io.KnownBytes.{Consumes}
@@ -96,8 +95,8 @@ none_said (Err fault) = refl
 pub open_numbers : {B : Type 0} (handed : ℕ) (game : Game B) → handed ≤ 1000000 → game.problem.number ≡ handed + 1
     → game.problem.found ≡ counted_found handed (Err UnclosedComment) → game.tags.items ≡ [] → game.movetext.items ≡ []
     → numbered_game game ∷ [] ≡ games_from handed (unclosed ∷ [])
-open_numbers handed game room number says tags movetext = numbers_on handed (handed + 1) (Err UnclosedComment) [] [] game []
-    [] room refl refl number says (none_said game.problem.found ∙ rw (tags, movetext) refl)
+open_numbers handed game room number says tags movetext = numbers_on handed (handed + 1) (Err UnclosedComment) [] []
+    game [] [] room refl refl number says (none_said game.problem.found ∙ rw (tags, movetext) refl)
 
 -- ---- what is kept of a movetext
 take-none : (text : List ℕ) → take 0 text ≡ []
@@ -110,8 +109,8 @@ kept_on : (found : Found) (text passed : List ℕ) (old new : BoundedBuf)
 kept_on (Ok p) text passed old new push is = push _ text is
 kept_on (Err fault) text passed old new push is = push _ text is
 
-told_kept : (found : Found) (text items : List ℕ) (kept : BoundedBuf) → IsKeptFor found text kept → items ≡ kept.bytes.items
-    → told found text ≡ items
+told_kept : (found : Found) (text items : List ℕ) (kept : BoundedBuf) → IsKeptFor found text kept → items ≡
+    kept.bytes.items → told found text ≡ items
 told_kept (Ok p) text items kept is same = sym is.bytes ∙ sym same
 told_kept (Err fault) text items kept is same = sym (take-none text) ∙ sym is.bytes ∙ sym same
 
@@ -159,8 +158,8 @@ module _ {B S : Type 0} (g : Geometry) (coming : S → Option (List ℕ)) (has_e
   Reads = ReadsGame g coming has_ended is_failed pulls
 
   pub ReadsGame-fault : (old new : Games B S) (passed : List ℕ) (fault : GameFault)
-      → Passes coming has_ended is_failed pulls (input_in old) (input_in new) passed (is_failure {A = Option (Game B)} (Err fault))
-      → Reads old new (Err fault)
+      → Passes coming has_ended is_failed pulls (input_in old) (input_in new) passed (is_failure {A = Option (Game B)}
+      (Err fault)) → Reads old new (Err fault)
   ReadsGame-fault old new passed fault passes = record { passed = passed; passes = passes; gives = tt }
 
   -- a section is read, and what stands behind it
@@ -178,8 +177,8 @@ module _ {B S : Type 0} (g : Geometry) (coming : S → Option (List ℕ)) (has_e
       → Reads old new (Ok (Some game))
   ReadsGame-section law old new between begun row spaces read kept movetext found end game section play
       empty told none keep same stage room count number says =
-      let passes = Passes-trans coming has_ended is_failed pulls (input_in old) between (input_in new) section.passed play.passed
-      false section.passes play.passes in
+      let passes = Passes-trans coming has_ended is_failed pulls (input_in old) between (input_in new) section.passed
+      play.passed false section.passes play.passes in
       let text = spaces_on [] section.passed ++ play.passed in
       let is_kept = kept_on game.problem.found (spaces_on [] section.passed) play.passed kept movetext play.kept
       (keep (spaces_on [] section.passed) (section.kept 1048577 none)) in
@@ -193,22 +192,25 @@ module _ {B S : Type 0} (g : Geometry) (coming : S → Option (List ℕ)) (has_e
         gives = (
           λ bytes games ahead.
               let stands = subst (λ s. Stands g s ((input_in new).unread ++ bytes) ahead.said) stage ahead.stands in
-              let behind = play.said g bytes ahead.said (follows_of g (input_in new) end bytes ahead.said play.ends ahead.over stands) in
+              let behind = play.said g bytes ahead.said (follows_of g (input_in new) end bytes ahead.said play.ends
+              ahead.over stands) in
               let all = section.said (play.passes.read ++ bytes) play.passed ahead.said
-              (over_on coming has_ended is_failed pulls between (input_in new) play.passed bytes false play.passes ahead.over)
-              (subst (λ l. HasGames g l play.passed ahead.said)
-              (sym (text_on coming has_ended is_failed pulls between (input_in new) play.passed bytes false play.passes)) behind) in
+              (over_on coming has_ended is_failed pulls between (input_in new) play.passed bytes false play.passes
+              ahead.over) (subst (λ l. HasGames g l play.passed ahead.said)
+              (sym (text_on coming has_ended is_failed pulls between (input_in new) play.passed bytes false
+              play.passes)) behind) in
               record {
                 said = said_with found (row_of section.passed) text ∷ ahead.said;
-                over = over_on coming has_ended is_failed pulls (input_in old) (input_in new) (section.passed ++ play.passed) bytes false passes ahead.over;
+                over = over_on coming has_ended is_failed pulls (input_in old) (input_in new) (section.passed ++
+                    play.passed) bytes false passes ahead.over;
                 stands = (
                   [],
                   subst (λ l. HasGames g l [] (said_with found (row_of section.passed) text ∷ ahead.said))
-                      (sym (both_on coming has_ended is_failed pulls (input_in old) between (input_in new) section.passed play.passed
-                      bytes false passes play.passes)) all,
+                      (sym (both_on coming has_ended is_failed pulls (input_in old) between (input_in new)
+                      section.passed play.passed bytes false passes play.passes)) all,
                 );
-                numbers = numbers_on (handed_out old.numbers) (handed_out new.numbers) found (row_of section.passed) text game
-                    games ahead.said room ahead.numbers count number says x;
+                numbers = numbers_on (handed_out old.numbers) (handed_out new.numbers) found (row_of section.passed)
+                    text game games ahead.said room ahead.numbers count number says x;
               },
           λ bytes over. ahead_some law g (input_in new) new.stage (handed_out new.numbers) bytes over,
         );
@@ -219,8 +221,8 @@ module _ {B S : Type 0} (g : Geometry) (coming : S → Option (List ℕ)) (has_e
       → (play : ReadsPlay coming has_ended is_failed pulls (input_in old) (input_in mid) before after (Ok Section))
       → mid.numbers ≡ old.numbers → (read rest : List ℕ) (games : List NumberedGame)
       → (input_in old).unread ++ rest ≡ play.passed ++ ((input_in mid).unread ++ read)
-      → ((input_in old).met_end ≡ true → rest ≡ []) → IsAhead g (input_in mid) Reading (handed_out mid.numbers) read games
-      → IsAhead g (input_in old) Reading (handed_out old.numbers) rest games
+      → ((input_in old).met_end ≡ true → rest ≡ []) → IsAhead g (input_in mid) Reading (handed_out mid.numbers) read
+      games → IsAhead g (input_in old) Reading (handed_out old.numbers) rest games
   front_on old mid before after play handed read rest games text over ahead = record {
     said = ahead.said;
     over = over;
@@ -233,48 +235,50 @@ module _ {B S : Type 0} (g : Geometry) (coming : S → Option (List ℕ)) (has_e
     numbers = ahead.numbers ∙ ap (λ c. games_from (handed_out c) ahead.said) handed;
   }
 
-  pub ReadsGame-front : (old mid new : Games B S) (before after : BoundedBuf) (result : Result (Option (Game B)) GameFault)
-      → ReadsPlay coming has_ended is_failed pulls (input_in old) (input_in mid) before after (Ok Section)
+  pub ReadsGame-front : (old mid new : Games B S) (before after : BoundedBuf) (result : Result (Option (Game B))
+      GameFault) → ReadsPlay coming has_ended is_failed pulls (input_in old) (input_in mid) before after (Ok Section)
       → mid.numbers ≡ old.numbers → Reads mid new result → Reads old new result
   ReadsGame-front old mid new before after (Err fault) play handed game = ReadsGame-fault old new
       (play.passed ++ game.passed) fault
-      (Passes-trans coming has_ended is_failed pulls (input_in old) (input_in mid) (input_in new) play.passed game.passed _ play.passes
-      game.passes)
+      (Passes-trans coming has_ended is_failed pulls (input_in old) (input_in mid) (input_in new) play.passed
+      game.passed _ play.passes game.passes)
   ReadsGame-front old mid new before after (Ok None) play handed game =
-      let passes = Passes-trans coming has_ended is_failed pulls (input_in old) (input_in mid) (input_in new) play.passed game.passed
-      false play.passes game.passes in
+      let passes = Passes-trans coming has_ended is_failed pulls (input_in old) (input_in mid) (input_in new)
+      play.passed game.passed false play.passes game.passes in
       record {
         passed = play.passed ++ game.passed;
         passes = passes;
         gives = (
           game.gives.0,
           λ bytes over. front_on old mid before after play handed (game.passes.read ++ bytes) (passes.read ++ bytes) []
-              (both_on coming has_ended is_failed pulls (input_in old) (input_in mid) (input_in new) play.passed game.passed bytes false passes game.passes)
-              (over_on coming has_ended is_failed pulls (input_in old) (input_in new) (play.passed ++ game.passed) bytes false passes
-              over)
+              (both_on coming has_ended is_failed pulls (input_in old) (input_in mid) (input_in new) play.passed
+              game.passed bytes false passes game.passes)
+              (over_on coming has_ended is_failed pulls (input_in old) (input_in new) (play.passed ++ game.passed) bytes
+              false passes over)
               (game.gives.1 bytes over),
         );
       }
   ReadsGame-front old mid new before after (Ok (Some one)) play handed game =
-      let passes = Passes-trans coming has_ended is_failed pulls (input_in old) (input_in mid) (input_in new) play.passed game.passed
-      false play.passes game.passes in
+      let passes = Passes-trans coming has_ended is_failed pulls (input_in old) (input_in mid) (input_in new)
+      play.passed game.passed false play.passes game.passes in
       record {
         passed = play.passed ++ game.passed;
         passes = passes;
         gives = (
           λ bytes games ahead. front_on old mid before after play handed (game.passes.read ++ bytes)
               (passes.read ++ bytes) (numbered_game one ∷ games)
-              (both_on coming has_ended is_failed pulls (input_in old) (input_in mid) (input_in new) play.passed game.passed bytes false passes game.passes)
-              (over_on coming has_ended is_failed pulls (input_in old) (input_in new) (play.passed ++ game.passed) bytes false passes
-              ahead.over)
+              (both_on coming has_ended is_failed pulls (input_in old) (input_in mid) (input_in new) play.passed
+              game.passed bytes false passes game.passes)
+              (over_on coming has_ended is_failed pulls (input_in old) (input_in new) (play.passed ++ game.passed) bytes
+              false passes ahead.over)
               (game.gives.0 bytes games ahead),
           game.gives.1,
         );
       }
 
   -- no section comes, but a comment is left open
-  pub ReadsGame-open : TextsOfTagsSay → (old new : Games B S) (mid : Input S) (before after : BoundedBuf) (game : Game B)
-      → ReadsPlay coming has_ended is_failed pulls (input_in old) mid before after (Ok LeftOpen)
+  pub ReadsGame-open : TextsOfTagsSay → (old new : Games B S) (mid : Input S) (before after : BoundedBuf) (game : Game
+      B) → ReadsPlay coming has_ended is_failed pulls (input_in old) mid before after (Ok LeftOpen)
       → (input_in new) ≡ mid → (new.stage ≡ Over)
       → numbered_game game ∷ [] ≡ games_from (handed_out old.numbers) (unclosed ∷ []) → Reads old new (Ok (Some game))
   ReadsGame-open law old new mid before after game play input stage given =
@@ -291,17 +295,17 @@ module _ {B S : Type 0} (g : Geometry) (coming : S → Option (List ℕ)) (has_e
               let text = none_left mid.unread bytes play.ends.0 (over play.ends.1) in
               record {
                 said = unclosed ∷ [];
-                over = over_on coming has_ended is_failed pulls (input_in old) (input_in new) play.passed bytes false passes
-                    ahead.over;
+                over = over_on coming has_ended is_failed pulls (input_in old) (input_in new) play.passed bytes false
+                    passes ahead.over;
                 stands = (
                   play.passed,
                   subst (λ l. HasGames g l play.passed (unclosed ∷ []))
-                      (sym (text_on coming has_ended is_failed pulls (input_in old) (input_in new) play.passed bytes false passes
-                      ∙ ap (λ i. play.passed ++ (i.unread ++ bytes)) input))
+                      (sym (text_on coming has_ended is_failed pulls (input_in old) (input_in new) play.passed bytes
+                      false passes ∙ ap (λ i. play.passed ++ (i.unread ++ bytes)) input))
                       (play.said g bytes (unclosed ∷ []) (text, refl)),
                 );
-                numbers = ap (λ l. numbered_game game ∷ l) (ahead.numbers ∙ ap (games_from (handed_out new.numbers)) none)
-                    ∙ given;
+                numbers = ap (λ l. numbered_game game ∷ l) (ahead.numbers ∙ ap (games_from (handed_out new.numbers))
+                    none) ∙ given;
               },
           λ bytes over. ahead_some law g (input_in new) new.stage (handed_out new.numbers) bytes over,
         );
@@ -309,8 +313,8 @@ module _ {B S : Type 0} (g : Geometry) (coming : S → Option (List ℕ)) (has_e
 
   -- the text ends
   pub ReadsGame-end : (old new : Games B S) (before after : BoundedBuf)
-      → ReadsPlay coming has_ended is_failed pulls (input_in old) (input_in new) before after (Ok Text) → (new.stage ≡ Over)
-      → Reads old new (Ok None)
+      → ReadsPlay coming has_ended is_failed pulls (input_in old) (input_in new) before after (Ok Text) → (new.stage ≡
+      Over) → Reads old new (Ok None)
   ReadsGame-end old new before after play stage = record {
     passed = play.passed;
     passes = play.passes;
@@ -318,11 +322,13 @@ module _ {B S : Type 0} (g : Geometry) (coming : S → Option (List ℕ)) (has_e
       stage,
       λ bytes over. record {
         said = [];
-        over = over_on coming has_ended is_failed pulls (input_in old) (input_in new) play.passed bytes false play.passes over;
+        over = over_on coming has_ended is_failed pulls (input_in old) (input_in new) play.passed bytes false
+            play.passes over;
         stands = (
           play.passed,
           subst (λ l. HasGames g l play.passed [])
-              (sym (text_on coming has_ended is_failed pulls (input_in old) (input_in new) play.passed bytes false play.passes))
+              (sym (text_on coming has_ended is_failed pulls (input_in old) (input_in new) play.passed bytes false
+              play.passes))
               (play.said g bytes [] (none_left ((input_in new).unread) bytes play.ends.0 (over play.ends.1), refl)),
         );
         numbers = refl;
@@ -356,13 +362,14 @@ open_given g coming old new game here input stage given = record {
       (Consumes-nil (coming (input_in old).source));
   gives = (
     λ bytes games ahead.
-        let none : ahead.said ≡ [] = subst (λ s. Stands g s ((input_in new).unread ++ bytes) ahead.said) stage ahead.stands
-        in
+        let none : ahead.said ≡ [] = subst (λ s. Stands g s ((input_in new).unread ++ bytes) ahead.said) stage
+        ahead.stands in
         record {
           said = unclosed ∷ [];
           over = over_same (input_in new) (input_in old) bytes input ahead.over;
           stands = subst (λ s. Stands g s ((input_in old).unread ++ bytes) (unclosed ∷ [])) (sym here) refl;
-          numbers = ap (λ l. numbered_game game ∷ l) (ahead.numbers ∙ ap (games_from (handed_out new.numbers)) none) ∙ given;
+          numbers = ap (λ l. numbered_game game ∷ l) (ahead.numbers ∙ ap (games_from (handed_out new.numbers)) none) ∙
+              given;
         },
     λ bytes over. (
       [],
@@ -404,7 +411,8 @@ over_given law g coming games over = record {
           said = s.0;
           over = may;
           stands = s.1;
-          numbers = sym (over_games games.stage (handed_out games.numbers) s.0 ((input_in games).unread ++ bytes) g over s.1);
+          numbers = sym (over_games games.stage (handed_out games.numbers) s.0 ((input_in games).unread ++ bytes) g over
+              s.1);
         },
   );
 }

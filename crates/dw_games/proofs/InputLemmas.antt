@@ -1,7 +1,7 @@
 -- Lemmas on the bytes of an input that are passed, and on what is kept of them.
-use Rattle.std.proofs.Common.{◌≡◌, ℕ, ◌+◌, ◌-◌, ◌||◌, inl, inr, min, List, [], ◌∷◌, ◌++◌, length, take, drop, Bool, true}
-use Rattle.std.proofs.Common.{false, Option, Some, None, IfSome, IfNone, is_some, unwrap_or, Result, Ok, Err, OnOk}
-use Rattle.std.proofs.Common.{is_ok, cond, refl, sym, ap, ◌∙◌, subst, arith, append_assoc, append-nil}
+use Rattle.std.proofs.Common.{◌≡◌, ℕ, ◌+◌, ◌-◌, ◌||◌, inl, inr, min, List, [], ◌∷◌, ◌++◌, length, take, drop, Bool}
+use Rattle.std.proofs.Common.{true, false, Option, Some, None, IfSome, IfNone, is_some, unwrap_or, Result, Ok, Err}
+use Rattle.std.proofs.Common.{OnOk, is_ok, cond, refl, sym, ap, ◌∙◌, subst, arith, append_assoc, append-nil}
 use Rattle.std.proofs.Common.{length-append}
 use Rattle.std.proofs.Math.Seq.{take-append-add}
 use Rattle.std.proofs.lemmas.Bool.{cases_lt}

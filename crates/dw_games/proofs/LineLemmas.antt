@@ -12,8 +12,8 @@ use Rattle.dw_games.specs.Tokens.{Token, AreTokens}
 use Rattle.dw_games.specs.Play.{IsResult, AreComments, IsVariation, empty, passed, move, variation}
 use Rattle.dw_games.specs.Movetext.{AreDistinct, nothing, again, first}
 use Rattle.dw_games.specs.Faults.{cut_off, behind_result}
-use Rattle.dw_games.specs.Lines.{IsStraight, IsPlainGame, going_on, ended, IsWrittenLine, line_fault_of}
-use Rattle.dw_games.specs.Lines.{other, IsFirstLineFault, at_token, no_move, even, IsLineRefusal}
+use Rattle.dw_games.specs.Lines.{IsStraight, IsPlainGame, going_on, ended, IsWrittenLine, line_fault_of, other}
+use Rattle.dw_games.specs.Lines.{IsFirstLineFault, at_token, no_move, even, IsLineRefusal}
 use Rattle.dw_games.specs.inner.Ahead.{AreAhead}
 use Rattle.dw_games.specs.inner.Reading.{Opened, outermost, inner, IsFaultOf, ReadOn, IsOdd}
 use Rattle.dw_games.specs.inner.LineReading.{NoneOpens, beginnings_after, HasReadLine, LineHasEnded, IsNoOddNumber}
@@ -234,8 +234,8 @@ module _ (g : Geometry) (p : Placement) (text : List ℕ) (size : length text �
   line_with_result items r now ts cs t h is on comments ahead answer odd =
       let tokens : AreAhead start (ts ++ t ∷ cs) [] =
       subst (λ x. AreAhead start x []) (append_assoc ts (t ∷ []) cs) (on cs [] ahead) in
-      odd_answer items (ts ++ t ∷ cs) (moves_read g p ts r h) tokens (ended cs (is_straight g p ts r h) is comments) answer
-      odd
+      odd_answer items (ts ++ t ∷ cs) (moves_read g p ts r h) tokens (ended cs (is_straight g p ts r h) is comments)
+      answer odd
 
   pub line_without_result : {A B : Type 0} (items : A → List Move) (r : Reader B) (ts : List Token)
       → (h : HasReadLine g p ts r) → AreAhead start ts [] → (answer : Result A LineFault)

@@ -6,8 +6,8 @@ use Rattle.std.specs.List.{slice_get}
 use Rattle.std.proofs.lemmas.Option.{slice_get_within}
 use Rattle.std.proofs.lemmas.Bool.{cases_lt}
 use Rattle.dw_moves.specs.Moves.{Move}
-use Rattle.dw_games.specs.inner.Branches.{BranchStep, IsChild, IsFirstChild, IsLastChild, IsPlace, AreLinked, first_linked}
-use Rattle.dw_games.specs.inner.Branches.{next_linked}
+use Rattle.dw_games.specs.inner.Branches.{BranchStep, IsChild, IsFirstChild, IsLastChild, IsPlace, AreLinked}
+use Rattle.dw_games.specs.inner.Branches.{first_linked, next_linked}
 use Rattle.dw_games.proofs.PlaceLemmas.{absent, same, got_new, got_old, got_last, got_set}
 
 abbrev step : Option ℕ → Move → BranchStep
@@ -60,8 +60,8 @@ first_new steps p mv from h low = (
 )
 
 -- a link that was right stays right, if it is one to a node, or the new node is no child
-link_stays : (steps : List BranchStep) (p q : Option ℕ) (mv : Move) (from : ℕ) (r : Option ℕ) → IsFirstChild steps q from r
-    → (IsFirstChild steps q from None → p ≡ q → ⊥) → IsFirstChild (with_step steps p mv) q from r
+link_stays : (steps : List BranchStep) (p q : Option ℕ) (mv : Move) (from : ℕ) (r : Option ℕ) → IsFirstChild steps q
+    from r → (IsFirstChild steps q from None → p ≡ q → ⊥) → IsFirstChild (with_step steps p mv) q from r
 link_stays steps p q mv from (Some n) h ne = first_stays steps p q mv from n h
 link_stays steps p q mv from None h ne = none_stays steps p q mv from h (ne h)
 
@@ -103,8 +103,8 @@ children_of steps firsts nexts linked p mv place ne k r e = elim (got_new firsts
 ]
 
 -- at any place but the parent's
-elsewhere : (steps : List BranchStep) (firsts nexts : List (Option ℕ)) → AreLinked steps firsts nexts → (q : ℕ) (mv : Move)
-    → IsPlace steps (Some q) → (k : ℕ) (r : Option ℕ) → (k ≡ q → ⊥) → slice_get (firsts ++ None ∷ []) k ≡ Some r
+elsewhere : (steps : List BranchStep) (firsts nexts : List (Option ℕ)) → AreLinked steps firsts nexts → (q : ℕ) (mv :
+    Move) → IsPlace steps (Some q) → (k : ℕ) (r : Option ℕ) → (k ≡ q → ⊥) → slice_get (firsts ++ None ∷ []) k ≡ Some r
     → IsFirstChild (with_step steps (Some q) mv) (Some k) 0 r
 elsewhere steps firsts nexts linked q mv place k r ne e = elim (got_new firsts None r k e) [
   | inl old ↦ link_stays steps (Some q) (Some k) mv 0 r (linked.children k r old)
@@ -200,7 +200,8 @@ siblings_new steps firsts nexts linked p (Some l) mv is k r q m e there =
 -- ---- all
 once_new : (steps : List BranchStep) (s : BranchStep) → ((j k : ℕ) (t : BranchStep) → slice_get steps j ≡ Some t
     → slice_get steps k ≡ Some t → j ≡ k) → ((k : ℕ) → slice_get steps k ≡ Some s → ⊥)
-    → (j k : ℕ) (t : BranchStep) → slice_get (steps ++ s ∷ []) j ≡ Some t → slice_get (steps ++ s ∷ []) k ≡ Some t → j ≡ k
+    → (j k : ℕ) (t : BranchStep) → slice_get (steps ++ s ∷ []) j ≡ Some t → slice_get (steps ++ s ∷ []) k ≡ Some t → j ≡
+    k
 once_new steps s once unseen j k t a b = elim (got_new steps s t j a) [
   | inl old ↦ elim (got_new steps s t k b) [
     | inl known ↦ once j k t old known

@@ -34,4 +34,10 @@ names_short g text named (by_crosses {squares = squares} h low high) =
 
 pub names_nothing : (g : Geometry) (text : List ℕ) (named : Named) → 62 < length text → Names g (crossed text) named → ⊥
 names_nothing g text named long h =
-    let n = names_short g (crossed text) named h in omega (arith, n, long, length-map text (λ byte. if byte == colon then cross else byte))
+    let n = names_short g (crossed text) named h in omega (
+      arith,
+      n,
+      long,
+      length-map text (λ byte. if byte == colon
+          then cross else byte),
+    )

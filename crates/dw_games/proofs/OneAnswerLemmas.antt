@@ -1,6 +1,6 @@
 -- A text has at most one tree and at most one first fault, and never both.
-use Rattle.std.proofs.Common.{◌≡◌, ◌⊎◌, ℕ, zero, suc, ◌+◌, ◌<◌, true, false, List, [], ◌∷◌, ◌++◌, length, Ok, Err}
-use Rattle.std.proofs.Common.{refl, sym, ap, subst, ◌∙◌, arith, append_assoc, inl, inr}
+use Rattle.std.proofs.Common.{◌≡◌, ◌⊎◌, ℕ, zero, suc, ◌+◌, ◌<◌, true, false, List, [], ◌∷◌, ◌++◌, length, Ok, Err, refl}
+use Rattle.std.proofs.Common.{sym, ap, subst, ◌∙◌, arith, append_assoc, inl, inr}
 use Rattle.dw_board.specs.Geometry.{Geometry}
 use Rattle.dw_board.specs.Placement.{Placement}
 use Rattle.dw_board.specs.Lists.{Member}
@@ -12,8 +12,9 @@ use Rattle.dw_games.specs.Tokens.{Token, AreTokens}
 use Rattle.dw_games.specs.Play.{IsOver, AreComments, after}
 use Rattle.dw_games.specs.Movetext.{IsGame, AreDistinct, nothing, again, first, IsTree}
 use Rattle.dw_games.specs.Faults.{IsOpen, HasForm, IsRefused, IsUnreadable, FaultAt, FaultAtEnd, IsFirstFault}
-use Rattle.dw_games.specs.Faults.{outermost, inner, unreadable, no_such_move, ambiguous, no_move_before, none_open, within}
-use Rattle.dw_games.specs.Faults.{behind_result, cut_off, too_deep, too_long, too_large, at_token, at_end, no_move}
+use Rattle.dw_games.specs.Faults.{outermost, inner, unreadable, no_such_move, ambiguous, no_move_before, none_open}
+use Rattle.dw_games.specs.Faults.{within, behind_result, cut_off, too_deep, too_long, too_large, at_token, at_end}
+use Rattle.dw_games.specs.Faults.{no_move}
 use Rattle.dw_games.specs.Faults as faults
 use Rattle.dw_games.specs.Laws.{OneAnswer}
 use Rattle.dw_games.specs.declared.tokens.TokenKind.{TokenKind}
@@ -21,11 +22,12 @@ use Rattle.dw_games.specs.declared.tokens.TokenKind.TheVariants.{Comment, Writte
 use Rattle.dw_games.specs.declared.movetext.TheConstants.{MAX_PATH, MAX_OPEN}
 use Rattle.dw_games.specs.declared.fault.MovetextFaultKind.{MovetextFaultKind}
 use Rattle.dw_games.specs.declared.fault.MovetextFaultKind.TheVariants.{Token as NoToken, NoSuchMove, Ambiguous}
-use Rattle.dw_games.specs.declared.fault.MovetextFaultKind.TheVariants.{Variation, Unclosed, Rest, TooDeep, TooLong, Empty}
+use Rattle.dw_games.specs.declared.fault.MovetextFaultKind.TheVariants.{Variation, Unclosed, Rest, TooDeep, TooLong}
+use Rattle.dw_games.specs.declared.fault.MovetextFaultKind.TheVariants.{Empty}
 use Rattle.dw_games.proofs.PathLemmas.{filled, last_same}
 use Rattle.dw_games.proofs.TokenRowLemmas.{one_row, row_front}
-use Rattle.dw_games.proofs.StepLemmas.{State, Around, start, Next, IsNext, Leads, ended, closed, begun, moved}
-use Rattle.dw_games.proofs.StepLemmas.{result, neither, read, long, begun_deep, as_kind, leads_on, varied, begun_next}
+use Rattle.dw_games.proofs.StepLemmas.{State, Around, start, Next, IsNext, Leads, ended, closed, begun, moved, result}
+use Rattle.dw_games.proofs.StepLemmas.{neither, read, long, begun_deep, as_kind, leads_on, varied, begun_next}
 use Rattle.dw_games.proofs.StepLemmas.{leads_one, stopped, fault_one}
 use Rattle.dw_games.proofs.StepLemmas as step
 
@@ -95,7 +97,8 @@ module _ (g : Geometry) (p : Placement) where
     leads = varied g p v [] [];
     many = refl;
   }
-  stands (inner {room = room} {ts = ts} {us = us} {before = before} {others = others} {paths = more} moves last opening o is v) =
+  stands (inner {room = room} {ts = ts} {us = us} {before = before} {others = others} {paths = more} moves last opening
+      o is v) =
       let h = stands o in
       let now : List Move = moves ++ last ∷ [] in
       let around : List Around = (record { before = before; moves = now }) ∷ h.outer in
@@ -181,7 +184,8 @@ module _ (g : Geometry) (p : Placement) where
       → IsNext g p false t.what s t (moved s (Err reason))
   refused_next s t reason kept low is =
       as_kind g p false Written s t (moved s (Err reason)) is.form.written
-      (read (Err reason) is.form.no_result is.form low is.refused (λ e. kept (step.same_reason reason why.Memory e)) refl)
+      (read (Err reason) is.form.no_result is.form low is.refused (λ e. kept (step.same_reason reason why.Memory e))
+      refl)
 
   ended_inside : (s : State) (outer : List Around) → 0 < length outer → Err Unclosed ≡ ended s outer
   ended_inside s [] some = absurd (omega (arith, some))
@@ -265,8 +269,8 @@ module _ (one : reading.HasOneAnswer) (g : Geometry) (p : Placement) (text : Lis
       leads_one one g p ts start a b h (subst (λ z. Leads g p start z b) (all_same us ts y x) k)
 
   -- the tokens up to one, and those behind it
-  pub up_to : (before : List Token) (t : Token) (rest : List ℕ) (ts : List Token) → AreTokens 1 true text (before ++ t ∷ []) rest
-      → AreTokens 1 true text ts [] → (more : List Token) × (ts ≡ before ++ t ∷ more)
+  pub up_to : (before : List Token) (t : Token) (rest : List ℕ) (ts : List Token) → AreTokens 1 true text (before ++ t ∷
+      []) rest → AreTokens 1 true text ts [] → (more : List Token) × (ts ≡ before ++ t ∷ more)
   up_to before t rest ts a b =
       let h = row_front a b refl refl refl in (h.0, h.1 ∙ append_assoc before (t ∷ []) h.0)
 
@@ -283,7 +287,8 @@ module _ (one : reading.HasOneAnswer) (g : Geometry) (p : Placement) (text : Lis
   one_tree tree other t u =
       let a = whole g p t.game in
       let b = whole g p u.game in
-      let same : a.state ≡ b.state = state_same t.tokens u.tokens a.state b.state t.are_tokens u.are_tokens a.leads b.leads in
+      let same : a.state ≡ b.state = state_same t.tokens u.tokens a.state b.state t.are_tokens u.are_tokens a.leads
+      b.leads in
       distinct_one t.distinct u.distinct (sym a.same ∙ (ap (λ s. s.paths) same ∙ b.same))
 
   never_both : (tree : List (List Move)) (what : MovetextFaultKind) (place : ℕ) → IsTree g p text tree
@@ -320,10 +325,12 @@ module _ (one : reading.HasOneAnswer) (g : Geometry) (p : Placement) (text : Lis
       let same = fault_one one g p before front t u a.0 b.0 start f.state h.state k l (sym a.1 ∙ b.1) f.leads f.fails
       h.leads h.fails in
       (same.0, ap (λ x. x.place) same.1)
-  one_fault what other place there (at_token before t rest {what = k} size row fault) (at_end tokens small others wrong) =
+  one_fault what other place there (at_token before t rest {what = k} size row fault) (at_end tokens small others wrong)
+      =
       let b = ends g p wrong in no_fault tokens b.state before t rest k others b.leads row fault
   one_fault what other place there (at_end tokens size row fault) (too_large big) = absurd (omega (arith, big, size))
-  one_fault what other place there (at_end tokens size row fault) (at_token before t rest {what = k} small others wrong) =
+  one_fault what other place there (at_end tokens size row fault) (at_token before t rest {what = k} small others wrong)
+      =
       let a = ends g p fault in no_fault tokens a.state before t rest k row a.leads others wrong
   one_fault what other place there (at_end tokens {what = k} size row fault) (at_end us {what = l} small others wrong) =
       let a = ends g p fault in

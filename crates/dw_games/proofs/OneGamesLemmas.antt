@@ -1,6 +1,6 @@
 -- Each text has its games, and no others.
-use Rattle.std.proofs.Common.{◌≡◌, ◌==◌, ◌||◌, ◌⊎◌, ℕ, List, [], ◌∷◌, ◌++◌, drop, true, false, not, refl, sym, ap}
-use Rattle.std.proofs.Common.{◌∙◌, subst, arith, inl, inr, append-nil, append_assoc}
+use Rattle.std.proofs.Common.{◌≡◌, ◌==◌, ◌||◌, ◌⊎◌, ℕ, List, [], ◌∷◌, ◌++◌, drop, true, false, not, refl, sym, ap, ◌∙◌}
+use Rattle.std.proofs.Common.{subst, arith, inl, inr, append-nil, append_assoc}
 use Rattle.std.proofs.lemmas.Bool.{and_parts}
 use Rattle.std.specs.List.{list_all}
 use Rattle.dw_board.specs.Geometry.{Geometry}
@@ -10,7 +10,8 @@ use Rattle.dw_notation.specs.WholeTexts.SectionsSay.{last_section}
 use Rattle.dw_notation.specs.TagLaws.{TextsOfTagsSay}
 use Rattle.dw_games.specs.Games.{Said, said_with, HasGames, games_from}
 use Rattle.dw_games.specs.Games.HasGames.{nothing as no_games, other as no_section, comment as no_comment}
-use Rattle.dw_games.specs.Games.HasGames.{last_comment as open_comment, section as with_section, last_section as with_last}
+use Rattle.dw_games.specs.Games.HasGames.{last_comment as open_comment, section as with_section}
+use Rattle.dw_games.specs.Games.HasGames.{last_section as with_last}
 use Rattle.dw_games.specs.GameLaws.{TextsHaveGames}
 use Rattle.dw_games.specs.inner.Keeping.{spaces_on, row_of}
 use Rattle.dw_games.specs.inner.Playing.{unclosed}
@@ -189,8 +190,8 @@ module _ (law : TextsOfTagsSay) where
       let begins = cut_begins g a x found c (x ∷ more) in absurd (brace_bracket (ap first (e ∙ begins.1)))
   at_cut g a x more found c (open_comment text is) e =
       let begins = cut_begins g a x found c (x ∷ more) in absurd (brace_bracket (ap first (e ∙ begins.1)))
-  at_cut g a x more found c (with_section {tags} {some} {last} {more = m} {front} {games} text gap b other is spaces ends
-      says has) e =
+  at_cut g a x more found c (with_section {tags} {some} {last} {more = m} {front} {games} text gap b other is spaces
+      ends says has) e =
       let d : IsCut g (text ++ gap) b other = record {
         tags = tags;
         some = some;
@@ -285,7 +286,8 @@ module _ (law : TextsOfTagsSay) where
       let r = at_comment g text more is second e in
       let same = one_row g has r.1 refl in (r.2 ∙ ap (λ l. 123 ∷ (text ++ 125 ∷ l)) same.0, same.1)
   one_row g (open_comment text is) second e = at_open g text is second e
-  one_row g (with_section {tags} {some} {last} {more} {front} {games} text gap b found is spaces ends says has) second e =
+  one_row g (with_section {tags} {some} {last} {more} {front} {games} text gap b found is spaces ends says has) second e
+      =
       let c : IsCut g (text ++ gap) b found = record {
         tags = tags;
         some = some;

@@ -1,6 +1,6 @@
 -- A text is at most one line and has at most one first fault as a line, and never both.
-use Rattle.std.proofs.Common.{◌≡◌, ◌≢◌, ◌⊎◌, ℕ, zero, List, [], ◌∷◌, ◌++◌, length, Err}
-use Rattle.std.proofs.Common.{true, false, refl, sym, ap, subst, ◌∙◌, arith, inl, inr}
+use Rattle.std.proofs.Common.{◌≡◌, ◌≢◌, ◌⊎◌, ℕ, zero, List, [], ◌∷◌, ◌++◌, length, Err, true, false, refl, sym, ap}
+use Rattle.std.proofs.Common.{subst, ◌∙◌, arith, inl, inr}
 use Rattle.dw_board.specs.Geometry.{Geometry}
 use Rattle.dw_board.specs.Placement.{Placement}
 use Rattle.dw_moves.specs.Moves.{Move}
@@ -22,8 +22,8 @@ use Rattle.dw_games.specs.declared.fault.LineFaultKind.{LineFaultKind}
 use Rattle.dw_games.specs.declared.fault.LineFaultKind.TheVariants.{Movetext}
 use Rattle.dw_games.proofs.PathLemmas.{last_same}
 use Rattle.dw_games.proofs.TokenRowLemmas.{one_row}
-use Rattle.dw_games.proofs.StepLemmas.{State, start, Next, IsNext, Leads, varied, leads_one, stopped, fault_one}
-use Rattle.dw_games.proofs.StepLemmas.{begun, as_kind, ok_err, same_err}
+use Rattle.dw_games.proofs.StepLemmas.{State, start, Next, IsNext, Leads, varied, leads_one, stopped, fault_one, begun}
+use Rattle.dw_games.proofs.StepLemmas.{as_kind, ok_err, same_err}
 use Rattle.dw_games.proofs.StepLemmas as step
 use Rattle.dw_games.proofs.OneAnswerLemmas.{whole, fails, state_same, up_to, no_fault}
 use Rattle.dw_games.proofs.LineLemmas.{none_parts, none_more, paths_are}
@@ -98,8 +98,8 @@ beginnings_one before (m ∷ moves) (n ∷ others) e =
     cc
 
 -- where a token begins a variation and another row has none before its last token
-meets : (before front more others : List Token) (t u : Token) → before ++ t ∷ more ≡ front ++ u ∷ others → t.what ≡ Opens
-    → NoneOpens front → ((before ≡ front) × (t ≡ u)) ⊎ ((rest : List Token) × (before ≡ front ++ u ∷ rest))
+meets : (before front more others : List Token) (t u : Token) → before ++ t ∷ more ≡ front ++ u ∷ others → t.what ≡
+    Opens → NoneOpens front → ((before ≡ front) × (t ≡ u)) ⊎ ((rest : List Token) × (before ≡ front ++ u ∷ rest))
 meets [] [] more others t u e is none = inl (refl, cc)
 meets [] (v ∷ front) more others t u e is none =
     let same : t ≡ v = cc in absurd (none.0 (subst (λ x. x.what ≡ Opens) same is))
@@ -113,8 +113,8 @@ meets (w ∷ before) (v ∷ front) more others t u e is none =
     ]
 
 -- ---- one answer
-variation_is : (s : State) (moves : List Move) (kind : MovetextFaultKind) → ◌≡◌ {A = Next} (Err kind) (begun s MAX_OPEN moves)
-    → Variation ≡ kind
+variation_is : (s : State) (moves : List Move) (kind : MovetextFaultKind) → ◌≡◌ {A = Next} (Err kind) (begun s MAX_OPEN
+    moves) → Variation ≡ kind
 variation_is s [] kind e = same_err Variation kind (sym e)
 variation_is s (m ∷ moves) kind e = ok_err _ kind (sym e)
 
@@ -160,8 +160,8 @@ module _ (one : reading.HasOneAnswer) (g : Geometry) (p : Placement) where
       fault_one one g p before front t u more others start f.state h.state what kind e f.leads f.fails h.leads h.fails
 
 module _ (one : reading.HasOneAnswer) (g : Geometry) (p : Placement) (text : List ℕ) where
-  moves_same : (ts us : List Token) (moves others : List Move) → AreTokens 1 true text ts [] → AreTokens 1 true text us []
-      → IsPlainGame g p ts moves → IsPlainGame g p us others → moves ≡ others
+  moves_same : (ts us : List Token) (moves others : List Move) → AreTokens 1 true text ts [] → AreTokens 1 true text us
+      [] → IsPlainGame g p ts moves → IsPlainGame g p us others → moves ≡ others
   moves_same ts us moves others x y a b =
       let v = whole g p (game_of g p a) in
       let w = whole g p (game_of g p b) in
@@ -194,11 +194,19 @@ module _ (one : reading.HasOneAnswer) (g : Geometry) (p : Placement) (text : Lis
   one_fault : (what kind : LineFaultKind) (place there : ℕ) → IsFirstLineFault g p text what place
       → IsFirstLineFault g p text kind there → (what ≡ kind) × (place ≡ there)
   one_fault what kind place there (too_large big) (too_large too) = (refl, refl)
-  one_fault what kind place there (too_large big) (at_token before t rest size row fault) = absurd (omega (arith, big, size))
+  one_fault what kind place there (too_large big) (at_token before t rest size row fault) = absurd (omega (
+    arith,
+    big,
+    size,
+  ))
   one_fault what kind place there (too_large big) (no_move tokens size row game) = absurd (omega (arith, big, size))
   one_fault what kind place there (too_large big) (even tokens moves size row game some is) =
       absurd (omega (arith, big, size))
-  one_fault what kind place there (at_token before t rest size row fault) (too_large big) = absurd (omega (arith, big, size))
+  one_fault what kind place there (at_token before t rest size row fault) (too_large big) = absurd (omega (
+    arith,
+    big,
+    size,
+  ))
   one_fault what kind place there (at_token before t rest {what = k} size row fault)
       (at_token front u end {what = l} small others wrong) =
       let all = one_row text in
@@ -206,12 +214,14 @@ module _ (one : reading.HasOneAnswer) (g : Geometry) (p : Placement) (text : Lis
       let b = up_to one g p text front u end all.tokens others all.are in
       let same = fault_same one g p before front a.0 b.0 t u k l (sym a.1 ∙ b.1) fault wrong in
       (ap Movetext same.0, ap (λ x. x.place) same.1)
-  one_fault what kind place there (at_token before t rest {what = k} size row fault) (no_move tokens small others game) =
+  one_fault what kind place there (at_token before t rest {what = k} size row fault) (no_move tokens small others game)
+      =
       no_line_fault tokens [] before t rest k others game row fault
   one_fault what kind place there (at_token before t rest {what = k} size row fault)
       (even tokens moves small others game some is) = no_line_fault tokens moves before t rest k others game row fault
   one_fault what kind place there (no_move tokens size row game) (too_large big) = absurd (omega (arith, big, size))
-  one_fault what kind place there (no_move tokens size row game) (at_token before t rest {what = k} small others fault) =
+  one_fault what kind place there (no_move tokens size row game) (at_token before t rest {what = k} small others fault)
+      =
       no_line_fault tokens [] before t rest k row game others fault
   one_fault what kind place there (no_move tokens size row game) (no_move us small others next) = (refl, refl)
   one_fault what kind place there (no_move tokens size row game) (even us moves small others next some is) =

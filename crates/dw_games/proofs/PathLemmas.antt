@@ -56,7 +56,8 @@ pub grown_append : (paths : List (List Move)) (steps : List BranchStep) (s : Bra
 grown_append paths [] s = refl
 grown_append paths (x ∷ steps) s = grown_append (paths ++ path_of paths x ∷ []) steps s
 
-length_grown : (paths : List (List Move)) (steps : List BranchStep) → length (grown paths steps) ≡ length paths + length steps
+length_grown : (paths : List (List Move)) (steps : List BranchStep) → length (grown paths steps) ≡ length paths + length
+    steps
 length_grown paths [] = omega arith
 length_grown paths (x ∷ steps) =
     let more = length_grown (paths ++ path_of paths x ∷ []) steps in
@@ -143,7 +144,8 @@ module _ (steps : List BranchStep) (above : (n k : ℕ) → IsChild steps (Some 
   parents_same end ih (Some m) (Some n) low pp qp e =
       ap Some (ih m n (get_or (paths_of steps) m []) (low m refl) (at_node m pp) (at_node n qp ∙ ap Some (sym e)))
 
-  pub parent_place : (k : ℕ) (s : BranchStep) → slice_get steps k ≡ Some s → (p : Option ℕ) → s.parent ≡ p → IsPlace steps p
+  pub parent_place : (k : ℕ) (s : BranchStep) → slice_get steps k ≡ Some s → (p : Option ℕ) → s.parent ≡ p → IsPlace
+      steps p
   parent_place k s e None is = tt
   parent_place k s e (Some n) is =
       let lower : n < k = above n k (s.mv, parent_is steps s n k is e) in
@@ -173,8 +175,8 @@ module _ (steps : List BranchStep) (above : (n k : ℕ) → IsChild steps (Some 
       let parents : f.0.parent ≡ p = parents_same (length steps) (distinct (length steps)) f.0.parent p
       (λ n is. subst (IsPlace steps) is (parent_place k f.0 f.1 _ refl))
       (parent_place k f.0 f.1 _ refl) place (sym both.0) in
-      let is : f.0 ≡ record { parent = p; mv = m } = join_step f.0 (record { parent = p; mv = m }) parents (sym both.1) in
-      subst (λ s. slice_get steps k ≡ Some s) is f.1
+      let is : f.0 ≡ record { parent = p; mv = m } = join_step f.0 (record { parent = p; mv = m }) parents (sym both.1)
+      in subst (λ s. slice_get steps k ≡ Some s) is f.1
 
   -- the first child is the first path that goes on
   pub first_next : (p : Option ℕ) (from : ℕ) (r : Option ℕ) → IsPlace steps p → IsFirstChild steps p from r

@@ -1,6 +1,6 @@
 -- What stands at a place of a list that is longer by one, or in which one place is set.
-use Rattle.std.proofs.Common.{◌≡◌, ℕ, zero, suc, List, [], ◌∷◌, ◌++◌, length, Some, None, ◌⊎◌, inl, inr, refl, ap}
-use Rattle.std.proofs.Common.{set, arith}
+use Rattle.std.proofs.Common.{◌≡◌, ℕ, zero, suc, List, [], ◌∷◌, ◌++◌, length, Some, None, ◌⊎◌, inl, inr, refl, ap, set}
+use Rattle.std.proofs.Common.{arith}
 use Rattle.std.specs.List.{slice_get}
 
 pub absent : {A B : Type 0} → (x : A) → None ≡ Some x → B

@@ -1,7 +1,6 @@
 -- Lemmas on bytes without a section.
-use Rattle.std.proofs.Common.{◌≡◌, ◌==◌, ℕ, List, [], ◌∷◌, ◌++◌, drop, Bool, true}
-use Rattle.std.proofs.Common.{false, Option, Result, Ok, Err, refl, sym, subst, append_assoc}
-use Rattle.std.proofs.Common.{append-nil, cond}
+use Rattle.std.proofs.Common.{◌≡◌, ◌==◌, ℕ, List, [], ◌∷◌, ◌++◌, drop, Bool, true, false, Option, Result, Ok, Err, refl}
+use Rattle.std.proofs.Common.{sym, subst, append_assoc, append-nil, cond}
 use Rattle.dw_board.specs.Geometry.{Geometry}
 use Rattle.dw_games.specs.Games.{Said, HasGames}
 use Rattle.dw_games.specs.Games.HasGames.{nothing as no_games, other as other_byte, comment, last_comment}
@@ -10,8 +9,7 @@ use Rattle.dw_notation.specs.Between.IsBetween.{nothing, other, opened as open_b
 use Rattle.dw_games.specs.GameReading.{is_failure}
 use Rattle.dw_notation.specs.Buffering.{Input, Passes}
 use Rattle.dw_games.specs.inner.Keeping.{IsKept}
-use Rattle.dw_games.specs.inner.Playing.{InComment, unclosed, HasGamesFrom, ReadsPlay}
-use Rattle.dw_games.specs.inner.Playing.{PlaysOn}
+use Rattle.dw_games.specs.inner.Playing.{InComment, unclosed, HasGamesFrom, ReadsPlay, PlaysOn}
 use Rattle.dw_games.specs.inner.Playing.InComment.{closed, left_open}
 use Rattle.dw_games.specs.declared.games.GameFault.{GameFault}
 use Rattle.dw_games.specs.declared.bounded_buf.BoundedBuf.{BoundedBuf}
@@ -38,7 +36,8 @@ between_games g nothing more front games has = has
 between_games g (other byte neither is) more front games has = other_byte byte neither
     (between_games g is more front games has)
 between_games g (open_brace is) more front games has = opened g (between_games g is more front games has)
-between_games g (within byte here is) more front games has = inside g byte here (between_games g is more front games has)
+between_games g (within byte here is) more front games has = inside g byte here (between_games g is more front games
+    has)
 between_games g (close_brace is) more front games has = closed [] refl (between_games g is more front games has)
 
 module _ {S : Type 0} (coming : S → Option (List ℕ)) (has_ended is_failed : S → Bool) (pulls : S → ℕ) where
@@ -125,7 +124,8 @@ module _ {S : Type 0} (coming : S → Option (List ℕ)) (has_ended is_failed : 
     ends = end;
   }
 
-  pub PlaysOn-end : (old now : Input S) (before after : BoundedBuf) (was : Bool) (end : PlayEnd) → On old now before after was
+  pub PlaysOn-end : (old now : Input S) (before after : BoundedBuf) (was : Bool) (end : PlayEnd) → On old now before
+      after was
       → (now.unread ≡ []) × (now.met_end ≡ true) → end ≡ cond was Open Text → Result-of old now before after (Ok end)
   PlaysOn-end old now before after true end on none is = subst (λ e. Result-of old now before after (Ok e)) (sym is)
       (PlaysOn-open old now before after on none)
@@ -140,7 +140,8 @@ module _ {S : Type 0} (coming : S → Option (List ℕ)) (has_ended is_failed : 
   PlaysOn-fault old mid now before kept after was fault on fill = record {
     passed = on.passed;
     passes = subst (λ l. Passes coming has_ended is_failed pulls old now l (is_failure {A = PlayEnd} (Err fault)))
-        (append-nil on.passed) (Passes-trans coming has_ended is_failed pulls old mid now on.passed [] _ on.passes fill);
+        (append-nil on.passed) (Passes-trans coming has_ended is_failed pulls old mid now on.passed [] _ on.passes
+        fill);
     kept = tt;
     said = tt;
     ends = tt;

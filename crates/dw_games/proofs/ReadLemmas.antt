@@ -1,7 +1,6 @@
 -- Lemmas on reading a section.
-use Rattle.std.proofs.Common.{◌≡◌, ℕ, List, [], ◌∷◌, ◌++◌, drop, Bool, true, false, Option, Some}
-use Rattle.std.proofs.Common.{Ok, Err, MatchOption, refl, sym, ap, ◌∙◌, subst, append_assoc, append-nil}
-use Rattle.std.proofs.Common.{option_to_list}
+use Rattle.std.proofs.Common.{◌≡◌, ℕ, List, [], ◌∷◌, ◌++◌, drop, Bool, true, false, Option, Some, Ok, Err, MatchOption}
+use Rattle.std.proofs.Common.{refl, sym, ap, ◌∙◌, subst, append_assoc, append-nil, option_to_list}
 use Rattle.dw_board.specs.Geometry.{Geometry}
 use Rattle.dw_notation.specs.TextLines.{Found}
 use Rattle.dw_notation.specs.WholeTexts.{SectionsSay}
@@ -56,25 +55,26 @@ module _ {B S : Type 0} (g : Geometry) (coming : S → Option (List ℕ)) (has_e
   }
 
   -- they do not end the section
-  pub ReadsOn-piece : (old mid now : Input S) (begun row longer before kept after : BoundedBuf) (reader next : SectionReader B)
-      (piece : List ℕ) → On old mid begun row before kept reader
+  pub ReadsOn-piece : (old mid now : Input S) (begun row longer before kept after : BoundedBuf) (reader next :
+      SectionReader B) (piece : List ℕ) → On old mid begun row before kept reader
       → ((over : Bool) (more : List ℕ) → ahead_of reader g over (piece ++ more) ≡ ahead_of next g over more)
       → ahead_of next g false [] ≡ []
       → ((limit : ℕ) (text : List ℕ) → IsKept limit text row → IsKept limit (text ++ piece) longer)
       → ((limit : ℕ) (text : List ℕ) → IsKept limit text kept → IsKept limit (spaces_on text piece) after)
       → Passes coming has_ended is_failed pulls mid now piece false
       → On old now begun longer before after next
-  ReadsOn-piece old mid now begun row longer before kept after reader next piece on same unsaid extend keep pass = record {
-    passed = on.passed ++ piece;
-    passes = Passes-trans coming has_ended is_failed pulls old mid now on.passed piece false on.passes pass;
-    rows = λ limit is. extend limit on.passed (on.rows limit is);
-    keeps = λ limit is. subst (λ l. IsKept limit l after) (sym (spaces_on-append [] on.passed piece))
-        (keep limit (spaces_on [] on.passed) (on.keeps limit is));
-    said = λ over more. subst (SectionsSay g over ((on.passed ++ piece) ++ more)) (same over more)
-        (subst (λ l. SectionsSay g over l (ahead_of reader g over (piece ++ more)))
-        (sym (append_assoc on.passed piece more)) (on.said over (piece ++ more)));
-    unsaid = unsaid;
-  }
+  ReadsOn-piece old mid now begun row longer before kept after reader next piece on same unsaid extend keep pass =
+      record {
+        passed = on.passed ++ piece;
+        passes = Passes-trans coming has_ended is_failed pulls old mid now on.passed piece false on.passes pass;
+        rows = λ limit is. extend limit on.passed (on.rows limit is);
+        keeps = λ limit is. subst (λ l. IsKept limit l after) (sym (spaces_on-append [] on.passed piece))
+            (keep limit (spaces_on [] on.passed) (on.keeps limit is));
+        said = λ over more. subst (SectionsSay g over ((on.passed ++ piece) ++ more)) (same over more)
+            (subst (λ l. SectionsSay g over l (ahead_of reader g over (piece ++ more)))
+            (sym (append_assoc on.passed piece more)) (on.said over (piece ++ more)));
+        unsaid = unsaid;
+      }
 
   nothing_ended : (old now : Input S) (begun row before kept : BoundedBuf) (reader : SectionReader B)
       → (on : On old now begun row before kept reader) → SectionsSay g false on.passed []
@@ -93,8 +93,8 @@ module _ {B S : Type 0} (g : Geometry) (coming : S → Option (List ℕ)) (has_e
       → ((limit : ℕ) (text : List ℕ) → IsKept limit text kept → IsKept limit (spaces_on text piece) after)
       → Passes coming has_ended is_failed pulls mid now piece false → result ≡ Some found
       → ReadsSection g coming has_ended is_failed pulls old now begun longer before after (Ok result)
-  ReadsOn-cut law old mid now begun row longer before kept after reader next piece byte result found on begins here none add
-      extend keep pass is =
+  ReadsOn-cut law old mid now begun row longer before kept after reader next piece byte result found on begins here none
+      add extend keep pass is =
       let passed = on.passed ++ piece in
       let passes = Passes-trans coming has_ended is_failed pulls old mid now on.passed piece false on.passes pass in
       let behind = drop 1 now.unread in
@@ -107,7 +107,8 @@ module _ {B S : Type 0} (g : Geometry) (coming : S → Option (List ℕ)) (has_e
       (ahead_of reader g false (piece ++ byte ∷ []))) (sym (append_assoc on.passed piece (byte ∷ [])))
       (on.said false (piece ++ byte ∷ []))) refl front.1 all
       (subst (SectionsSay g false passed) none (on.said false piece)) in
-      subst (λ r. ReadsSection g coming has_ended is_failed pulls old now begun longer before after (Ok r)) (sym is) (record {
+      subst (λ r. ReadsSection g coming has_ended is_failed pulls old now begun longer before after (Ok r)) (sym is)
+      (record {
         passed = passed;
         passes = passes;
         rows = λ limit row_is. extend limit on.passed (on.rows limit row_is);
@@ -116,14 +117,14 @@ module _ {B S : Type 0} (g : Geometry) (coming : S → Option (List ℕ)) (has_e
         ends = cut_ends_well g passed byte found cut;
         said = λ bytes front games over has.
             let text : now.unread ++ bytes ≡ byte ∷ (behind ++ bytes) = ap (λ l. l ++ bytes) here in
-            subst (λ l. HasGames g (passed ++ l) [] (said_with found (row_of passed) (spaces_on [] passed ++ front) ∷ games))
-            (sym text) (cut_games g passed (behind ++ bytes) front byte found games cut
+            subst (λ l. HasGames g (passed ++ l) [] (said_with found (row_of passed) (spaces_on [] passed ++ front) ∷
+            games)) (sym text) (cut_games g passed (behind ++ bytes) front byte found games cut
             (subst (λ l. HasGames g l front games) text has));
       })
 
   -- the text ends it
-  pub ReadsOn-last : TextsOfTagsSay → (old now : Input S) (begun row before kept : BoundedBuf) (reader : SectionReader B)
-      (result : Option Found) → On old now begun row before kept reader → old.unread ≡ 91 ∷ drop 1 old.unread
+  pub ReadsOn-last : TextsOfTagsSay → (old now : Input S) (begun row before kept : BoundedBuf) (reader : SectionReader
+      B) (result : Option Found) → On old now begun row before kept reader → old.unread ≡ 91 ∷ drop 1 old.unread
       → (now.unread ≡ []) × (now.met_end ≡ true) → ahead_of reader g true [] ≡ option_to_list result
       → ReadsSection g coming has_ended is_failed pulls old now begun row before kept (Ok result)
   ReadsOn-last law old now begun row before kept reader result on begins end finish =
@@ -155,14 +156,15 @@ module _ {B S : Type 0} (g : Geometry) (coming : S → Option (List ℕ)) (has_e
       }
 
   -- the source fails, or memory is refused
-  pub ReadsOn-fault : (old mid now : Input S) (begun row longer before kept after : BoundedBuf) (reader : SectionReader B)
-      (fault : GameFault) → On old mid begun row before kept reader
+  pub ReadsOn-fault : (old mid now : Input S) (begun row longer before kept after : BoundedBuf) (reader : SectionReader
+      B) (fault : GameFault) → On old mid begun row before kept reader
       → Passes coming has_ended is_failed pulls mid now [] (is_failure {A = Option Found} (Err fault))
       → ReadsSection g coming has_ended is_failed pulls old now begun longer before after (Err fault)
   ReadsOn-fault old mid now begun row longer before kept after reader fault on fill = record {
     passed = on.passed;
     passes = subst (λ l. Passes coming has_ended is_failed pulls old now l (is_failure {A = Option Found} (Err fault)))
-        (append-nil on.passed) (Passes-trans coming has_ended is_failed pulls old mid now on.passed [] _ on.passes fill);
+        (append-nil on.passed) (Passes-trans coming has_ended is_failed pulls old mid now on.passed [] _ on.passes
+        fill);
     rows = tt;
     kept = tt;
     ends = tt;

@@ -1,6 +1,6 @@
 -- What a reader holds after each kind of token.
-use Rattle.std.proofs.Common.{◌≡◌, ℕ, suc, ◌+◌, ◌<◌, List, [], ◌∷◌, ◌++◌, length, Option, Some, None, inl, inr}
-use Rattle.std.proofs.Common.{refl, sym, ap, subst, ◌∙◌, arith, append_assoc, append-nil, length-append}
+use Rattle.std.proofs.Common.{◌≡◌, ℕ, suc, ◌+◌, ◌<◌, List, [], ◌∷◌, ◌++◌, length, Option, Some, None, inl, inr, refl}
+use Rattle.std.proofs.Common.{sym, ap, subst, ◌∙◌, arith, append_assoc, append-nil, length-append}
 use Rattle.std.specs.List.{slice_get}
 use Rattle.dw_board.specs.Geometry.{Geometry}
 use Rattle.dw_board.specs.Placement.{Placement}
@@ -28,20 +28,22 @@ after_append g p (x ∷ moves) m = after_append g (play g p x) moves m
 
 module _ {B : Type 0} (g : Geometry) (p : Placement) (tree : List (List Move)) where
   -- the innermost variation, by the grammar of faults
-  pub opened_open : {room : ℕ} {ts : List Token} {line : OpenLine B} {outer : List (OpenLine B)} {before moves : List Move}
-      {paths : List (List Move)} → Opened g p tree room ts line outer before moves paths → IsOpen g p room ts before moves
+  pub opened_open : {room : ℕ} {ts : List Token} {line : OpenLine B} {outer : List (OpenLine B)} {before moves : List
+      Move}
+      {paths : List (List Move)} → Opened g p tree room ts line outer before moves paths → IsOpen g p room ts before
+      moves
   opened_open (outermost v l) = faults.outermost v
   opened_open (inner moves last opening o e v l) = faults.inner moves last opening (opened_open o) e v
 
-  pub opened_line : {room : ℕ} {ts : List Token} {line : OpenLine B} {outer : List (OpenLine B)} {before moves : List Move}
-      {paths : List (List Move)} → Opened g p tree room ts line outer before moves paths
+  pub opened_line : {room : ℕ} {ts : List Token} {line : OpenLine B} {outer : List (OpenLine B)} {before moves : List
+      Move} {paths : List (List Move)} → Opened g p tree room ts line outer before moves paths
       → IsLine g p tree line before moves
   opened_line (outermost v l) = l
   opened_line (inner moves last opening o e v l) = l
 
   -- as many more may be open as are not
-  pub opened_room : {room : ℕ} {ts : List Token} {line : OpenLine B} {outer : List (OpenLine B)} {before moves : List Move}
-      {paths : List (List Move)} → Opened g p tree room ts line outer before moves paths
+  pub opened_room : {room : ℕ} {ts : List Token} {line : OpenLine B} {outer : List (OpenLine B)} {before moves : List
+      Move} {paths : List (List Move)} → Opened g p tree room ts line outer before moves paths
       → room + length outer ≡ MAX_OPEN
   opened_room (outermost v l) = refl
   opened_room (inner {around = around} {outer = outer} moves last opening o e v l) =
@@ -56,23 +58,27 @@ module _ {B : Type 0} (g : Geometry) (p : Placement) (tree : List (List Move)) w
       → IsLine g p tree next before now
       → Opened g p tree room (ts ++ more) next outer before now (paths ++ others)
   goes_on next more now others (outermost {ts = ts} {paths = paths} v l) f line = outermost (f ts paths v) line
-  goes_on next more now others (inner {ts = ts} {us = us} {paths = paths} {more = ps} moves last opening o e v l) f line =
+  goes_on next more now others (inner {ts = ts} {us = us} {paths = paths} {more = ps} moves last opening o e v l) f line
+      =
       rw (append_assoc, append_assoc) (inner moves last opening o e (f us ps v) line)
 
   -- ---- a thing that is passed over
-  pub read_passed : {room : ℕ} {ts : List Token} {line : OpenLine B} {outer : List (OpenLine B)} {before moves : List Move}
+  pub read_passed : {room : ℕ} {ts : List Token} {line : OpenLine B} {outer : List (OpenLine B)} {before moves : List
+      Move}
       {paths : List (List Move)} (t : Token) → Opened g p tree room ts line outer before moves paths → IsPassed t.what
       → Opened g p tree room (ts ++ t ∷ []) line outer before moves paths
-  read_passed {room = room} {ts = ts} {line = line} {outer = outer} {before = before} {moves = moves} {paths = paths} t o is =
+  read_passed {room = room} {ts = ts} {line = line} {outer = outer} {before = before} {moves = moves} {paths = paths} t
+      o is =
       subst (λ x. Opened g p tree room (ts ++ t ∷ []) line outer before moves x) (append-nil paths)
       (goes_on line (t ∷ []) moves [] o
       (λ us ps v. subst (λ x. IsVariation g p room before (us ++ t ∷ []) moves x) (sym (append-nil ps)) (passed t v is))
       (opened_line o))
 
   -- ---- where a variation begins
-  pub read_opens : {room : ℕ} {ts : List Token} {line : OpenLine B} {outer : List (OpenLine B)} {before moves : List Move}
-      {paths : List (List Move)} (t : Token) (cursor : Cursor B) → Opened g p tree (suc room) ts line outer before moves paths
-      → t.what ≡ Opens → IsBefore g p tree (Some cursor) before moves
+  pub read_opens : {room : ℕ} {ts : List Token} {line : OpenLine B} {outer : List (OpenLine B)} {before moves : List
+      Move}
+      {paths : List (List Move)} (t : Token) (cursor : Cursor B) → Opened g p tree (suc room) ts line outer before moves
+      paths → t.what ≡ Opens → IsBefore g p tree (Some cursor) before moves
       → (front : List Move) × Opened g p tree room (ts ++ t ∷ []) (record { now = cursor; before = None })
       (outer ++ line ∷ []) (before ++ front) [] paths
   read_opens {room = room} {ts = ts} {line = line} {outer = outer} {before = before} {paths = paths} t cursor o e is =
@@ -105,8 +111,8 @@ module _ {B : Type 0} (g : Geometry) (p : Placement) (tree : List (List Move)) w
       (subst (λ x. IsVariation g p (suc room) before (vs ++ opening ∷ (us ++ t ∷ [])) x (ps ++ more)) (sym m) whole))
       (opened_line o)
 
-  pub read_closes : {room : ℕ} {ts : List Token} {line : OpenLine B} {outer : List (OpenLine B)} {before moves : List Move}
-      {paths : List (List Move)} (t : Token) (lines : List (OpenLine B)) (around : OpenLine B)
+  pub read_closes : {room : ℕ} {ts : List Token} {line : OpenLine B} {outer : List (OpenLine B)} {before moves : List
+      Move} {paths : List (List Move)} (t : Token) (lines : List (OpenLine B)) (around : OpenLine B)
       → Opened g p tree room ts line outer before moves paths → outer ≡ lines ++ around ∷ [] → t.what ≡ Closes
       → (start now : List Move) × Opened g p tree (suc room) (ts ++ t ∷ []) around lines start now paths
   read_closes t lines around (outermost v l) e c = filled lines around e
@@ -117,8 +123,10 @@ module _ {B : Type 0} (g : Geometry) (p : Placement) (tree : List (List Move)) w
       (before, moves ++ last ∷ [], rw (append_assoc, ← both.0, ← both.1) whole)
 
   -- none is open within which another one stands
-  pub none_around : {room : ℕ} {ts : List Token} {line : OpenLine B} {outer : List (OpenLine B)} {before moves : List Move}
-      {paths : List (List Move)} → Opened g p tree room ts line outer before moves paths → outer ≡ [] → IsPlay g p ts paths
+  pub none_around : {room : ℕ} {ts : List Token} {line : OpenLine B} {outer : List (OpenLine B)} {before moves : List
+      Move}
+      {paths : List (List Move)} → Opened g p tree room ts line outer before moves paths → outer ≡ [] → IsPlay g p ts
+      paths
   none_around (outermost {moves = moves} v l) e = (moves, v)
   none_around (inner {around = around} {outer = outer} moves last opening o is v l) e = filled outer around (sym e)
 
@@ -130,7 +138,8 @@ beginning_kept tree more None b e = e
 beginning_kept tree more (Some n) b e = got_old tree more b n e
 
 module _ {B : Type 0} (g : Geometry) (p : Placement) (tree more : List (List Move)) where
-  cursor_kept : (cursor : Cursor B) (path : List Move) → IsCursor g p tree cursor path → IsCursor g p (tree ++ more) cursor path
+  cursor_kept : (cursor : Cursor B) (path : List Move) → IsCursor g p tree cursor path → IsCursor g p (tree ++ more)
+      cursor path
   cursor_kept cursor path h = record {
     there = beginning_kept tree more (place_of cursor.node) path h.there;
     position = h.position;
@@ -149,8 +158,8 @@ module _ {B : Type 0} (g : Geometry) (p : Placement) (tree more : List (List Mov
     earlier = before_kept line.before before moves h.earlier;
   }
 
-  pub opened_kept : {room : ℕ} {ts : List Token} {line : OpenLine B} {outer : List (OpenLine B)} {before moves : List Move}
-      {paths : List (List Move)} → Opened g p tree room ts line outer before moves paths
+  pub opened_kept : {room : ℕ} {ts : List Token} {line : OpenLine B} {outer : List (OpenLine B)} {before moves : List
+      Move} {paths : List (List Move)} → Opened g p tree room ts line outer before moves paths
       → Opened g p (tree ++ more) room ts line outer before moves paths
   opened_kept {line = line} {moves = now} (outermost v l) = outermost v (line_kept line [] now l)
   opened_kept {line = line} {before = start} {moves = now} (inner moves last opening o e v l) =
@@ -159,8 +168,10 @@ module _ {B : Type 0} (g : Geometry) (p : Placement) (tree more : List (List Mov
 -- a path is noted
 pub distinct_noted : (paths tree now : List (List Move)) (path : List Move) → AreDistinct paths tree
     → IsNoted tree path now → AreDistinct (paths ++ path ∷ []) now
-distinct_noted paths tree now path d (inl h) = subst (λ x. AreDistinct (paths ++ path ∷ []) x) (sym h.1) (again path d h.0)
-distinct_noted paths tree now path d (inr h) = subst (λ x. AreDistinct (paths ++ path ∷ []) x) (sym h.1) (first path d h.0)
+distinct_noted paths tree now path d (inl h) = subst (λ x. AreDistinct (paths ++ path ∷ []) x) (sym h.1) (again path d
+    h.0)
+distinct_noted paths tree now path d (inr h) = subst (λ x. AreDistinct (paths ++ path ∷ []) x) (sym h.1) (first path d
+    h.0)
 
 module _ {B : Type 0} (g : Geometry) (p : Placement) where
   noted_kept : (tree now : List (List Move)) (path : List Move) → IsNoted tree path now → {room : ℕ} {ts : List Token}
@@ -172,8 +183,8 @@ module _ {B : Type 0} (g : Geometry) (p : Placement) where
       subst (λ x. Opened g p x room ts line outer before moves paths) (sym h.1) (opened_kept g p tree (path ∷ []) o)
 
   -- a move is played, and its path is noted
-  pub read_move : (tree now : List (List Move)) (room : ℕ) (ts : List Token) (line : OpenLine B) (outer : List (OpenLine B))
-      (before moves : List Move) (paths : List (List Move)) (t : Token) (m : Move) (node : Node)
+  pub read_move : (tree now : List (List Move)) (room : ℕ) (ts : List Token) (line : OpenLine B) (outer : List (OpenLine
+      B)) (before moves : List Move) (paths : List (List Move)) (t : Token) (m : Move) (node : Node)
       → Opened g p tree room ts line outer before moves paths
       → length (before ++ moves) < MAX_PATH → IsMove g (after g p (before ++ moves)) t m
       → IsNoted tree ((before ++ moves) ++ m ∷ []) now
@@ -190,8 +201,8 @@ module _ {B : Type 0} (g : Geometry) (p : Placement) where
   read_move tree now room ts line outer before moves paths t m node o short is noted there =
       let kept = noted_kept tree now ((before ++ moves) ++ m ∷ []) noted o in
       let old = opened_line g p now kept in
-      let longer : before ++ (moves ++ m ∷ []) ≡ (before ++ moves) ++ m ∷ [] = sym (append_assoc before moves (m ∷ [])) in
-      goes_on g p now _ (t ∷ []) (moves ++ m ∷ []) (((before ++ moves) ++ m ∷ []) ∷ []) kept
+      let longer : before ++ (moves ++ m ∷ []) ≡ (before ++ moves) ++ m ∷ [] = sym (append_assoc before moves (m ∷ []))
+      in goes_on g p now _ (t ∷ []) (moves ++ m ∷ []) (((before ++ moves) ++ m ∷ []) ∷ []) kept
       (λ us ps v. subst (λ x. IsVariation g p room before (us ++ t ∷ []) (moves ++ m ∷ []) (ps ++ x ∷ [])) longer
       (move v short is))
       (record {

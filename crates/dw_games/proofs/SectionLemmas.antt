@@ -1,8 +1,8 @@
 -- Lemmas on a section that is read byte by byte.
-use Rattle.std.proofs.Common.{◌≡◌, ◌==◌, ◌+◌, ◌-◌, ◌<◌, ◌≤◌, ◌||◌, ◌⊎◌, ℕ, not, List, [], ◌∷◌, ◌++◌, length, take, drop, Bool}
-use Rattle.std.proofs.Common.{true, false, slice_index}
-use Rattle.std.proofs.Common.{Option, Some, None, Ok, Err, MatchBool, refl, sym, ap, ◌∙◌, subst, arith, append_assoc}
-use Rattle.std.proofs.Common.{append-nil, inl, inr, option_to_list, cond, nat_lt, length-append}
+use Rattle.std.proofs.Common.{◌≡◌, ◌==◌, ◌+◌, ◌-◌, ◌<◌, ◌≤◌, ◌||◌, ◌⊎◌, ℕ, not, List, [], ◌∷◌, ◌++◌, length, take, drop}
+use Rattle.std.proofs.Common.{Bool, true, false, slice_index, Option, Some, None, Ok, Err, MatchBool, refl, sym, ap}
+use Rattle.std.proofs.Common.{◌∙◌, subst, arith, append_assoc, append-nil, inl, inr, option_to_list, cond, nat_lt}
+use Rattle.std.proofs.Common.{length-append}
 use Rattle.std.proofs.Math.Seq.{take-append_seam}
 use Rattle.std.proofs.lemmas.Bool.{and_parts, ltb-false}
 use Rattle.std.proofs.lemmas.List.{same_from_push, take-append-drop, take_more}
@@ -19,7 +19,8 @@ use Rattle.dw_notation.specs.declared.problems.TheConstants.{MAX_SECTION}
 use Rattle.dw_notation.specs.declared.problems.ProblemFault.TheVariants.{SectionTooLong, UnclosedTag}
 use Rattle.dw_games.specs.Games.{Said, said_with, HasGames}
 use Rattle.dw_games.specs.Games.HasGames.{nothing as no_games, other as no_section, comment as no_comment}
-use Rattle.dw_games.specs.Games.HasGames.{last_comment as open_comment, section as with_section, last_section as with_last}
+use Rattle.dw_games.specs.Games.HasGames.{last_comment as open_comment, section as with_section}
+use Rattle.dw_games.specs.Games.HasGames.{last_section as with_last}
 use Rattle.dw_games.specs.inner.Keeping.{spaces_on, row_of}
 use Rattle.dw_games.specs.inner.Sectioning.{IsCut, IsLast, IsRow, EndsWell}
 
@@ -54,8 +55,8 @@ module _ (law : TextsOfTagsSay) where
   ended_says g tags some last seen text gap more byte said is spaces ends says same none =
       let rest = law.some g false (byte ∷ more) in
       let bad : [] ≡ said ∷ rest.0 = law.only g false seen [] (said ∷ rest.0) none
-      (subst (λ l. SectionsSay g false l (said ∷ rest.0)) same (section text gap byte said is spaces ends says rest.1)) in
-      cc
+      (subst (λ l. SectionsSay g false l (said ∷ rest.0)) same (section text gap byte said is spaces ends says rest.1))
+      in cc
 
   cut_more : (g : Geometry) (seen : List ℕ) (byte : ℕ) (found : Found) (tags : List Tag) (some last : Bool)
       (text gap : List ℕ) (b : ℕ) (more : List ℕ) (said : Found) → IsSection text tags some last → IsGap last gap
@@ -93,8 +94,8 @@ module _ (law : TextsOfTagsSay) where
       let e = first-eq 123 91 _ rest begins in let bad : ⊥ = omega (arith, e) in absurd bad
   cut_at g seen rest byte found later (last_comment text is) joined begins all none =
       let e = first-eq 123 91 _ rest begins in let bad : ⊥ = omega (arith, e) in absurd bad
-  cut_at g seen rest byte found later (section {tags} {some} {last} {more} {found = after} text gap b said is spaces ends
-      says here) joined begins all none =
+  cut_at g seen rest byte found later (section {tags} {some} {last} {more} {found = after} text gap b said is spaces
+      ends says here) joined begins all none =
       let same : said ≡ found = cc in
       cut_more g seen byte found tags some last text gap b more said is spaces ends says joined same none
   cut_at g seen rest byte found later (last_section text gap said is spaces says) joined begins all none = cc
@@ -114,8 +115,8 @@ module _ (law : TextsOfTagsSay) where
       let e = first-eq 123 91 _ rest begins in let bad : ⊥ = omega (arith, e) in absurd bad
   last_at g seen rest result (last_comment text is) joined begins all none =
       let e = first-eq 123 91 _ rest begins in let bad : ⊥ = omega (arith, e) in absurd bad
-  last_at g seen rest result (section {tags} {some} {last} {more} text gap b said is spaces ends says here) joined begins
-      all none = absurd (ended_says g tags some last seen text gap more b said is spaces ends says joined none)
+  last_at g seen rest result (section {tags} {some} {last} {more} text gap b said is spaces ends says here) joined
+      begins all none = absurd (ended_says g tags some last seen text gap more b said is spaces ends says joined none)
   last_at g seen rest result (last_section {tags} {some} {last} text gap said is spaces says) joined begins all none = (
     said,
     one_said said result all,
@@ -196,7 +197,8 @@ whole p A true false h = refl
 whole p A false true h = cc
 whole p A false false h = refl
 
-pub all_spaces : (last : Bool) (gap : List ℕ) → last ≡ false → IsGap last gap ⊎ (gap ≡ []) → list_all is_space gap ≡ true
+pub all_spaces : (last : Bool) (gap : List ℕ) → last ≡ false → IsGap last gap ⊎ (gap ≡ []) → list_all is_space gap ≡
+    true
 all_spaces true gap whole h = cc
 all_spaces false gap whole (inl spaces) = spaces
 all_spaces false gap whole (inr none) = rw none refl

@@ -1,6 +1,6 @@
 -- What is open after a row of tokens: each token leads on in one way at most.
-use Rattle.std.proofs.Common.{◌≡◌, ℕ, zero, suc, ◌<◌, Bool, true, false, List, [], ◌∷◌, ◌++◌, length}
-use Rattle.std.proofs.Common.{Result, Ok, Err, refl, sym, ap, subst, ◌∙◌, arith, append_assoc, append-nil, inl, inr}
+use Rattle.std.proofs.Common.{◌≡◌, ℕ, zero, suc, ◌<◌, Bool, true, false, List, [], ◌∷◌, ◌++◌, length, Result, Ok, Err}
+use Rattle.std.proofs.Common.{refl, sym, ap, subst, ◌∙◌, arith, append_assoc, append-nil, inl, inr}
 use Rattle.dw_board.specs.Geometry.{Geometry}
 use Rattle.dw_board.specs.Placement.{Placement}
 use Rattle.dw_moves.specs.Moves.{Move}
@@ -9,8 +9,7 @@ use Rattle.dw_notation.specs.MoveReadingLaws.{HasOneAnswer}
 use Rattle.dw_notation.specs.declared.read_move.MoveFault.{MoveFault}
 use Rattle.dw_notation.specs.declared.read_move.MoveFault.TheVariants as reading
 use Rattle.dw_games.specs.Tokens.{Token}
-use Rattle.dw_games.specs.Play.{IsResult, IsMove, IsPassed, crossed, after}
-use Rattle.dw_games.specs.Play.{IsVariation, empty, passed, move, variation}
+use Rattle.dw_games.specs.Play.{IsResult, IsMove, IsPassed, crossed, after, IsVariation, empty, passed, move, variation}
 use Rattle.dw_games.specs.Faults.{HasForm}
 use Rattle.dw_games.specs.declared.tokens.TokenKind.{TokenKind}
 use Rattle.dw_games.specs.declared.tokens.TokenKind.TheVariants.{Comment, Passed, Written, Opens, Closes, CutOff}
@@ -63,7 +62,8 @@ abbrev pub begun : State → ℕ → List Move → Next
 begun s room [] = Err Variation
 begun s zero (m ∷ moves) = Err TooDeep
 begun s (suc room) (m ∷ moves) =
-    Ok (within room (s.before ++ front (m ∷ moves)) [] ((record { before = s.before; moves = s.moves }) ∷ s.outer) s.paths)
+    Ok (within room (s.before ++ front (m ∷ moves)) [] ((record { before = s.before; moves = s.moves }) ∷ s.outer)
+    s.paths)
 
 abbrev pub closed : State → List Around → Next
 closed s [] = Err Variation
@@ -175,7 +175,8 @@ module _ (one : HasOneAnswer) (g : Geometry) (p : Placement) where
       leads_one ts h.0 a b h.2 (subst (λ x. Leads g p x ts b) same k.2)
 
   -- a token at fault does not lead on
-  pub stopped : {A : Type 0} (ts : List Token) (t : Token) (more : List Token) (s a b : State) (what : MovetextFaultKind)
+  pub stopped : {A : Type 0} (ts : List Token) (t : Token) (more : List Token) (s a b : State) (what :
+      MovetextFaultKind)
       → Leads g p s (ts ++ t ∷ more) a → Leads g p s ts b → IsNext g p b.over t.what b t (Err what) → A
   stopped [] t more s a b what h k fault =
       let here : IsNext g p s.over t.what s t (Err what) =
@@ -246,8 +247,10 @@ module _ (g : Geometry) (p : Placement) where
   leads_on (t ∷ ts) us a b c h k = (h.0, h.1, leads_on ts us h.0 b c h.2 k)
 
   passed_on : (s : State) (t : Token) → s.over ≡ false → IsPassed t.what → IsNext g p s.over t.what s t (Ok s)
-  passed_on s t e (inl is) = subst (λ x. IsNext g p x t.what s t (Ok s)) (sym e) (as_kind false Comment s t (Ok s) is refl)
-  passed_on s t e (inr is) = subst (λ x. IsNext g p x t.what s t (Ok s)) (sym e) (as_kind false Passed s t (Ok s) is refl)
+  passed_on s t e (inl is) = subst (λ x. IsNext g p x t.what s t (Ok s)) (sym e) (as_kind false Comment s t (Ok s) is
+      refl)
+  passed_on s t e (inr is) = subst (λ x. IsNext g p x t.what s t (Ok s)) (sym e) (as_kind false Passed s t (Ok s) is
+      refl)
 
   form_of : (q : Placement) (t : Token) (m : Move) → IsMove g q t m → HasForm g t
   form_of q t m is = record {
@@ -260,12 +263,13 @@ module _ (g : Geometry) (p : Placement) where
   no_memory : (m : Move) → ◌≡◌ {A = Result Move MoveFault} (Ok m) (Err reading.Memory) → ⊥
   no_memory m e = cc
 
-  moved_on : (room : ℕ) (before moves : List Move) (outer : List Around) (paths : List (List Move)) (t : Token) (m : Move)
-      → length (before ++ moves) < MAX_PATH → IsMove g (after g p (before ++ moves)) t m
-      → IsNext g p false t.what (within room before moves outer paths) t (moved (within room before moves outer paths) (Ok m))
+  moved_on : (room : ℕ) (before moves : List Move) (outer : List Around) (paths : List (List Move)) (t : Token) (m :
+      Move) → length (before ++ moves) < MAX_PATH → IsMove g (after g p (before ++ moves)) t m
+      → IsNext g p false t.what (within room before moves outer paths) t (moved (within room before moves outer paths)
+      (Ok m))
   moved_on room before moves outer paths t m low is =
-      as_kind false Written (within room before moves outer paths) t (moved (within room before moves outer paths) (Ok m))
-      is.written
+      as_kind false Written (within room before moves outer paths) t (moved (within room before moves outer paths) (Ok
+      m)) is.written
       (read (Ok m) is.no_result (form_of (after g p (before ++ moves)) t m is) low is.named (no_memory m) refl)
 
   pub begun_next : (room : ℕ) (before moves : List Move) (last : Move) (outer : List Around) (paths : List (List Move))
@@ -274,8 +278,8 @@ module _ (g : Geometry) (p : Placement) where
       (Ok (within room (before ++ moves) [] ((record { before = before; moves = moves ++ last ∷ [] }) ∷ outer) paths))
   begun_next room before moves last outer paths t is =
       as_kind false Opens (within (suc room) before (moves ++ last ∷ []) outer paths) t
-      (Ok (within room (before ++ moves) [] ((record { before = before; moves = moves ++ last ∷ [] }) ∷ outer) paths)) is
-      (sym (begun_on (within (suc room) before (moves ++ last ∷ []) outer paths) room moves last))
+      (Ok (within room (before ++ moves) [] ((record { before = before; moves = moves ++ last ∷ [] }) ∷ outer) paths))
+      is (sym (begun_on (within (suc room) before (moves ++ last ∷ []) outer paths) room moves last))
 
   closed_next : (room : ℕ) (before moves now others : List Move) (outer : List Around) (paths : List (List Move))
       (t : Token) → t.what ≡ Closes
@@ -292,12 +296,13 @@ module _ (g : Geometry) (p : Placement) where
   varied {room = room} {before = before} (passed {moves = moves} {ts = ts} {paths = paths} t v is) outer old =
       let s : State = within room before moves outer (old ++ paths) in
       leads_on ts (t ∷ []) (within room before [] outer old) s s (varied v outer old) (s, passed_on s t refl is, refl)
-  varied {room = room} {before = before} (move {moves = moves} {ts = ts} {paths = paths} {t = t} {m = m} v low is) outer old =
+  varied {room = room} {before = before} (move {moves = moves} {ts = ts} {paths = paths} {t = t} {m = m} v low is) outer
+      old =
       let s : State = within room before moves outer (old ++ paths) in
       let path : List Move = before ++ (moves ++ m ∷ []) in
       let next : State = within room before (moves ++ m ∷ []) outer ((old ++ paths) ++ path ∷ []) in
-      subst (λ x. Leads g p (within room before [] outer old) (ts ++ t ∷ []) (within room before (moves ++ m ∷ []) outer x))
-      (append_assoc old paths (path ∷ []))
+      subst (λ x. Leads g p (within room before [] outer old) (ts ++ t ∷ []) (within room before (moves ++ m ∷ []) outer
+      x)) (append_assoc old paths (path ∷ []))
       (leads_on ts (t ∷ []) (within room before [] outer old) s next (varied v outer old)
       (next, moved_on room before moves outer (old ++ paths) t m low is, refl))
   varied (variation {room = room} {before = before} {others = others} {ts = ts} {us = us} {paths = paths} {more = more}

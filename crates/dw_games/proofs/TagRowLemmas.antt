@@ -1,8 +1,7 @@
 -- Lemmas on the whole tags of a text: it has one row of them, and those of a section are its own.
-use Rattle.std.proofs.Common.{◌≡◌, ◌<◌, ◌≤◌, ℕ, zero, suc, List, [], ◌∷◌, ◌++◌, length, drop, Bool}
-use Rattle.std.proofs.Common.{true}
-use Rattle.std.proofs.Common.{false, map, reverse}
-use Rattle.std.proofs.Common.{refl, sym, ap, ◌∙◌, subst, arith, append_assoc, append-nil, length-append, inl, inr}
+use Rattle.std.proofs.Common.{◌≡◌, ◌<◌, ◌≤◌, ℕ, zero, suc, List, [], ◌∷◌, ◌++◌, length, drop, Bool, true, false, map}
+use Rattle.std.proofs.Common.{reverse, refl, sym, ap, ◌∙◌, subst, arith, append_assoc, append-nil, length-append, inl}
+use Rattle.std.proofs.Common.{inr}
 use Rattle.std.proofs.Math.Seq.{drop-append_seam}
 use Rattle.std.proofs.lemmas.Bool.{and_parts, cases_Bool}
 use Rattle.std.proofs.lemmas.List.{map-append, reverse-append}
@@ -59,11 +58,12 @@ at_tag law front bytes said is (tag {bytes = more} {said = also} {tags} text tha
     (record { text = text; more = more; tag = also; joined = sym e; is = that }) in (
       tags,
       subst (λ l. AreTags l tags) same.2 are,
-      ap (λ l. record { text = l; tag = also } ∷ tags) same.0 ∙ ap (λ s. record { text = front; tag = s } ∷ tags) same.1,
+      ap (λ l. record { text = l; tag = also } ∷ tags) same.0 ∙ ap (λ s. record { text = front; tag = s } ∷ tags)
+          same.1,
     )
 
-one_row : OneTagAtFront → {text other : List ℕ} {tags others : List TagText} → AreTags text tags → AreTags other others → other ≡ text
-    → others ≡ tags
+one_row : OneTagAtFront → {text other : List ℕ} {tags others : List TagText} → AreTags text tags → AreTags other others
+    → other ≡ text → others ≡ tags
 one_row law (nothing {bytes} stops none) second e = at_nothing bytes stops none second e
 one_row law (space {byte} {bytes} is are) second e = one_row law are (at_space byte bytes is second e) refl
 one_row law (tag {bytes} {said} {tags} text is are) second e =

@@ -1,6 +1,6 @@
 -- What a reader makes of a token.
-use Rattle.std.proofs.Common.{◌≡◌, ℕ, zero, suc, ◌+◌, ◌<◌, ◌≤◌, Bool, true, false, List, [], ◌∷◌, ◌++◌, length, Option, Some, None}
-use Rattle.std.proofs.Common.{refl, sym, subst, ◌∙◌, arith, append-nil, length-append, inl, inr, Ok, Err}
+use Rattle.std.proofs.Common.{◌≡◌, ℕ, zero, suc, ◌+◌, ◌<◌, ◌≤◌, Bool, true, false, List, [], ◌∷◌, ◌++◌, length, Option}
+use Rattle.std.proofs.Common.{Some, None, refl, sym, subst, ◌∙◌, arith, append-nil, length-append, inl, inr, Ok, Err}
 use Rattle.dw_board.specs.Geometry.{Geometry}
 use Rattle.dw_board.specs.Placement.{Placement}
 use Rattle.dw_moves.specs.Moves.{Move, play, Legal, LegalAt, IsPathOf}
@@ -23,8 +23,8 @@ use Rattle.dw_games.specs.inner.Reading.{IsBefore, Opened, outermost, inner, Has
 use Rattle.dw_games.specs.inner.Refusals.{refusal_of}
 use Rattle.dw_games.specs.declared.tokens.TokenKind.TheVariants.{Written, Opens, Closes}
 use Rattle.dw_games.specs.declared.movetext.TheConstants.{MAX_OPEN, MAX_PATH}
-use Rattle.dw_games.specs.declared.fault.MovetextFaultKind.TheVariants.{Token as NoToken, Variation}
-use Rattle.dw_games.specs.declared.fault.MovetextFaultKind.TheVariants.{Unclosed, TooDeep, TooLong}
+use Rattle.dw_games.specs.declared.fault.MovetextFaultKind.TheVariants.{Token as NoToken, Variation, Unclosed, TooDeep}
+use Rattle.dw_games.specs.declared.fault.MovetextFaultKind.TheVariants.{TooLong}
 use Rattle.dw_games.specs.declared.branches.Node.{Node}
 use Rattle.dw_games.specs.declared.reader.Cursor.{Cursor}
 use Rattle.dw_games.specs.declared.reader.OpenLine.{OpenLine}
@@ -101,14 +101,14 @@ module _ {B : Type 0} (g : Geometry) (p : Placement) (ts : List Token) (r : Read
       too_deep before.0 before.1 (subst (λ x. IsOpen g p x ts h.before (before.0 ++ before.1 ∷ [])) none
       (subst (λ x. IsOpen g p h.room ts h.before x) before.2 (opened_open g p r.tree h.opened))) is
 
-  pub taken_opens : (next : Reader B) (cursor : Cursor B) → r.line.before ≡ Some cursor → length r.outer.items < MAX_OPEN
-      → t.what ≡ Opens → next.tree ≡ r.tree → next.line ≡ record { now = cursor; before = None }
+  pub taken_opens : (next : Reader B) (cursor : Cursor B) → r.line.before ≡ Some cursor → length r.outer.items <
+      MAX_OPEN → t.what ≡ Opens → next.tree ≡ r.tree → next.line ≡ record { now = cursor; before = None }
       → next.outer.items ≡ r.outer.items ++ r.line ∷ [] → HasRead g p (ts ++ t ∷ []) next
   taken_opens next cursor e fits is tree line outer =
       let room = opened_room g p r.tree h.opened in
       let left = one_less h.room (omega (arith, room, fits)) in
-      let opened = read_opens g p r.tree t cursor (subst (λ x. Opened g p r.tree x ts r.line r.outer.items h.before h.moves
-      h.paths) left.1 h.opened) is (earlier cursor e) in
+      let opened = read_opens g p r.tree t cursor (subst (λ x. Opened g p r.tree x ts r.line r.outer.items h.before
+      h.moves h.paths) left.1 h.opened) is (earlier cursor e) in
       record {
         room = left.0;
         before = h.before ++ opened.0;
@@ -201,8 +201,8 @@ module _ {B : Type 0} (g : Geometry) (p : Placement) (ts : List Token) (r : Read
 
   pub taken_move : (next : Reader B) (m : Move) (node : Node) → IsMove g r.line.now.position t m
       → r.line.now.moves < MAX_PATH
-      → ((b : List Move) → beginning_at r.tree (place_of r.line.now.node) ≡ Some b → IsNoted r.tree (b ++ m ∷ []) next.tree)
-      → ((b : List Move) → beginning_at r.tree (place_of r.line.now.node) ≡ Some b
+      → ((b : List Move) → beginning_at r.tree (place_of r.line.now.node) ≡ Some b → IsNoted r.tree (b ++ m ∷ [])
+      next.tree) → ((b : List Move) → beginning_at r.tree (place_of r.line.now.node) ≡ Some b
       → slice_get next.tree node.0 ≡ Some (b ++ m ∷ []))
       → next.line ≡ record {
         now = record {
@@ -220,8 +220,8 @@ module _ {B : Type 0} (g : Geometry) (p : Placement) (ts : List Token) (r : Read
         moves = h.moves ++ m ∷ [];
         paths = h.paths ++ (path ++ m ∷ []) ∷ [];
         opened =
-            rw (line, outer) (read_move g p r.tree next.tree h.room ts r.line r.outer.items h.before h.moves h.paths t m node
-            h.opened (omega (arith, short, length_now)) (subst (λ x. IsMove g x t m) position_now is)
+            rw (line, outer) (read_move g p r.tree next.tree h.room ts r.line r.outer.items h.before h.moves h.paths t m
+            node h.opened (omega (arith, short, length_now)) (subst (λ x. IsMove g x t m) position_now is)
             (noted path known_now) (there path known_now));
         distinct = distinct_noted h.paths r.tree next.tree (path ++ m ∷ []) h.distinct (noted path known_now);
       }

@@ -11,7 +11,8 @@ use Rattle.dw_notation.specs.declared.problems.ProblemFault.{ProblemFault}
 use Rattle.dw_notation.specs.declared.problems.ProblemFault.TheVariants.{TooManyProblems}
 use Rattle.dw_games.specs.Games.{Said, said_with, HasGames, NumberedGame, games_from}
 use Rattle.dw_games.specs.Games.HasGames.{nothing as no_games, other as no_section, comment as no_comment}
-use Rattle.dw_games.specs.Games.HasGames.{last_comment as open_comment, section as with_section, last_section as with_last}
+use Rattle.dw_games.specs.Games.HasGames.{last_comment as open_comment, section as with_section}
+use Rattle.dw_games.specs.Games.HasGames.{last_section as with_last}
 use Rattle.dw_games.specs.GameLaws.{SaysPosition, GamesTellSections}
 use Rattle.dw_games.proofs.SectionLemmas.{section_closed, not_refused}
 

@@ -9,9 +9,8 @@ use Rattle.std.specs.List.{list_all}
 use Rattle.dw_board.specs.FenTokens.{is_digit}
 use Rattle.dw_notation.specs.Tags.{is_space, ends_line}
 use Rattle.dw_games.specs.Tokens.{IsRun, IsToken, Token, AreTokens, begins_with, is_inside, is_dot, is_written}
-use Rattle.dw_games.specs.Tokens.{is_praise, praise, begins_token, unknown}
-use Rattle.dw_games.specs.Tokens.{in_braces, unclosed, numbered_mark, number, written}
-use Rattle.dw_games.specs.Tokens.{nothing, blank, token}
+use Rattle.dw_games.specs.Tokens.{is_praise, praise, begins_token, unknown, in_braces, unclosed, numbered_mark, number}
+use Rattle.dw_games.specs.Tokens.{written, nothing, blank, token}
 use Rattle.dw_games.specs.declared.tokens.TokenKind.{TokenKind}
 use Rattle.dw_games.specs.declared.tokens.TokenKind.TheVariants.{Comment, Passed, Written, CutOff, Unknown}
 
@@ -135,8 +134,8 @@ unknown_token fresh b rest space digit praised brace semi dot sign opened closed
 -- ---- rows of tokens
 -- a token stands in front of those behind it
 pub token_next : (place n m : ℕ) (fresh : Bool) (what : TokenKind) (text rest left : List ℕ)
-    (tokens : List Token) → IsToken fresh what (take n text) (drop n text) → n ≤ length text → drop n text ≡ rest → place + n ≡ m
-    → AreTokens m false rest tokens left
+    (tokens : List Token) → IsToken fresh what (take n text) (drop n text) → n ≤ length text → drop n text ≡ rest →
+    place + n ≡ m → AreTokens m false rest tokens left
     → AreTokens place fresh text ((record { what = what; text = take n text; place = place }) ∷ tokens) left
 token_next place n m fresh what text rest left tokens is fits same sum are =
     let ahead : AreTokens (place + length (take n text)) false (drop n text) tokens left =

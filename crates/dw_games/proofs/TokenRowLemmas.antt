@@ -1,6 +1,7 @@
 -- Each text has one row of tokens.
-use Rattle.std.proofs.Common.{◌≡◌, ◌==◌, ℕ, zero, suc, ◌+◌, ◌<◌, ◌≤◌, Bool, true, false, ◌&&◌, ◌||◌, List, [], ◌∷◌, ◌++◌}
-use Rattle.std.proofs.Common.{length, take, drop, refl, sym, ap, subst, ◌∙◌, arith, inl, inr, append_assoc, append-nil, length-append, add-one}
+use Rattle.std.proofs.Common.{◌≡◌, ◌==◌, ℕ, zero, suc, ◌+◌, ◌<◌, ◌≤◌, Bool, true, false, ◌&&◌, ◌||◌, List, [], ◌∷◌}
+use Rattle.std.proofs.Common.{◌++◌, length, take, drop, refl, sym, ap, subst, ◌∙◌, arith, inl, inr, append_assoc}
+use Rattle.std.proofs.Common.{append-nil, length-append, add-one}
 use Rattle.std.specs.Prelude.{if◌then◌else◌}
 use Rattle.std.specs.List.{list_all}
 use Rattle.std.proofs.Math.Seq.{take-append_seam, drop-append_seam}
@@ -8,18 +9,19 @@ use Rattle.std.proofs.lemmas.List.{drop_all, nil_from_length}
 use Rattle.std.proofs.lemmas.Bool.{cases_Bool, or_cases, eqb-true}
 use Rattle.dw_board.specs.FenTokens.{is_digit}
 use Rattle.dw_notation.specs.Tags.{is_space, ends_line}
-use Rattle.dw_games.specs.Tokens.{IsRun, IsToken, Token, AreTokens, begins_with, is_inside, is_in_line, is_dot, is_written}
-use Rattle.dw_games.specs.Tokens.{is_praise, begins_token, in_braces, to_line_end, whole_line, number, numbered_mark, praise}
-use Rattle.dw_games.specs.Tokens.{opens, closes, written, open_result, unclosed, no_number, unknown, nothing, blank, token}
+use Rattle.dw_games.specs.Tokens.{IsRun, IsToken, Token, AreTokens, begins_with, is_inside, is_in_line, is_dot}
+use Rattle.dw_games.specs.Tokens.{is_written, is_praise, begins_token, in_braces, to_line_end, whole_line, number}
+use Rattle.dw_games.specs.Tokens.{numbered_mark, praise, opens, closes, written, open_result, unclosed, no_number}
+use Rattle.dw_games.specs.Tokens.{unknown, nothing, blank, token}
 use Rattle.dw_games.specs.Laws.{HasOneRow}
 use Rattle.dw_games.specs.declared.tokens.TokenKind.{TokenKind}
-use Rattle.dw_games.specs.declared.tokens.TokenKind.TheVariants.{Comment, Passed, Written, Opens, Closes, CutOff, Unknown}
+use Rattle.dw_games.specs.declared.tokens.TokenKind.TheVariants.{Comment, Passed, Written, Opens, Closes, CutOff}
+use Rattle.dw_games.specs.declared.tokens.TokenKind.TheVariants.{Unknown}
 use Rattle.std.proofs.lemmas.List.{length-drop}
 use Rattle.std.proofs.lemmas.Bool.{cases_lt}
 use Rattle.std.proofs.lemmas.Bool.Decides.{eqb_tells}
 use Rattle.dw_games.proofs.TokenLemmas.{absent, comment_token, unclosed_token, mark_token, dots_token, praise_token}
-use Rattle.dw_games.proofs.TokenLemmas.{number_token, written_token, unknown_token, token_next}
-use Rattle.dw_games.proofs.TokenLemmas.{no_digit}
+use Rattle.dw_games.proofs.TokenLemmas.{number_token, written_token, unknown_token, token_next, no_digit}
 use Rattle.std.proofs.lemmas.Bool.{and_parts}
 
 -- the longest run at the front
@@ -82,7 +84,8 @@ front_praise fresh b bs is =
 
 digit_by : (fresh : Bool) (b : ℕ) (bs : List ℕ) → is_digit b ≡ true
     → (d : (n : ℕ) × (n ≤ length bs) × IsRun is_digit (take n bs) (drop n bs))
-    → (n : ℕ) × (n ≤ length (drop d.0 bs)) × IsRun is_dot (take n (drop d.0 bs)) (drop n (drop d.0 bs)) → Front fresh b bs
+    → (n : ℕ) × (n ≤ length (drop d.0 bs)) × IsRun is_dot (take n (drop d.0 bs)) (drop n (drop d.0 bs)) → Front fresh b
+    bs
 digit_by fresh b bs is d (zero, fits, run) =
     let w = run_exists is_written bs in
     (Written, w.0, w.1, written_token fresh b bs d.0 w.0 is d.1 d.2 run.ends w.1 w.2)
@@ -219,7 +222,8 @@ no_dot [] (y ∷ after) all ends dotless =
 no_dot (x ∷ xs) after all ends dotless = elim (cases_Bool (is_digit x)) [
   | inl is ↦
       rw (run_yes is_digit x (xs ++ after) is) (no_dot xs after (and_parts _ _ all).1 ends (λ h. dotless (rw is h)))
-  | inr other ↦ rw (run_no is_digit x (xs ++ after) other) (run_no is_dot x (xs ++ after) (no_dot_written x (and_parts _ _ all).0))
+  | inr other ↦ rw (run_no is_digit x (xs ++ after) other) (run_no is_dot x (xs ++ after) (no_dot_written x (and_parts _
+      _ all).0))
 ]
 
 -- the first byte of marks of praise
@@ -445,7 +449,14 @@ row_one {ts = ts} {us = us} h k =
     let there = row_front h k refl refl refl in
     let back = row_front k h refl refl refl in
     let none : there.0 ≡ [] =
-    nil_from_length there.0 (omega (arith, ap length there.1, ap length back.1, length-append ts there.0, length-append us back.0)) in
+    nil_from_length there.0 (omega (
+      arith,
+      ap length there.1,
+      ap length back.1,
+      length-append ts there.0,
+      length-append
+          us back.0,
+    )) in
     sym (there.1 ∙ (ap (λ x. ts ++ x) none ∙ append-nil ts))
 
 pub one_row : (text : List ℕ) → HasOneRow text

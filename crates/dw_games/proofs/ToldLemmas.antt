@@ -16,7 +16,8 @@ too_long : (m n : ℕ) → n < m → m ≤ n → ⊥
 too_long m n less more = omega arith
 
 both_large : (g : Geometry) (p : Placement) (text : List ℕ) {part : List ℕ} {what : MovetextFaultKind} {place : ℕ}
-    → IsFirstFault g p part what place → 1048576 < length part → 1048576 < length text → IsFirstFault g p text what place
+    → IsFirstFault g p part what place → 1048576 < length part → 1048576 < length text → IsFirstFault g p text what
+    place
 both_large g p text (too_large large) long whole = too_large whole
 both_large g p text (at_token before t rest size tokens fault) long whole = absurd (too_long _ _ long size)
 both_large g p text (at_end tokens size are fault) long whole = absurd (too_long _ _ long size)

@@ -1,6 +1,6 @@
 -- What the calls of a tree say of its paths.
-use Rattle.std.proofs.Common.{◌≡◌, ℕ, ◌+◌, ◌<◌, ◌≤◌, List, [], ◌∷◌, ◌++◌, length, Option, Some, None}
-use Rattle.std.proofs.Common.{refl, sym, ap, subst, ◌∙◌, arith, inl, inr, length-append}
+use Rattle.std.proofs.Common.{◌≡◌, ℕ, ◌+◌, ◌<◌, ◌≤◌, List, [], ◌∷◌, ◌++◌, length, Option, Some, None, refl, sym, ap}
+use Rattle.std.proofs.Common.{subst, ◌∙◌, arith, inl, inr, length-append}
 use Rattle.std.specs.Prelude.{MatchOption, IsSome}
 use Rattle.std.specs.List.{slice_get}
 use Rattle.std.proofs.lemmas.Bool.{true≢false}
@@ -10,15 +10,15 @@ use Rattle.dw_moves.specs.Moves.{Move}
 use Rattle.dw_games.specs.declared.branches.Node.{Node}
 use Rattle.dw_games.specs.Walk.{place_of, beginning_at, IsNext}
 use Rattle.dw_games.specs.inner.Noting.{IsNoted}
-use Rattle.dw_games.specs.inner.Branches.{BranchStep, path_to, paths_of, IsFirstChild, IsPlace, AreLinked}
-use Rattle.dw_games.specs.inner.Branches.{IsLastChild, Hang, steps_of, firsts_of, nexts_of, first_linked, next_linked}
+use Rattle.dw_games.specs.inner.Branches.{BranchStep, path_to, paths_of, IsFirstChild, IsPlace, AreLinked, IsLastChild}
+use Rattle.dw_games.specs.inner.Branches.{Hang, steps_of, firsts_of, nexts_of, first_linked, next_linked}
 use Rattle.dw_games.specs.declared.branches.Branch.{Branch}
 use Rattle.std.proofs.lemmas.List.{map-append}
 use Rattle.dw_games.proofs.LinkLemmas.{linked_new}
 use Rattle.dw_games.proofs.BranchLemmas.{steps_length}
 use Rattle.dw_games.proofs.PlaceLemmas.{same, got_last}
-use Rattle.dw_games.proofs.PathLemmas.{length_paths, last_same, at_member, member_at, grown_append, node_path, path_node}
-use Rattle.dw_games.proofs.PathLemmas.{goes_step, first_next, parent_place}
+use Rattle.dw_games.proofs.PathLemmas.{length_paths, last_same, at_member, member_at, grown_append, node_path}
+use Rattle.dw_games.proofs.PathLemmas.{path_node, goes_step, first_next, parent_place}
 
 pub match_by : {A : Type 0} (o : Option A) (P : Type 0) (Q : A → Type 0) → (o ≡ None → P)
     → ((x : A) → o ≡ Some x → Q x) → MatchOption o P Q

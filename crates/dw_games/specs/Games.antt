@@ -1,6 +1,6 @@
 -- The games of a text of tags: what each of its sections says, with the section's bytes and the movetext behind them.
-use Rattle.std.specs.Prelude.{◌≡◌, ◌==◌, ◌+◌, ◌||◌, ◌⊎◌, if◌then◌else◌, ℕ, not, List, [], ◌∷◌, ◌++◌, length, take}
-use Rattle.std.specs.Prelude.{Bool, true, false, Ok, Err, nat_lt}
+use Rattle.std.specs.Prelude.{◌≡◌, ◌==◌, ◌+◌, ◌||◌, ◌⊎◌, if◌then◌else◌, ℕ, not, List, [], ◌∷◌, ◌++◌, length, take, Bool}
+use Rattle.std.specs.Prelude.{true, false, Ok, Err, nat_lt}
 use Rattle.dw_board.specs.Geometry.{Geometry}
 use Rattle.dw_notation.specs.TextLines.{Found, without_mark}
 use Rattle.dw_notation.specs.Tags.{open_bracket, open_brace, close_brace, is_space, Tag, IsGap, IsSection, SectionSays}

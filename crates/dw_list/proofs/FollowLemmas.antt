@@ -180,8 +180,8 @@ module _ (g : Geometry) (old new : LineStack) (end : Bool) (h : IsListed g old n
       ap (λ (s : LineStack). s.moves) r.1 ∙ ap (λ (s : LineStack). s.moves) h.is
 
   -- the move does not keep a win
-  pub follow_lost : {B : Type 0} (now : LineStack) (t : Candidate B) (m : Move) → SomePassed new now → IsCandidate g now.levels t
-      → t.mv ≡ m → (Keeps g t.attacks t.after t.left → ⊥) → GoOnWith g old.levels m → ⊥
+  pub follow_lost : {B : Type 0} (now : LineStack) (t : Candidate B) (m : Move) → SomePassed new now → IsCandidate g
+      now.levels t → t.mv ≡ m → (Keeps g t.attacks t.after t.left → ⊥) → GoOnWith g old.levels m → ⊥
   follow_lost now t m passed candidate is lost on =
       let r = passed h.last h.outer h.listing.moves listed_levels in
       let same = levels_last on.last h.last on.outer h.outer (sym on.are ∙ h.are) in
@@ -197,8 +197,8 @@ module _ (g : Geometry) (old new : LineStack) (end : Bool) (h : IsListed g old n
       keeps in
       lost (subst (λ z. Keeps g t.attacks t.after z) (sym candidate.left)
       (subst (λ z. Keeps g t.attacks z (left_after candidate.last.attacks candidate.last.left)) (sym candidate.after)
-      (subst (λ z. Keeps g z (play g candidate.last.position t.mv) (left_after candidate.last.attacks candidate.last.left))
-      (sym candidate.attacks) here)))
+      (subst (λ z. Keeps g z (play g candidate.last.position t.mv) (left_after candidate.last.attacks
+      candidate.last.left)) (sym candidate.attacks) here)))
 
 -- ALL MOVES
 
@@ -358,8 +358,8 @@ follows_place listed g p n l i m s h low at barred =
     }
 
 -- the list lacks a move
-pub follows_short : MovesListed → (g : Geometry) (p : Placement) (n : ℕ) (l : List Move) (s new : LineStack) (end : Bool)
-    → Follows g p n l (length l) s → IsListed g s new end → end ≡ false → LeavesAt g p n l (length l + 1)
+pub follows_short : MovesListed → (g : Geometry) (p : Placement) (n : ℕ) (l : List Move) (s new : LineStack) (end :
+    Bool) → Follows g p n l (length l) s → IsListed g s new end → end ≡ false → LeavesAt g p n l (length l + 1)
 follows_short listed g p n l s new end h k no_end =
     let leads = follows_leads g p n l (length l) s h in
     let f = h.unlisted.last in

@@ -51,8 +51,8 @@ pub line_or_place : MovesListed → WinsAreDecided → (g : Geometry) (p : Place
 line_or_place listed decided g p n l = elim (goes_on_or_not listed decided g true p n l) [
   | inl h ↦ inl h
   | inr none ↦
-      let found = find_place listed decided g p n l none (length l) 0 (omega arith) (λ i low high. absurd (omega arith)) in
-      inr (found.0, place_of g p n l found.0 found.1)
+      let found = find_place listed decided g p n l none (length l) 0 (omega arith) (λ i low high. absurd (omega arith))
+      in inr (found.0, place_of g p n l found.0 found.1)
 ]
 
 pub place_both : (g : Geometry) (p : Placement) (n : ℕ) (l : List Move) (place : ℕ) → Line g p n l

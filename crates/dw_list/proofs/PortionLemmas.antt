@@ -1,6 +1,6 @@
 -- What one turn of taking lines in portions does.
-use Rattle.std.proofs.Common.{ℕ, ◌≤◌, max, refl}
-use Rattle.std.proofs.Common.{◌≡◌, true, false, List, [], ◌∷◌, ◌++◌, map, reverse, sym, ap, ◌∙◌, subst}
+use Rattle.std.proofs.Common.{ℕ, ◌≤◌, max, refl, ◌≡◌, true, false, List, [], ◌∷◌, ◌++◌, map, reverse, sym, ap, ◌∙◌}
+use Rattle.std.proofs.Common.{subst}
 use Rattle.std.proofs.lemmas.List.{map-append}
 use Rattle.dw_board.specs.Geometry.{Geometry}
 use Rattle.dw_moves.specs.Moves.{Move}
@@ -22,8 +22,8 @@ module _ (g : Geometry) (a b c : LineStack) (same : b ≡ a) where
       subst (Gives g s c) (ap (map f) (sym e)) (gives_same g s a c (map f xs) given (subst (λ z. SameToCome g z c) same
       h))
 
-  pub taken_more : {X : Type 0} (f : X → List Move) (s : LineStack) (xs ys zs : List X) (x : X) (l : List Move) → ys ≡ xs
-      → zs ≡ ys ++ x ∷ [] → f x ≡ l → l ≡ reverse c.line → GivesNext g true b c → Gives g s a (map f xs)
+  pub taken_more : {X : Type 0} (f : X → List Move) (s : LineStack) (xs ys zs : List X) (x : X) (l : List Move) → ys ≡
+      xs → zs ≡ ys ++ x ∷ [] → f x ≡ l → l ≡ reverse c.line → GivesNext g true b c → Gives g s a (map f xs)
       → Gives g s c (map f zs)
   taken_more f s xs ys zs x l e is line at h given =
       let all : map f zs ≡ map f xs ++ (reverse c.line ∷ []) =

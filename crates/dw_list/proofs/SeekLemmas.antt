@@ -43,7 +43,8 @@ append_last [] rest m = refl
 append_last (x ∷ before) rest m = ap (λ z. x ∷ z) (append_last before rest m)
 
 first_same : {B : Type 0} (g : Geometry) (f : Level) (outer : List Level) (rest : List Move) (levels : List Level)
-    (t : Candidate B) → levels ≡ with_ahead f rest ∷ outer → IsCandidate g levels t → first_ahead (Some rest) ≡ Some t.mv
+    (t : Candidate B) → levels ≡ with_ahead f rest ∷ outer → IsCandidate g levels t → first_ahead (Some rest) ≡ Some
+    t.mv
 first_same g f outer rest levels t is candidate =
     let same = levels_last candidate.last (with_ahead f rest) candidate.outer outer (sym candidate.are ∙ is) in
     subst (λ (z : Level). first_ahead z.ahead ≡ Some t.mv) same candidate.first

@@ -194,8 +194,8 @@ with_both s p n line line' old new is e f = subst (λ (z : LineStack). standing 
     ≡ record z { line = drop 1 z.line; levels = drop 1 z.levels }) is (λ i. standing p n (e i) (f i))
 
 -- the candidate of the last level
-pub same_candidate : {B : Type 0} (g : Geometry) (levels outer : List Level) (f : Level) (t : Candidate B) → levels ≡ f ∷ outer
-    → IsCandidate g levels t → (first_ahead f.ahead ≡ Some t.mv) × (t.after ≡ play g f.position t.mv)
+pub same_candidate : {B : Type 0} (g : Geometry) (levels outer : List Level) (f : Level) (t : Candidate B) → levels ≡ f
+    ∷ outer → IsCandidate g levels t → (first_ahead f.ahead ≡ Some t.mv) × (t.after ≡ play g f.position t.mv)
     × (t.attacks ≡ f.attacks) × (t.left ≡ left_after f.attacks f.left)
 same_candidate g levels outer f t are candidate =
     let same : candidate.last ≡ f = heads candidate.last f candidate.outer outer (sym candidate.are ∙ are) in
@@ -213,7 +213,8 @@ same_candidate g levels outer f t are candidate =
 pub seen_levels : (g : Geometry) (inside seen : LineStack) → inside ≡ seen
     → AreLevels g inside.position inside.moves inside.levels inside.line
     → AreLevels g seen.position seen.moves seen.levels seen.line
-seen_levels g inside seen is levels = subst (λ (s : LineStack). AreLevels g s.position s.moves s.levels s.line) is levels
+seen_levels g inside seen is levels = subst (λ (s : LineStack). AreLevels g s.position s.moves s.levels s.line) is
+    levels
 
 -- the number of levels is what is seen of it
 pub seen_fits : (p : Placement) (n : ℕ) (line : List Move) (items : List Level) (seen : LineStack)

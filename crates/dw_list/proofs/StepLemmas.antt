@@ -316,7 +316,8 @@ given_back keys g b c s rest all = record {
   );
 }
 
-pub gives_first : MovesHaveKeys → (g : Geometry) (a b c : LineStack) → SameLines g a b → IsGiven g b c → GivesFirst g a c
+pub gives_first : MovesHaveKeys → (g : Geometry) (a b c : LineStack) → SameLines g a b → IsGiven g b c → GivesFirst g a
+    c
 gives_first keys g a b c h s = record {
   position = s.position ∙ h.position;
   moves = s.moves ∙ h.moves;
@@ -365,8 +366,8 @@ none_first g a b none h = let first = h.first [] none in let e = first.1 in cc
 
 -- STEPS OF THE STACK ITSELF
 
-module _ (g : Geometry) (s : LineStack) (levels : AreLevels g s.position s.moves s.levels s.line) (fits : length s.levels
-    ≤ 2 * s.moves) where
+module _ (g : Geometry) (s : LineStack) (levels : AreLevels g s.position s.moves s.levels s.line) (fits : length
+    s.levels ≤ 2 * s.moves) where
   -- a fact of a stack with these levels
   opened : (f : Level) (outer : List Level) → s.levels ≡ f ∷ outer → AreLevels g s.position s.moves (f ∷ outer) s.line
       × (length outer + 1 ≤ 2 * s.moves)

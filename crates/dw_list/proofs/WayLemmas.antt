@@ -15,7 +15,8 @@ use Rattle.dw_solve.specs.Lines.{Before}
 use Rattle.dw_list.specs.LineStack.{BeginsAmong}
 use Rattle.dw_list.specs.inner.Ways.{GoesOn, IsNext, left_after, AreWays, AreWaysAmong, Keeps, IsThrough}
 use Rattle.dw_list.specs.inner.Ways.{AreWaysThrough}
-use Rattle.dw_solve.specs.inner.ListLemmas.{none_listed, one_listed, listed_as, listed_then, listed_map, ascending_parts}
+use Rattle.dw_solve.specs.inner.ListLemmas.{none_listed, one_listed, listed_as, listed_then, listed_map}
+use Rattle.dw_solve.specs.inner.ListLemmas.{ascending_parts}
 
 pub goes_to : (g : Geometry) (a : Bool) (p : Placement) (n : ℕ) (m : Move) (l : List Move) → IsNext g a p n m
     → GoesOn g (not a) (play g p m) (left_after a n) l → GoesOn g a p n (m ∷ l)

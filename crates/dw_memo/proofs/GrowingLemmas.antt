@@ -1,6 +1,7 @@
 -- A table of buckets while it doubles.
 use Rattle.std.proofs.Common.{◌≡◌, ◌≢◌, ℕ, zero, suc, ◌<◌, ◌≤◌, ◌+◌, ◌*◌, ◌/◌, ◌^◌, ◌⊎◌, [], ◌∷◌, ◌++◌, List, length}
-use Rattle.std.proofs.Common.{slice_get, Bool, true, false, Some, refl, sym, ap, ◌∙◌, subst, inl, inr, arith, append_assoc}
+use Rattle.std.proofs.Common.{slice_get, Bool, true, false, Some, refl, sym, ap, ◌∙◌, subst, inl, inr, arith}
+use Rattle.std.proofs.Common.{append_assoc}
 use Rattle.std.specs.Prelude.{if◌then◌else◌}
 use Rattle.std.proofs.lemmas.Bool.{cases_lt}
 use Rattle.std.proofs.lemmas.List.{append-nil}
@@ -98,7 +99,8 @@ pub none_emptied : {X : Type 0} (entries : X → Content) (size : ℕ) (xs : Lis
 none_emptied entries size xs all = record { all = all; empty = λ k x l h. absurd (omega (arith, l)) }
 
 pub one_emptied : {X : Type 0} (entries : X → Content) (size count : ℕ) (xs : List X) (y : X)
-    → IsEmptied entries size count xs → entries y ≡ [] → count < size → IsEmptied entries size (count + 1) (set xs count y)
+    → IsEmptied entries size count xs → entries y ≡ [] → count < size → IsEmptied entries size (count + 1) (set xs count
+    y)
 one_emptied entries size count xs y e none inside = record {
   all = length-set xs count y ∙ e.all;
   empty = λ k x l h. elim (set_read xs count y k x (omega (arith, inside, e.all)) h) [

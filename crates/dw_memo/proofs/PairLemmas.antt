@@ -1,6 +1,6 @@
 -- Two places side by side.
-use Rattle.std.proofs.Common.{◌≡◌, ◌≢◌, ℕ, Bool, true, false, cond, ◌++◌, Option, Some, None, is_some, refl, sym}
-use Rattle.std.proofs.Common.{◌∙◌, subst, inl, inr}
+use Rattle.std.proofs.Common.{◌≡◌, ◌≢◌, ℕ, Bool, true, false, cond, ◌++◌, Option, Some, None, is_some, refl, sym, ◌∙◌}
+use Rattle.std.proofs.Common.{subst, inl, inr}
 use Rattle.dw_board.specs.Geometry.{Geometry}
 use Rattle.dw_board.specs.Lists.{Member}
 use Rattle.dw_board.specs.Placement.{Placement}
@@ -16,8 +16,7 @@ use Rattle.dw_memo.specs.inner.Pairs.{IsChoice}
 use Rattle.dw_memo.specs.inner.Slots.{Place, standing}
 use Rattle.dw_memo.specs.inner.Growing.{IsSplit}
 use Rattle.dw_memo.specs.inner.Keeping.{bounds_in}
-use Rattle.dw_memo.proofs.BesideLemmas.{appended, map_joined, map_apart, noted_before}
-use Rattle.dw_memo.proofs.BesideLemmas.{noted_behind}
+use Rattle.dw_memo.proofs.BesideLemmas.{appended, map_joined, map_apart, noted_before, noted_behind}
 use Rattle.dw_memo.proofs.EntryLemmas.{position_held, bounds_held}
 use Rattle.dw_memo.proofs.NoteLemmas.{unchanged}
 use Rattle.dw_memo.proofs.SlotLemmas.{found, place_map}

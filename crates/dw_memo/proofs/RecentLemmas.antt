@@ -320,12 +320,14 @@ module _ (c : LruCache Placement Fact) (k : Placement) (v : Fact) (r : IsRecent 
         ];
         kept = λ q. inl refl;
         missing = entry_of d ∷ [];
-        are_missing = one_missing (content_of c.entries) k v.bounds (content_of (after None)) (entry_of d) (inr (was, other))
-            (λ m. elim m [
-              | inl q ↦ other (ap (λ (e : Entry). e.position) q)
-              | inr n ↦ at_apart (c.cap - 1) c.entries d r.map last
-                  (position_held (entry_of d) (content_of (take (c.cap - 1) c.entries)) n)
-            ])
+        are_missing = one_missing (content_of c.entries) k v.bounds (content_of (after None)) (entry_of d) (inr (
+          was,
+          other,
+        )) (λ m. elim m [
+          | inl q ↦ other (ap (λ (e : Entry). e.position) q)
+          | inr n ↦ at_apart (c.cap - 1) c.entries d r.map last
+              (position_held (entry_of d) (content_of (take (c.cap - 1) c.entries)) n)
+        ])
             (inl (inl refl))
             (λ e m. elim (taken_most (c.cap - 1) c.entries d e last (omega (arith, r.fits, r.some_room)) m)
             [ inl n ↦ inr (inl (inr n)) | inr q ↦ inr (inr q) ]);
@@ -363,7 +365,8 @@ module _ (c : LruCache Placement Fact) (k : Placement) (v : Fact) (r : IsRecent 
 
   -- a pair came out, the position's own one or another
   noted_some : (d : Pair) → displaced same c k v ≡ Some d
-      → IsNote (content_of c.entries) k v.bounds Kept (content_of (put_entries same c k v)) 0 (from_bool (not (same d.0 k)))
+      → IsNote (content_of c.entries) k v.bounds Kept (content_of (put_entries same c k v)) 0 (from_bool (not (same d.0
+      k)))
   noted_some d h = some_at (lookup_entry (same k) c.entries) d (same d.0 k) refl (sym out-is ∙ h) refl
 
   none_found : (o : Option Pair) → lookup_entry (same k) c.entries ≡ o → option_map (λ (e : Pair). e.1) o ≡ None
@@ -389,8 +392,8 @@ module _ (c new : LruCache Placement Fact) (k : Placement) (v : Fact) (r : IsRec
   note_some e d n h q =
       subst (λ (z : LruCache Placement Fact). IsNote (content_of c.entries) k v.bounds Kept (content_of z.entries) 0 n)
       (sym e)
-      (subst (λ (m : ℕ). IsNote (content_of c.entries) k v.bounds Kept (content_of (put_entries same c k v)) 0 m) (sym q)
-      (noted_some c k v r d h))
+      (subst (λ (m : ℕ). IsNote (content_of c.entries) k v.bounds Kept (content_of (put_entries same c k v)) 0 m) (sym
+      q) (noted_some c k v r d h))
 
   pub note_none : new ≡ lru_cache (put_entries same c k v) c.cap → displaced same c k v ≡ None
       → IsNote (content_of c.entries) k v.bounds Kept (content_of new.entries) 0 0

@@ -15,8 +15,8 @@ use Rattle.dw_moves.specs.Moves.{IsForward, Move, Quiet, ray, In}
 use Rattle.dw_board.specs.Lists.{Member, NoRepeat}
 use Rattle.dw_moves.specs.inner.MoveLemmas.{same_move}
 use Rattle.dw_moves.specs.inner.MemberLemmas.{mem_map, mem_map_back}
-use Rattle.dw_moves.specs.inner.Plain.{may_go, quiet_for, targets_of, targets, quiet_to, Adds, AreThose}
-use Rattle.dw_moves.specs.inner.Plain.{ManSteps, KingGoes}
+use Rattle.dw_moves.specs.inner.Plain.{may_go, quiet_for, targets_of, targets, quiet_to, Adds, AreThose, ManSteps}
+use Rattle.dw_moves.specs.inner.Plain.{KingGoes}
 use Rattle.dw_moves.proofs.ExactLemmas.{option_cases, same_side_refl}
 use Rattle.dw_moves.proofs.StepLemmas.{none_some, some_inj, step_is}
 use Rattle.dw_moves.proofs.StepBackLemmas.{step_back}

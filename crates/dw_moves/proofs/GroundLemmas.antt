@@ -1,6 +1,5 @@
 -- The sets of a position without one of its pieces.
-use Rattle.std.proofs.Common.{◌≡◌, ◌≢◌, ℕ, ◌≤◌, sym, ap, ◌∙◌, subst, None, is_some, inl, inr, arith}
-use Rattle.std.proofs.Common.{refl}
+use Rattle.std.proofs.Common.{◌≡◌, ◌≢◌, ℕ, ◌≤◌, sym, ap, ◌∙◌, subst, None, is_some, inl, inr, arith, refl}
 use Rattle.std.proofs.lemmas.Bool.{true≢false}
 use Rattle.std.specs.FinSet as fin
 use Rattle.dw_board.specs.declared.piece.Side.{Side}

@@ -1,6 +1,5 @@
 -- Pieces of the side to move, and whether it has a legal move.
-use Rattle.std.proofs.Common.{◌≡◌, ℕ, ◌<◌, zero, suc, refl, sym, ◌∙◌, inl, inr, ◌⊎◌, arith}
-use Rattle.std.proofs.Common.{false, true}
+use Rattle.std.proofs.Common.{◌≡◌, ℕ, ◌<◌, zero, suc, refl, sym, ◌∙◌, inl, inr, ◌⊎◌, arith, false, true}
 use Rattle.std.proofs.lemmas.Bool.{true≢false}
 use Rattle.std.specs.Prelude.{◌↔◌, Bool, IsTrue}
 use Rattle.std.specs.FinSet as fin

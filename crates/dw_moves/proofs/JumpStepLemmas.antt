@@ -1,6 +1,6 @@
 -- How the jumps of a piece are found square by square.
-use Rattle.std.proofs.Common.{◌≡◌, ℕ, List, [], ◌∷◌, ◌++◌, map, refl, sym, ap, ◌∙◌, inl}
-use Rattle.std.proofs.Common.{inr, true, false, Some, None, append_assoc, append-nil}
+use Rattle.std.proofs.Common.{◌≡◌, ℕ, List, [], ◌∷◌, ◌++◌, map, refl, sym, ap, ◌∙◌, inl, inr, true, false, Some, None}
+use Rattle.std.proofs.Common.{append_assoc, append-nil}
 use Rattle.std.proofs.lemmas.List.{map-append}
 use Rattle.dw_board.specs.declared.piece.Kind.{Kind}
 use Rattle.dw_board.specs.declared.piece.Kind.TheVariants.{Man, King}

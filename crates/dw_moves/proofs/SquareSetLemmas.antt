@@ -1,6 +1,6 @@
 -- Members of sets of squares.
-use Rattle.std.proofs.Common.{◌≡◌, ◌≢◌, ℕ, ◌+◌, ◌<◌, ◌≤◌, List, [], ◌∷◌, length, ◌-◌, refl, sym, ap, ◌∙◌, ◌⊎◌, inl}
-use Rattle.std.proofs.Common.{inr, ◌↔◌, true, false, ◌||◌, ◌&&◌, not, Bool, eqb, cond, arith}
+use Rattle.std.proofs.Common.{◌≡◌, ◌≢◌, ℕ, ◌+◌, ◌<◌, ◌≤◌, List, [], ◌∷◌, length, ◌-◌, refl, sym, ap, ◌∙◌, ◌⊎◌, inl, inr}
+use Rattle.std.proofs.Common.{◌↔◌, true, false, ◌||◌, ◌&&◌, not, Bool, eqb, cond, arith}
 use Rattle.std.proofs.lemmas.Bool.{true≢false, or_cases, or_left, or_right, and_parts, and_from, cases_Bool}
 use Rattle.std.proofs.lemmas.Bool.{not_from_true, not_from_false, eq-eqb, eqb-true, ne_eqb, cases_eq}
 use Rattle.std.specs.Prelude.{IsTrue}

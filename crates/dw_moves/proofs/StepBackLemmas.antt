@@ -6,8 +6,7 @@ use Rattle.std.proofs.lemmas.Bool.{lt-ltb}
 use Rattle.std.proofs.Math.Nat.{div-add-mod}
 use Rattle.dw_board.specs.declared.board.Dir.{Dir}
 use Rattle.dw_board.specs.declared.board.Dir.TheVariants.{UpLeft, UpRight, DownLeft, DownRight}
-use Rattle.dw_board.specs.Geometry.{Geometry, IsBoard, OnBoard, row, column, step, and_then, moved}
-use Rattle.dw_board.specs.Geometry.{back}
+use Rattle.dw_board.specs.Geometry.{Geometry, IsBoard, OnBoard, row, column, step, and_then, moved, back}
 use Rattle.dw_moves.proofs.StepLemmas.{IsNext, step_is, row_low, column_low}
 
 moved_back : (b : Bool) (n x y : ℕ) → IsNext b x y → x < n → moved (not b) n y ≡ Some x

@@ -11,9 +11,9 @@ use Rattle.dw_notation.specs.Between.IsBetween.{nothing, other, opened, within, 
 use Rattle.dw_notation.specs.inner.Sections.{transition}
 use Rattle.dw_notation.specs.inner.Tags.{passes}
 use Rattle.dw_notation.specs.declared.problems.pdn.automaton.State.{State}
-use Rattle.dw_notation.specs.declared.problems.pdn.automaton.State.TheVariants.{Outside, Comment, Between}
-use Rattle.dw_notation.specs.declared.problems.pdn.automaton.State.TheVariants.{BeforeName, InName, BehindName}
-use Rattle.dw_notation.specs.declared.problems.pdn.automaton.State.TheVariants.{InValue, Escaped, BehindValue, Rest}
+use Rattle.dw_notation.specs.declared.problems.pdn.automaton.State.TheVariants.{Outside, Comment, Between, BeforeName}
+use Rattle.dw_notation.specs.declared.problems.pdn.automaton.State.TheVariants.{InName, BehindName, InValue, Escaped}
+use Rattle.dw_notation.specs.declared.problems.pdn.automaton.State.TheVariants.{BehindValue, Rest}
 use Rattle.dw_notation.specs.declared.problems.pdn.automaton.Action.TheVariants.{Open}
 
 -- where the text stands, by whether it stands in a comment

@@ -1,13 +1,12 @@
 -- Lemmas on reading on.
-use Rattle.std.proofs.Common.{◌≡◌, ℕ, ◌≤◌, length, List, [], ◌++◌, Bool, true}
-use Rattle.std.proofs.Common.{false, subst, ◌⊎◌, Option, refl, sym, ap, ◌∙◌, append_assoc, append-nil, Result, Ok, is_err, IsErr}
-use Rattle.std.proofs.Common.{◌||◌, inl, inr}
+use Rattle.std.proofs.Common.{◌≡◌, ℕ, ◌≤◌, length, List, [], ◌++◌, Bool, true, false, subst, ◌⊎◌, Option, refl, sym, ap}
+use Rattle.std.proofs.Common.{◌∙◌, append_assoc, append-nil, Result, Ok, is_err, IsErr, ◌||◌, inl, inr}
 use Rattle.std.proofs.KnownBytes.{Consumes-nil, Consumes-trans}
 use Rattle.std.specs.Io.KnownBytes.{Consumes}
 use Rattle.dw_board.specs.Geometry.{Geometry}
 use Rattle.dw_notation.specs.inner.Pieces.{pieces_ahead, pieces_behind}
-use Rattle.dw_notation.specs.inner.Cutting.{found_ahead, CarriesOn, TakesPiece, TakesLast, found_behind}
-use Rattle.dw_notation.specs.inner.Cutting.{found_cut, progress_at}
+use Rattle.dw_notation.specs.inner.Cutting.{found_ahead, CarriesOn, TakesPiece, TakesLast, found_behind, found_cut}
+use Rattle.dw_notation.specs.inner.Cutting.{progress_at}
 use Rattle.dw_notation.specs.Buffering.{Input, unread_in, input_of, Passes}
 use Rattle.dw_notation.specs.declared.streams.buffer.Buffer.{Buffer}
 use Rattle.dw_notation.specs.declared.problems.TheConstants.{MAX_READ}
@@ -88,11 +87,12 @@ CarriesOn-filled coming has_ended is_failed pulls first old pieces handed source
     (inl none) few =
     let read : passes.read ≡ unread_in new = ap (λ l. l ++ passes.read) (sym none) ∙ passes.same in
     CarriesOn-fill first (coming source) (coming after) old (progress_at mid pieces handed)
-    (progress_at new pieces handed) so_far none refl (subst (Consumes (coming source) (coming after)) read passes.took) few
+    (progress_at new pieces handed) so_far none refl (subst (Consumes (coming source) (coming after)) read passes.took)
+    few
 CarriesOn-filled {S} coming has_ended is_failed pulls first old pieces handed source after mid new fails so_far passes
     (inr same) few =
-    let at : Input S → Progress = λ i. record { rest = i.unread; pieces = pieces; handed = handed; met_end = i.met_end } in
-    subst (λ i. CarriesOn first (coming i.source) old (at i)) (sym same) so_far
+    let at : Input S → Progress = λ i. record { rest = i.unread; pieces = pieces; handed = handed; met_end = i.met_end }
+    in subst (λ i. CarriesOn first (coming i.source) old (at i)) (sym same) so_far
 
 -- the end of the text
 pub TakesLast-end : (coming left : Option (List ℕ)) (old mid new : Progress) → CarriesOn coming left old mid

@@ -1,7 +1,7 @@
 -- Lemmas on what a line begun and the bytes behind it say.
-use Rattle.std.proofs.Common.{◌≡◌, ℕ, ◌==◌, ◌+◌, ◌-◌, ◌<◌, ◌≤◌, List, [], ◌∷◌, ◌++◌, length, take, drop, Bool, true, false}
-use Rattle.std.proofs.Common.{not, cond, nat_lt, Some, None, unwrap_or, option_to_list, refl, sym, ap, ◌∙◌, subst, arith}
-use Rattle.std.proofs.Common.{append_assoc, append-nil}
+use Rattle.std.proofs.Common.{◌≡◌, ℕ, ◌==◌, ◌+◌, ◌-◌, ◌<◌, ◌≤◌, List, [], ◌∷◌, ◌++◌, length, take, drop, Bool, true}
+use Rattle.std.proofs.Common.{false, not, cond, nat_lt, Some, None, unwrap_or, option_to_list, refl, sym, ap, ◌∙◌}
+use Rattle.std.proofs.Common.{subst, arith, append_assoc, append-nil}
 use Rattle.std.proofs.lemmas.Bool.{eqb-true, ltb-false}
 use Rattle.std.proofs.lemmas.List.{length-take, take-append-drop, drop-take, drop-drop, drop_more, take_all}
 use Rattle.std.proofs.lemmas.List.Quantifiers.{position-Some}
@@ -19,7 +19,8 @@ NoLineFeed-push [] byte none h = (h, tt)
 NoLineFeed-push (b ∷ bytes) byte none h = (none.0, NoLineFeed-push bytes byte none.1 h)
 
 -- the place of the first byte that passes a test, or the length
-pub first_or_all : (p : ℕ → Bool) (bytes : List ℕ) → unwrap_or (position p bytes) (length bytes) ≡ position_or_len p bytes
+pub first_or_all : (p : ℕ → Bool) (bytes : List ℕ) → unwrap_or (position p bytes) (length bytes) ≡ position_or_len p
+    bytes
 first_or_all p bytes =
     let n = position_or_len p bytes in
     let within = prefix_len-le-length (λ byte. not (p byte)) bytes in

@@ -1,6 +1,6 @@
 -- The problems that end in a text come first, whatever follows.
-use Rattle.std.proofs.Common.{◌≡◌, ℕ, ◌==◌, ◌+◌, List, [], ◌∷◌, ◌++◌, Bool, true, false, cond, option_to_list}
-use Rattle.std.proofs.Common.{nat_lt, Err, refl, sym, ap, subst, ◌∙◌, append_assoc}
+use Rattle.std.proofs.Common.{◌≡◌, ℕ, ◌==◌, ◌+◌, List, [], ◌∷◌, ◌++◌, Bool, true, false, cond, option_to_list, nat_lt}
+use Rattle.std.proofs.Common.{Err, refl, sym, ap, subst, ◌∙◌, append_assoc}
 use Rattle.dw_board.specs.Geometry.{Geometry}
 use Rattle.dw_notation.specs.TextLines.{Found}
 use Rattle.dw_notation.specs.Problems.{Numbered, number_from, EndedComeFirst}
@@ -85,8 +85,8 @@ ended_come_first law g form over bytes more ended problems e p =
     let list = found_of false g form bytes in
     let longer = found_of over g form (bytes ++ more) in
     let first = numbered_first list longer (found_first over g form bytes more) in
-    let ends : ended ≡ number_from 0 list = e.numbers ∙ ap (number_from 0) (text_says-only law g form false bytes e.found
-    e.said) in
+    let ends : ended ≡ number_from 0 list = e.numbers ∙ ap (number_from 0) (text_says-only law g form false bytes
+    e.found e.said) in
     let all : problems ≡ number_from 0 longer = p.numbers ∙ ap (number_from 0) (text_says-only law g form over
     (bytes ++ more) p.found p.said) in
     (first.0, all ∙ first.1 ∙ ap (λ l. l ++ first.0) (sym ends))

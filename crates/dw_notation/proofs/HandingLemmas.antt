@@ -1,6 +1,6 @@
 -- Lemmas on what is handed out.
-use Rattle.std.proofs.Common.{◌≡◌, ℕ, ◌<◌, ◌≤◌, inl, inr, List, [], ◌∷◌, ◌++◌, Bool, true, false, Option, Some, None, Ok}
-use Rattle.std.proofs.Common.{Err, refl, sym, ap, ◌∙◌, append_assoc, append-nil, subst, MatchBool}
+use Rattle.std.proofs.Common.{◌≡◌, ℕ, ◌<◌, ◌≤◌, inl, inr, List, [], ◌∷◌, ◌++◌, Bool, true, false, Option, Some, None}
+use Rattle.std.proofs.Common.{Ok, Err, refl, sym, ap, ◌∙◌, append_assoc, append-nil, subst, MatchBool}
 use Rattle.std.proofs.KnownBytes.{Consumes-nil, Consumes-trans}
 use Rattle.dw_board.specs.Geometry.{Geometry}
 use Rattle.dw_notation.specs.TextLines.{Found}
@@ -60,8 +60,8 @@ need-join g old mid read more room need same (inr (before, last, split, few, non
 -- nothing so far, and then a piece
 pub HandsOut-piece : (g : Geometry) (coming left after : Option (List ℕ)) (old mid cut new : Progress)
     (problems : List Numbered)
-    → old.handed ≤ MAX_PROBLEMS → HandsOut g coming left old mid [] → TakesPiece left after mid cut → (cut.handed ≡ mid.handed)
-    → PieceHanded g cut new problems
+    → old.handed ≤ MAX_PROBLEMS → HandsOut g coming left old mid [] → TakesPiece left after mid cut → (cut.handed ≡
+    mid.handed) → PieceHanded g cut new problems
     → HandsOut g coming after old new problems
 HandsOut-piece g coming left after old mid cut new problems room so_far piece same_number handed = record {
   read = so_far.read ++ piece.read;
@@ -79,7 +79,8 @@ HandsOut-piece g coming left after old mid cut new problems room so_far piece sa
 -- a problem that was handed out
 pub NextGives-problem : {B : Type 0} (g : Geometry) (coming left : Option (List ℕ)) (old new : Progress)
     (problem : Problem B)
-    → HandsOut g coming left old new (numbered problem ∷ []) → NextGives g coming left (reader_at old) (reader_at new) (Ok (Some problem))
+    → HandsOut g coming left old new (numbered problem ∷ []) → NextGives g coming left (reader_at old) (reader_at new)
+    (Ok (Some problem))
 NextGives-problem g coming left old new problem out = record {
   read = out.read;
   took = out.took;
@@ -92,7 +93,8 @@ NextGives-problem g coming left old new problem out = record {
 
 -- all problems are handed out
 pub NextGives-over : {B : Type 0} (g : Geometry) (coming left : Option (List ℕ)) (old new : Progress)
-    → HandsOut g coming left old new [] → 1000000 < new.handed → NextGives {B = B} g coming left (reader_at old) (reader_at new) (Ok None)
+    → HandsOut g coming left old new [] → 1000000 < new.handed → NextGives {B = B} g coming left (reader_at old)
+    (reader_at new) (Ok None)
 NextGives-over g coming left old new out over =
     let done : (more : List ℕ) → to_come g new more
     ≡ [] = λ more. number_from-over new.handed (found_ahead true g new more) over in
@@ -107,8 +109,8 @@ NextGives-over g coming left old new out over =
 -- the source failed
 pub NextGives-err : {B : Type 0} (g : Geometry) (coming left after : Option (List ℕ)) (old mid new : Progress)
     (fault : ReadFault)
-    → old.handed ≤ MAX_PROBLEMS → HandsOut g coming left old mid [] → CarriesOn left after mid new → (new.rest ≡ []) → (new.handed ≡ mid.handed)
-    → NextGives {B = B} g coming after (reader_at old) (reader_at new) (Err fault)
+    → old.handed ≤ MAX_PROBLEMS → HandsOut g coming left old mid [] → CarriesOn left after mid new → (new.rest ≡ []) →
+    (new.handed ≡ mid.handed) → NextGives {B = B} g coming after (reader_at old) (reader_at new) (Err fault)
 NextGives-err g coming left after old mid new fault room so_far on none same_number =
     let read = so_far.read ++ on.read in
     let same : (at_end : Bool) (bytes : List ℕ) → problems_from at_end g old (read ++ bytes)
@@ -152,8 +154,8 @@ to_come-last g coming left after old mid cut new problems so_far last same_numbe
 
 pub NextGives-last : {B : Type 0} (g : Geometry) (coming left after : Option (List ℕ)) (old mid cut new : Progress)
     (problem : Problem B)
-    → old.handed ≤ MAX_PROBLEMS → HandsOut g coming left old mid [] → TakesLast left after mid cut → (cut.handed ≡ mid.handed)
-    → PieceHanded g cut new (numbered problem ∷ []) → (new.met_end ≡ true)
+    → old.handed ≤ MAX_PROBLEMS → HandsOut g coming left old mid [] → TakesLast left after mid cut → (cut.handed ≡
+    mid.handed) → PieceHanded g cut new (numbered problem ∷ []) → (new.met_end ≡ true)
     → NextGives g coming after (reader_at old) (reader_at new) (Ok (Some problem))
 NextGives-last g coming left after old mid cut new problem room so_far last same_number handed met = record {
   read = so_far.read ++ last.read;
@@ -166,8 +168,8 @@ NextGives-last g coming left after old mid cut new problem room so_far last same
 }
 
 pub NextGives-none : {B : Type 0} (g : Geometry) (coming left after : Option (List ℕ)) (old mid cut new : Progress)
-    → old.handed ≤ MAX_PROBLEMS → HandsOut g coming left old mid [] → TakesLast left after mid cut → (cut.handed ≡ mid.handed)
-    → PieceHanded g cut new [] → (new.met_end ≡ true)
+    → old.handed ≤ MAX_PROBLEMS → HandsOut g coming left old mid [] → TakesLast left after mid cut → (cut.handed ≡
+    mid.handed) → PieceHanded g cut new [] → (new.met_end ≡ true)
     → NextGives {B = B} g coming after (reader_at old) (reader_at new) (Ok None)
 NextGives-none g coming left after old mid cut new room so_far last same_number handed met =
     let end = to_come-last g coming left after old mid cut new [] so_far last same_number handed in
@@ -180,8 +182,8 @@ NextGives-none g coming left after old mid cut new room so_far last same_number 
 
 pub NextGives-some : {B : Type 0} (g : Geometry) (coming left after : Option (List ℕ)) (old mid cut new : Progress)
     (problem : Problem B) (is_whole : Bool)
-    → old.handed ≤ MAX_PROBLEMS → HandsOut g coming left old mid [] → ReadsPiece left after mid cut (Ok is_whole) → (cut.handed ≡ mid.handed)
-    → PieceHanded g cut new (numbered problem ∷ []) → (new.met_end ≡ cut.met_end)
+    → old.handed ≤ MAX_PROBLEMS → HandsOut g coming left old mid [] → ReadsPiece left after mid cut (Ok is_whole) →
+    (cut.handed ≡ mid.handed) → PieceHanded g cut new (numbered problem ∷ []) → (new.met_end ≡ cut.met_end)
     → NextGives g coming after (reader_at old) (reader_at new) (Ok (Some problem))
 NextGives-some g coming left after old mid cut new problem true room so_far piece same_number handed met =
     NextGives-problem g coming after old new problem (HandsOut-piece g coming left after old mid cut new
@@ -191,8 +193,8 @@ NextGives-some g coming left after old mid cut new problem false room so_far pie
 
 pub NextGives-end : {B : Type 0} (g : Geometry) (coming left after : Option (List ℕ)) (old mid cut new : Progress)
     (is_whole : Bool) → is_whole ≡ false
-    → old.handed ≤ MAX_PROBLEMS → HandsOut g coming left old mid [] → ReadsPiece left after mid cut (Ok is_whole) → (cut.handed ≡ mid.handed)
-    → PieceHanded g cut new [] → (new.met_end ≡ cut.met_end)
+    → old.handed ≤ MAX_PROBLEMS → HandsOut g coming left old mid [] → ReadsPiece left after mid cut (Ok is_whole) →
+    (cut.handed ≡ mid.handed) → PieceHanded g cut new [] → (new.met_end ≡ cut.met_end)
     → NextGives {B = B} g coming after (reader_at old) (reader_at new) (Ok None)
 NextGives-end g coming left after old mid cut new true e room so_far piece same_number handed met = cc
 NextGives-end g coming left after old mid cut new false e room so_far piece same_number handed met =
@@ -200,9 +202,9 @@ NextGives-end g coming left after old mid cut new false e room so_far piece same
 
 pub HandsOut-blank : (g : Geometry) (coming left after : Option (List ℕ)) (old mid cut new : Progress) (is_whole : Bool)
     → is_whole ≡ true
-    → old.handed ≤ MAX_PROBLEMS → HandsOut g coming left old mid [] → ReadsPiece left after mid cut (Ok is_whole) → (cut.handed ≡ mid.handed)
-    → PieceHanded g cut new []
+    → old.handed ≤ MAX_PROBLEMS → HandsOut g coming left old mid [] → ReadsPiece left after mid cut (Ok is_whole) →
+    (cut.handed ≡ mid.handed) → PieceHanded g cut new []
     → HandsOut g coming after old new []
 HandsOut-blank g coming left after old mid cut new false e room so_far piece same_number handed = cc
-HandsOut-blank g coming left after old mid cut new true e room so_far piece same_number handed = HandsOut-piece g coming left
-    after old mid cut new [] room so_far piece same_number handed
+HandsOut-blank g coming left after old mid cut new true e room so_far piece same_number handed = HandsOut-piece g coming
+    left after old mid cut new [] room so_far piece same_number handed

@@ -13,12 +13,14 @@ use Rattle.dw_notation.specs.inner.TextLines.{fen_found}
 use Rattle.dw_notation.specs.inner.Sections.{transition, Section, bare, kind_of, with_tag, after}
 use Rattle.dw_notation.specs.Tags.{number_on, game_of, is_wrong}
 use Rattle.dw_notation.specs.inner.Sections.{fens_found, section_found, found_by, found_at_end, sections_found}
-use Rattle.dw_notation.specs.inner.HeldSection.{Held, held_bare, counted, with_byte, game_on, number_held, counted_in, value_on}
-use Rattle.dw_notation.specs.inner.HeldSection.{tag_on, held_after, is_wrong_held, fens_held, held_found, held_from}
+use Rattle.dw_notation.specs.inner.HeldSection.{Held, held_bare, counted, with_byte, game_on, number_held, counted_in}
+use Rattle.dw_notation.specs.inner.HeldSection.{value_on, tag_on, held_after, is_wrong_held, fens_held, held_found}
+use Rattle.dw_notation.specs.inner.HeldSection.{held_from}
 use Rattle.dw_notation.specs.declared.problems.pdn.automaton.State.{State}
 use Rattle.dw_notation.specs.declared.problems.pdn.automaton.Action.{Action}
-use Rattle.dw_notation.specs.declared.problems.pdn.automaton.Action.TheVariants.{Keep, Open, Count, AddName, OpenValue, AddValue}
-use Rattle.dw_notation.specs.declared.problems.pdn.automaton.Action.TheVariants.{AddBoth, Close, Break, EndLine, NextTag, End}
+use Rattle.dw_notation.specs.declared.problems.pdn.automaton.Action.TheVariants.{Keep, Open, Count, AddName, OpenValue}
+use Rattle.dw_notation.specs.declared.problems.pdn.automaton.Action.TheVariants.{AddValue, AddBoth, Close, Break}
+use Rattle.dw_notation.specs.declared.problems.pdn.automaton.Action.TheVariants.{EndLine, NextTag, End}
 use Rattle.dw_notation.specs.declared.problems.pdn.section.TagKind.{TagKind}
 use Rattle.dw_notation.specs.declared.problems.pdn.section.TagKind.TheVariants.{FenTag, GameTag, OtherTag}
 use Rattle.dw_notation.specs.declared.problems.pdn.section.Game.{Game}
@@ -38,7 +40,8 @@ counted-min most n = elim (cases_lt n most) [
       rw (e, e', le-ltb most most (omega arith)) refl
 ]
 
-with_byte-take : (most : ℕ) (text : List ℕ) (byte : ℕ) → with_byte most (take most text) byte ≡ take most (text ++ byte ∷ [])
+with_byte-take : (most : ℕ) (text : List ℕ) (byte : ℕ) → with_byte most (take most text) byte ≡ take most (text ++ byte
+    ∷ [])
 with_byte-take most text byte = elim (cases_lt (length text) most) [
   | inl short ↦
       let sum : length (text ++ byte ∷ []) ≡ length text + 1 = length-append text (byte ∷ []) in
@@ -272,8 +275,8 @@ Holds-value_of FenTag s h byte is r =
     let held : FensHeld s.fens FenTag s.value h.fens h.fen_text =
     subst (λ k. FensHeld s.fens k s.value h.fens h.fen_text) is r.fens in
     record {
-      fens = subst (λ k. FensHeld s.fens k (s.value ++ byte ∷ []) h.fens (cond (h.fens == 0) (with_byte 1025 h.fen_text byte)
-          h.fen_text)) (sym is)
+      fens = subst (λ k. FensHeld s.fens k (s.value ++ byte ∷ []) h.fens (cond (h.fens == 0) (with_byte 1025 h.fen_text
+          byte) h.fen_text)) (sym is)
           (FensHeld-value s.fens s.value h.fens h.fen_text byte held);
       game = λ other. absurd (let bad : FenTag ≡ GameTag = sym is ∙ other in cc);
       read = r.read;
@@ -421,8 +424,8 @@ Holds-from at_end g state s h (byte ∷ bytes) r =
     let action = (transition state byte).action in
     let next = (transition state byte).state in
     ap (λ f. found_by action f ++ held_from at_end g next (held_after action h) bytes) (Holds-found g s h r)
-    ∙ ap (λ l. found_by action (section_found g s) ++ l) (Holds-from at_end g next (after action s) (held_after action h)
-    bytes (Holds-after action s h r))
+    ∙ ap (λ l. found_by action (section_found g s) ++ l) (Holds-from at_end g next (after action s) (held_after action
+    h) bytes (Holds-after action s h r))
 
 pub held_from-bare : (at_end : Bool) (g : Geometry) (state : State) (bytes : List ℕ)
     → held_from at_end g state held_bare bytes ≡ sections_found at_end g state bare bytes

@@ -1,8 +1,8 @@
 -- Lemmas on the text of a line that goes on move by move, and back.
 use Rattle.std.proofs.Common.{◌≡◌, ◌≤◌, ◌<◌, ◌+◌, ◌-◌, ◌%◌, ◌/◌, ◌*◌, ◌==◌, ◌⊎◌, ℕ, zero, suc, List, [], ◌∷◌, ◌++◌}
 use Rattle.std.proofs.Common.{length, length-append, append_assoc, append-nil, get_or, take, take-add, drop, map, refl}
-use Rattle.std.proofs.Common.{add-one}
-use Rattle.std.proofs.Common.{sym, ap, ◌∙◌, subst, arith, inl, inr, decimal, codes, cond, Bool, true, false, min}
+use Rattle.std.proofs.Common.{add-one, sym, ap, ◌∙◌, subst, arith, inl, inr, decimal, codes, cond, Bool, true, false}
+use Rattle.std.proofs.Common.{min}
 use Rattle.std.proofs.lemmas.List.{take_more, take_all, drop_more, take-append-drop, length-drop, length-take-le}
 use Rattle.std.proofs.lemmas.Bool.{cases_order}
 use Rattle.std.specs.String.Boundary.{IsSplitPoint}
@@ -57,8 +57,8 @@ kept_none g p ply base before plies text e h =
     let r = written_begins g p ply before plies text h in
     ap (λ k. take k text) e ∙ (ap (take (length before)) r.1 ∙ take_front before r.0)
 
-pub written_keep : {B : Type 0} (g : Geometry) (p : Placement) (ply base k : ℕ) (before : List ℕ) (plies : List (WrittenMove B))
-    (text : List ℕ) → base ≡ length before → AreWritten g p ply before plies text
+pub written_keep : {B : Type 0} (g : Geometry) (p : Placement) (ply base k : ℕ) (before : List ℕ) (plies : List
+    (WrittenMove B)) (text : List ℕ) → base ≡ length before → AreWritten g p ply before plies text
     → AreWritten g p ply before (take k plies) (take (len_to base k plies) text)
 written_keep {B} g p ply base zero before [] text e h = kept_none {B = B} g p ply base before [] text e h
 written_keep {B} g p ply base zero before (x ∷ plies) text e h = kept_none {B = B} g p ply base before (x ∷ plies) text
@@ -95,8 +95,8 @@ written_split {B} g p ply base (suc k) before (x ∷ plies) text e later h = wri
     (before ++ added ply h.0) plies text h.4 (λ some. omega arith) h.5
 
 -- it is the text of the line
-pub written_words : {B : Type 0} (g : Geometry) (p : Placement) (ply : ℕ) (before : List ℕ) (plies : List (WrittenMove B))
-    (text : List ℕ) → AreWritten g p ply before plies text
+pub written_words : {B : Type 0} (g : Geometry) (p : Placement) (ply : ℕ) (before : List ℕ) (plies : List (WrittenMove
+    B)) (text : List ℕ) → AreWritten g p ply before plies text
     → (words : List (List ℕ)) × AreWords g p ply (map (λ (x : WrittenMove B). x.mv) plies) words
     × (text ≡ before ++ onto ply words)
 written_words g p ply before [] text h = (
@@ -119,7 +119,8 @@ pub written_line : {B : Type 0} (g : Geometry) (p : Placement) (plies : List (Wr
 written_line g p plies text h = let r = written_words g p 0 [] plies text h in (r.0, r.1, r.2)
 
 -- one move more
-pub written_push : {B : Type 0} (g : Geometry) (p q : Placement) (ply k : ℕ) (before : List ℕ) (plies : List (WrittenMove B))
+pub written_push : {B : Type 0} (g : Geometry) (p q : Placement) (ply k : ℕ) (before : List ℕ) (plies : List
+    (WrittenMove B))
     (text new word : List ℕ) (x : WrittenMove B) → AreWritten g p ply before plies text → q ≡ end_from p plies
     → k ≡ ply + length plies
     → IsMoveText g q x.mv word → length word ≤ 62 → x.after ≡ play g q x.mv → new ≡ text ++ added k word
@@ -154,8 +155,8 @@ written_pushed g p q after k len plies now text new word m h end count is short 
     (record { mv = m; after = after; len = len }) h end count is short played e long)
 
 -- it is short
-pub written_room : {B : Type 0} (g : Geometry) (p : Placement) (ply k : ℕ) (before : List ℕ) (plies : List (WrittenMove B))
-    (text : List ℕ) → AreWritten g p ply before plies text → k ≡ ply + length plies → k ≤ 39
+pub written_room : {B : Type 0} (g : Geometry) (p : Placement) (ply k : ℕ) (before : List ℕ) (plies : List (WrittenMove
+    B)) (text : List ℕ) → AreWritten g p ply before plies text → k ≡ ply + length plies → k ≤ 39
     → length before ≤ 65 * ply + 2 * (ply % 2) → length text ≤ 65 * k + 2 * (k % 2)
 written_room g p ply k before [] text h count few room =
     let same : ply ≡ k = omega (arith, count) in
@@ -166,8 +167,8 @@ written_room g p ply k before (x ∷ plies) text h count few room =
 
 -- WHAT STANDS AT A MOVE
 
-pub end_at : {B : Type 0} (p : Placement) (plies : List (WrittenMove B)) (i : ℕ) (d : WrittenMove B) → i + 1 ≡ length plies
-    → end_from p plies ≡ (get_or plies i d).after
+pub end_at : {B : Type 0} (p : Placement) (plies : List (WrittenMove B)) (i : ℕ) (d : WrittenMove B) → i + 1 ≡ length
+    plies → end_from p plies ≡ (get_or plies i d).after
 end_at p [] i d e = absurd (omega (arith, e))
 end_at p (x ∷ []) zero d e = refl
 end_at p (x ∷ []) (suc i) d e = absurd (omega (arith, e))
@@ -197,10 +198,10 @@ len_none base (x ∷ plies) zero none = refl
 len_none base (x ∷ plies) (suc k) none = absurd (omega (arith, none))
 
 -- the length at the last move that is kept
-pub len_found : {B : Type 0} (base : ℕ) (plies : List (WrittenMove B)) (k i : ℕ) (x : WrittenMove B) → i < length plies → i + 1 ≤ k
-    → (i + 1 < k → i + 1 ≡ length plies) → x ≡ get_or plies i x → x.len ≡ len_to base k plies
-len_found {B} base plies k i x low within end is = ap (λ (z : WrittenMove B). z.len) is ∙ (sym (len_at base plies i x low)
-    ∙ elim (cases_order k (suc i)) [
+pub len_found : {B : Type 0} (base : ℕ) (plies : List (WrittenMove B)) (k i : ℕ) (x : WrittenMove B) → i < length plies
+    → i + 1 ≤ k → (i + 1 < k → i + 1 ≡ length plies) → x ≡ get_or plies i x → x.len ≡ len_to base k plies
+len_found {B} base plies k i x low within end is = ap (λ (z : WrittenMove B). z.len) is ∙ (sym (len_at base plies i x
+    low) ∙ elim (cases_order k (suc i)) [
       | inl e ↦ ap (λ z. len_to base z plies) (sym e)
       | inr other ↦ elim other [
         | inl less ↦ absurd (omega (arith, less, within))
@@ -210,7 +211,8 @@ len_found {B} base plies k i x low within end is = ap (λ (z : WrittenMove B). z
       ]
     ])
 
-pub end_push : {B : Type 0} (p : Placement) (plies : List (WrittenMove B)) (x : WrittenMove B) → end_from p (plies ++ x ∷ []) ≡ x.after
+pub end_push : {B : Type 0} (p : Placement) (plies : List (WrittenMove B)) (x : WrittenMove B) → end_from p (plies ++ x
+    ∷ []) ≡ x.after
 end_push p [] x = refl
 end_push p (y ∷ plies) x = end_push y.after plies x
 

@@ -33,7 +33,10 @@ pub SaysSame-held : (first : Bool) (line piece : List ℕ) (count : ℕ) → len
     → count ≡ min (length piece) (4101 - length line)
     → SaysSame first (line ++ piece) (line ++ take count piece)
 SaysSame-held first line piece count room is g more = elim (cases_lt (length piece) (4102 - length line)) [
-  | inl short ↦ ap (λ l. line_found g (line_of first ((line ++ l) ++ more))) (sym (take_all count piece (omega (arith, is))))
+  | inl short ↦ ap (λ l. line_found g (line_of first ((line ++ l) ++ more))) (sym (take_all count piece (omega (
+    arith,
+    is,
+  ))))
   | inr long ↦
       let all = length-append (line ++ piece) more in
       let whole = length-append line piece in

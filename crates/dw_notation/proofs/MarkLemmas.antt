@@ -13,7 +13,11 @@ length-without_mark [] = omega arith
 length-without_mark (a ∷ []) = omega arith
 length-without_mark (a ∷ b ∷ []) = omega arith
 length-without_mark (a ∷ b ∷ c ∷ line) = elim ((a == 0xEF) && (b == 0xBB) && (c == 0xBF)) as
-    (λ v. length (a ∷ b ∷ c ∷ line) ≤ length (cond v line (a ∷ b ∷ c ∷ line)) + 3) [ true ↦ omega arith | false ↦ omega arith ]
+    (λ v. length (a ∷ b ∷ c ∷ line) ≤ length (cond v line (a ∷ b ∷ c ∷ line)) + 3) [
+      | true ↦ omega arith
+      | false ↦ omega
+          arith
+    ]
 
 pub length-line_of : (first : Bool) (line : List ℕ) → length line ≤ length (line_of first line) + 3
 length-line_of true line = length-without_mark line
@@ -52,8 +56,8 @@ kept at_end g a b c bytes none =
     let first = found_from at_end g false [] (b ∷ c ∷ bytes) in
     let second = option_to_list (line_found g (a ∷ [])) ++ found_from at_end g false [] (c ∷ bytes) in
     let third = option_to_list (line_found g (a ∷ b ∷ [])) ++ found_from at_end g false [] bytes in
-    ap (λ l. cond (a == 10) (option_to_list (line_found g []) ++ first) (cond (b == 10) second (cond (c == 10) third l)))
-    (known at_end g a b c [] bytes
+    ap (λ l. cond (a == 10) (option_to_list (line_found g []) ++ first) (cond (b == 10) second (cond (c == 10) third
+    l))) (known at_end g a b c [] bytes
     ∙ ap (λ l. found_from at_end g false l bytes) (cond-false _ [] (a ∷ b ∷ c ∷ []) none))
 
 -- a text of lines says what it says without its mark

@@ -3,8 +3,7 @@ use Rattle.std.proofs.Common.{◌≡◌, ℕ, ◌<◌, ◌≤◌, true, false, L
 use Rattle.std.proofs.Common.{◌∙◌, subst, ◌⊎◌, inl, inr, arith, append_assoc, append-nil, length-append}
 use Rattle.std.proofs.lemmas.Bool.{cases_Bool, true≢false, or_cases, eqb-true}
 use Rattle.dw_board.specs.Geometry.{Geometry}
-use Rattle.dw_board.specs.FenTokens.{is_digit, begins_with_digit, number_named}
-use Rattle.dw_board.specs.FenTokens.{AreDigits}
+use Rattle.dw_board.specs.FenTokens.{is_digit, begins_with_digit, number_named, AreDigits}
 use Rattle.dw_notation.specs.MoveReading.{IsNumber, is_cross, AreCrossed, single, more, Named, QuietMove, Capture}
 use Rattle.dw_notation.specs.MoveReading.{Names, by_dash, by_crosses}
 use Rattle.dw_notation.specs.inner.MoveReader.{Begins, BeginsNowhere}

@@ -11,8 +11,8 @@ pub number_from-full : (more : List Found) → number_from 1000001 more ≡ []
 number_from-full [] = refl
 number_from-full (found ∷ more) = refl
 
-number_from-one : (handed : ℕ) (found : Found) (more : List Found) → handed ≤ 1000000 → number_from handed (found ∷ more)
-    ≡ record { number = handed + 1; found = if nat_lt handed MAX_PROBLEMS then found else Err TooManyProblems }
+number_from-one : (handed : ℕ) (found : Found) (more : List Found) → handed ≤ 1000000 → number_from handed (found ∷
+    more) ≡ record { number = handed + 1; found = if nat_lt handed MAX_PROBLEMS then found else Err TooManyProblems }
     ∷ number_from (handed + 1) more
 number_from-one handed found more h = elim (cases_lt handed 1000000) [
   | inl less ↦ rw (lt-ltb handed 1000000 less) refl

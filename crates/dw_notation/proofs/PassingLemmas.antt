@@ -1,6 +1,6 @@
 -- Bytes outside sections that are passed over at once.
-use Rattle.std.proofs.Common.{◌≡◌, ℕ, ◌≤◌, ◌==◌, List, [], ◌∷◌, ◌++◌, length, take, Bool, true, false}
-use Rattle.std.proofs.Common.{not, cond, refl, sym, ap, ◌∙◌, subst, arith, unwrap_or}
+use Rattle.std.proofs.Common.{◌≡◌, ℕ, ◌≤◌, ◌==◌, List, [], ◌∷◌, ◌++◌, length, take, Bool, true, false, not, cond, refl}
+use Rattle.std.proofs.Common.{sym, ap, ◌∙◌, subst, arith, unwrap_or}
 use Rattle.std.proofs.lemmas.Bool.{and_parts, and_from, not-true, or_parts}
 use Rattle.std.proofs.lemmas.List.Sums.{prefix_len-le-length, take_while-cons}
 use Rattle.std.specs.List.{list_all, position, take_while}
@@ -10,9 +10,9 @@ use Rattle.dw_notation.specs.inner.HeldSection.{Held, held_after, held_found, he
 use Rattle.dw_notation.specs.inner.Tags.{passes}
 use Rattle.dw_notation.proofs.CutLemmas.{first_or_all}
 use Rattle.dw_notation.specs.declared.problems.pdn.automaton.State.{State}
-use Rattle.dw_notation.specs.declared.problems.pdn.automaton.State.TheVariants.{Outside, Comment, Between}
-use Rattle.dw_notation.specs.declared.problems.pdn.automaton.State.TheVariants.{BeforeName, InName, BehindName}
-use Rattle.dw_notation.specs.declared.problems.pdn.automaton.State.TheVariants.{InValue, Escaped, BehindValue, Rest}
+use Rattle.dw_notation.specs.declared.problems.pdn.automaton.State.TheVariants.{Outside, Comment, Between, BeforeName}
+use Rattle.dw_notation.specs.declared.problems.pdn.automaton.State.TheVariants.{InName, BehindName, InValue, Escaped}
+use Rattle.dw_notation.specs.declared.problems.pdn.automaton.State.TheVariants.{BehindValue, Rest}
 use Rattle.dw_notation.specs.declared.problems.pdn.automaton.Action.TheVariants.{Keep}
 
 -- a byte that changes nothing

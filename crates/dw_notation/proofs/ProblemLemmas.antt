@@ -50,8 +50,8 @@ module _ (law : FensAreRead) where
   }
 
   -- what a reader will hand out that has read nothing
-  pub fresh_ahead : (g : Geometry) (form : Form) (over : Bool) (bytes : List ℕ) (progress : Progress) → progress.handed ≡ 0
-      → found_ahead over g progress bytes ≡ found_of over g form bytes
+  pub fresh_ahead : (g : Geometry) (form : Form) (over : Bool) (bytes : List ℕ) (progress : Progress) → progress.handed
+      ≡ 0 → found_ahead over g progress bytes ≡ found_of over g form bytes
       → AreProblems g form over bytes (problems_from over g progress bytes)
   fresh_ahead g form over bytes progress none found = record {
     found = found_of over g form bytes;

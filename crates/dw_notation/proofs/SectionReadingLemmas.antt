@@ -9,15 +9,15 @@ use Rattle.dw_notation.specs.inner.Sections.{transition, at, Section, bare, kind
 use Rattle.dw_notation.specs.Tags.{game_of}
 use Rattle.dw_notation.specs.inner.Sections.{found_by, sections_found}
 use Rattle.dw_notation.specs.Tags.{Tag, IsTag, IsUnclosed, is_space, IsGap, IsSection}
-use Rattle.dw_notation.specs.inner.Tags.{with_fen, with_game, fens_of}
-use Rattle.dw_notation.specs.inner.Tags.{games_of, tags_found, closes, SectionsAreFound, LastSectionIsFound}
-use Rattle.dw_notation.specs.inner.Tags.{CommentsSayNothing, OpenCommentIsFound, OthersSayNothing, OpenCommentGivesNothing}
-use Rattle.dw_notation.specs.inner.Tags.{OpenSectionGivesNothing}
+use Rattle.dw_notation.specs.inner.Tags.{with_fen, with_game, fens_of, games_of, tags_found, closes, SectionsAreFound}
+use Rattle.dw_notation.specs.inner.Tags.{LastSectionIsFound, CommentsSayNothing, OpenCommentIsFound, OthersSayNothing}
+use Rattle.dw_notation.specs.inner.Tags.{OpenCommentGivesNothing, OpenSectionGivesNothing}
 use Rattle.dw_notation.specs.Tags.IsSection.{single, broken, longer, longer_broken}
 use Rattle.dw_notation.specs.declared.problems.pdn.automaton.State.{State}
 use Rattle.dw_notation.specs.declared.problems.pdn.automaton.State.TheVariants.{Outside, Comment, Between, BeforeName}
 use Rattle.dw_notation.specs.declared.problems.pdn.automaton.Transition.{Transition}
-use Rattle.dw_notation.specs.declared.problems.pdn.automaton.Action.TheVariants.{Keep, Open, Close, EndLine, NextTag, End}
+use Rattle.dw_notation.specs.declared.problems.pdn.automaton.Action.TheVariants.{Keep, Open, Close, EndLine, NextTag}
+use Rattle.dw_notation.specs.declared.problems.pdn.automaton.Action.TheVariants.{End}
 use Rattle.dw_notation.specs.declared.problems.pdn.section.TagKind.{TagKind}
 use Rattle.dw_notation.specs.declared.problems.pdn.section.TagKind.TheVariants.{FenTag, GameTag, OtherTag}
 use Rattle.dw_notation.proofs.TagReadingLemmas.{Reads, join_reads, reads_found, outside, run_reads, between, tag_reads}
@@ -373,7 +373,8 @@ pub others_say_nothing : OthersSayNothing
 others_say_nothing at_end g byte more h =
     let parts = or_parts (byte == 91) (byte == 123) h in
     let stays : transition Outside byte ≡ at Outside Keep = rw (parts.0, parts.1) refl in
-    ap (λ x. found_by x.action (section_found g bare) ++ sections_found at_end g x.state (after x.action bare) more) stays
+    ap (λ x. found_by x.action (section_found g bare) ++ sections_found at_end g x.state (after x.action bare) more)
+    stays
 
 -- ---- what is unfinished has given nothing
 pub open_comment_gives_nothing : OpenCommentGivesNothing

@@ -1,6 +1,7 @@
 -- How the line of an unclosed tag is read.
 use Rattle.std.proofs.Common.{◌≡◌, ℕ, ◌+◌, ◌<◌, ◌==◌, ◌⊎◌, inl, inr, List, [], ◌∷◌, ◌++◌, length, Bool, true, false}
-use Rattle.std.proofs.Common.{not, Option, Some, refl, sym, ap, ◌∙◌, subst, arith, append_assoc, append-nil, length-append}
+use Rattle.std.proofs.Common.{not, Option, Some, refl, sym, ap, ◌∙◌, subst, arith, append_assoc, append-nil}
+use Rattle.std.proofs.Common.{length-append}
 use Rattle.std.proofs.lemmas.Bool.{cases_Bool, and_parts, and_from, or_cases, not-true, eqb-true}
 use Rattle.std.proofs.lemmas.List.Folds.{list_all-append}
 use Rattle.std.specs.List.{list_all}
@@ -15,11 +16,11 @@ use Rattle.dw_notation.specs.inner.TagReading.{TagRead, read_by}
 use Rattle.dw_notation.proofs.TagReadingLemmas.{IsSilent, Reads}
 use Rattle.dw_notation.proofs.TagReadingLemmas.Path.{here, step}
 use Rattle.dw_notation.specs.declared.problems.pdn.automaton.State.{State}
-use Rattle.dw_notation.specs.declared.problems.pdn.automaton.State.TheVariants.{Between, BeforeName, InName, BehindName, InValue}
-use Rattle.dw_notation.specs.declared.problems.pdn.automaton.State.TheVariants.{Escaped, BehindValue, Rest}
+use Rattle.dw_notation.specs.declared.problems.pdn.automaton.State.TheVariants.{Between, BeforeName, InName, BehindName}
+use Rattle.dw_notation.specs.declared.problems.pdn.automaton.State.TheVariants.{InValue, Escaped, BehindValue, Rest}
 use Rattle.dw_notation.specs.declared.problems.pdn.automaton.Action.{Action}
-use Rattle.dw_notation.specs.declared.problems.pdn.automaton.Action.TheVariants.{Count, AddName, OpenValue, AddValue, AddBoth}
-use Rattle.dw_notation.specs.declared.problems.pdn.automaton.Action.TheVariants.{Break, EndLine}
+use Rattle.dw_notation.specs.declared.problems.pdn.automaton.Action.TheVariants.{Count, AddName, OpenValue, AddValue}
+use Rattle.dw_notation.specs.declared.problems.pdn.automaton.Action.TheVariants.{AddBoth, Break, EndLine}
 
 all_push : (p : ℕ → Bool) (text : List ℕ) (byte : ℕ) → list_all p text ≡ true → p byte ≡ true
     → list_all p (text ++ byte ∷ []) ≡ true
@@ -64,11 +65,11 @@ pub record IsQuiet (action : Action) : Type 0 where
 
 -- one more byte of the line: the tag goes on, or it is whole
 abbrev pub GoesOn : State → List ℕ → ℕ → Type 0
-GoesOn state text byte = (SoFar (transition state byte).state (text ++ byte ∷ []) × IsQuiet (transition state byte).action)
-    ⊎ ((tag : Tag) × IsTag (text ++ byte ∷ []) tag)
+GoesOn state text byte = (SoFar (transition state byte).state (text ++ byte ∷ []) × IsQuiet (transition state
+    byte).action) ⊎ ((tag : Tag) × IsTag (text ++ byte ∷ []) tag)
 
-goes_on : (state next : State) (action : Action) (text other : List ℕ) (byte : ℕ) → transition state byte ≡ at next action
-    → text ++ byte ∷ [] ≡ other → SoFar next other → IsQuiet action → GoesOn state text byte
+goes_on : (state next : State) (action : Action) (text other : List ℕ) (byte : ℕ) → transition state byte ≡ at next
+    action → text ++ byte ∷ [] ≡ other → SoFar next other → IsQuiet action → GoesOn state text byte
 goes_on state next action text other byte e joined so_far quiet =
     inl (
       subst (λ t. SoFar t.state (text ++ byte ∷ [])) (sym e) (subst (SoFar next) (sym joined) so_far),
@@ -76,22 +77,64 @@ goes_on state next action text other byte e joined so_far quiet =
     )
 
 quiet_count : IsQuiet Count
-quiet_count = record { found = λ f. refl; read = λ s. refl; fens = λ s. refl; games = λ s. refl; goes = λ s bytes further one e. e }
+quiet_count = record {
+  found = λ f. refl;
+  read = λ s. refl;
+  fens = λ s. refl;
+  games = λ s. refl;
+  goes = λ s bytes
+      further one e. e;
+}
 
 quiet_name : (byte : ℕ) → IsQuiet (AddName byte)
-quiet_name byte = record { found = λ f. refl; read = λ s. refl; fens = λ s. refl; games = λ s. refl; goes = λ s bytes further one e. e }
+quiet_name byte = record {
+  found = λ f. refl;
+  read = λ s. refl;
+  fens = λ s. refl;
+  games = λ s. refl;
+  goes = λ s bytes
+      further one e. e;
+}
 
 quiet_open : IsQuiet OpenValue
-quiet_open = record { found = λ f. refl; read = λ s. refl; fens = λ s. refl; games = λ s. refl; goes = λ s bytes further one e. e }
+quiet_open = record {
+  found = λ f. refl;
+  read = λ s. refl;
+  fens = λ s. refl;
+  games = λ s. refl;
+  goes = λ s bytes further
+      one e. e;
+}
 
 quiet_value : (byte : ℕ) → IsQuiet (AddValue byte)
-quiet_value byte = record { found = λ f. refl; read = λ s. refl; fens = λ s. refl; games = λ s. refl; goes = λ s bytes further one e. e }
+quiet_value byte = record {
+  found = λ f. refl;
+  read = λ s. refl;
+  fens = λ s. refl;
+  games = λ s. refl;
+  goes = λ s bytes
+      further one e. e;
+}
 
 quiet_both : (byte : ℕ) → IsQuiet (AddBoth byte)
-quiet_both byte = record { found = λ f. refl; read = λ s. refl; fens = λ s. refl; games = λ s. refl; goes = λ s bytes further one e. e }
+quiet_both byte = record {
+  found = λ f. refl;
+  read = λ s. refl;
+  fens = λ s. refl;
+  games = λ s. refl;
+  goes = λ s bytes
+      further one e. e;
+}
 
 quiet_break : IsQuiet Break
-quiet_break = record { found = λ f. refl; read = λ s. refl; fens = λ s. refl; games = λ s. refl; goes = λ s bytes further one e. cc }
+quiet_break = record {
+  found = λ f. refl;
+  read = λ s. refl;
+  fens = λ s. refl;
+  games = λ s. refl;
+  goes = λ s bytes
+      further one e. cc;
+}
 
 breaks : (state : State) (text : List ℕ) (byte : ℕ) → transition state byte ≡ at Rest Break → GoesOn state text byte
 breaks state text byte e = goes_on state Rest Break text (text ++ byte ∷ []) byte e refl (rest (text ++ byte ∷ []))
@@ -283,8 +326,8 @@ ends_at (escaped first name middle spelling value b1 some n b2 spells) = (refl, 
 ends_at (closing first name middle spelling value last b1 some n b2 spells b3) = (refl, refl)
 ends_at (rest text) = (refl, refl)
 
-pub line_ends : {state : State} {text : List ℕ} (byte : ℕ) → ends_line byte ≡ true → SoFar state text → transition state byte
-    ≡ at Between EndLine
+pub line_ends : {state : State} {text : List ℕ} (byte : ℕ) → ends_line byte ≡ true → SoFar state text → transition state
+    byte ≡ at Between EndLine
 line_ends {state} byte ends so_far = elim (or_cases (byte == 10) (byte == 13) ends) [
   | inl feed ↦ ap (transition state) (eqb-true byte 10 feed) ∙ (ends_at so_far).0
   | inr return ↦ ap (transition state) (eqb-true byte 13 return) ∙ (ends_at so_far).1

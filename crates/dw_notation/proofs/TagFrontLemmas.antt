@@ -1,6 +1,6 @@
 -- A text begins with one tag at most, and that is the one that is read of it.
-use Rattle.std.proofs.Common.{◌≡◌, ℕ, ◌==◌, ◌⊎◌, inl, inr, List, [], ◌∷◌, ◌++◌, drop, true, Option, Some, None}
-use Rattle.std.proofs.Common.{refl, sym, ap, ◌∙◌, subst, append_assoc}
+use Rattle.std.proofs.Common.{◌≡◌, ℕ, ◌==◌, ◌⊎◌, inl, inr, List, [], ◌∷◌, ◌++◌, drop, true, Option, Some, None, refl}
+use Rattle.std.proofs.Common.{sym, ap, ◌∙◌, subst, append_assoc}
 use Rattle.std.proofs.lemmas.Bool.{cases_Bool, eqb-true}
 use Rattle.std.proofs.lemmas.List.{append_cancel_right}
 use Rattle.dw_notation.specs.Tags.{Tag, IsTag, ends_line}
@@ -25,8 +25,8 @@ tag_is_read text more inside tag is e =
     let whole : inside ≡ body ++ 93 ∷ more =
     ap (drop 1) (e ∙ ap (λ l. l ++ more) is.joined)
     ∙ tag_body is.first tag.name is.middle is.spelling (is.last ++ 93 ∷ []) more
-    ∙ ap (λ l. is.first ++ (tag.name ++ (is.middle ++ 34 ∷ (is.spelling ++ 34 ∷ l)))) (append_assoc is.last (93 ∷ []) more)
-    ∙ sym (tag_body is.first tag.name is.middle is.spelling is.last (93 ∷ more)) in
+    ∙ ap (λ l. is.first ++ (tag.name ++ (is.middle ++ 34 ∷ (is.spelling ++ 34 ∷ l)))) (append_assoc is.last (93 ∷ [])
+    more) ∙ sym (tag_body is.first tag.name is.middle is.spelling is.last (93 ∷ more)) in
     ap (tag_from BeforeName begun) whole
     ∙ inside_read (93 ∷ more) (tag_reads begun tag is.first is.middle is.last is.spelling _ refl is.blank_first
     is.blank_middle is.blank_last is.some is.named is.spells refl)

@@ -14,8 +14,8 @@ use Rattle.dw_notation.specs.declared.problems.pdn.automaton.State.{State}
 use Rattle.dw_notation.specs.declared.problems.pdn.automaton.State.TheVariants.{BeforeName}
 use Rattle.dw_notation.specs.declared.problems.pdn.automaton.Action.{Action}
 use Rattle.dw_notation.specs.declared.problems.pdn.automaton.Action.TheVariants.{Keep, Open, Count, AddName, OpenValue}
-use Rattle.dw_notation.specs.declared.problems.pdn.automaton.Action.TheVariants.{AddValue, AddBoth, Close, Break, EndLine}
-use Rattle.dw_notation.specs.declared.problems.pdn.automaton.Action.TheVariants.{NextTag, End}
+use Rattle.dw_notation.specs.declared.problems.pdn.automaton.Action.TheVariants.{AddValue, AddBoth, Close, Break}
+use Rattle.dw_notation.specs.declared.problems.pdn.automaton.Action.TheVariants.{EndLine, NextTag, End}
 use Rattle.dw_notation.specs.declared.problems.pdn.automaton.Transition.{Transition}
 use Rattle.dw_notation.proofs.TagReadingLemmas.{name_not_blank}
 use Rattle.dw_notation.proofs.TagFrontLemmas.{tag_is_read, begins_with_read, no_tag_read, same_read}
@@ -53,7 +53,8 @@ module _ (inside : List ℕ) (i : ℕ) (state : State) (named : ℕ) (value : Li
   pub read_next : tag_from BeforeName begun inside
       ≡ read_by t.action r.section (drop (i + 1) inside) (λ u. tag_from t.state u (drop (i + 1) inside))
   read_next = r.same ∙ ap (tag_from state r.section) (drop_more inside i 0 within)
-      ∙ ap (λ x. read_by x.action r.section (drop (i + 1) inside) (λ u. tag_from x.state u (drop (i + 1) inside))) (sym is)
+      ∙ ap (λ x. read_by x.action r.section (drop (i + 1) inside) (λ u. tag_from x.state u (drop (i + 1) inside))) (sym
+      is)
 
   -- the tag goes on
   pub ReadsTag-step : (s : Section) (now : ℕ) (longer : List ℕ)
@@ -79,7 +80,8 @@ module _ (inside : List ℕ) (i : ℕ) (state : State) (named : ℕ) (value : Li
       let same = same_read (sym (tag_is_read b.text b.more inside b.tag b.is b.joined) ∙ read) in
       let more : b.more ≡ drop (i + 1) inside = ap (λ one. one.more) same in
       let size : i + 2 ≡ length b.text =
-      omega (arith, ap length b.joined, length-append b.text b.more, ap length more, length-drop (i + 1) inside, within) in
+      omega (arith, ap length b.joined, length-append b.text b.more, ap length more, length-drop (i + 1) inside, within)
+      in
       let front : b.text ≡ cut = sym (is_cut ∙ ap (take (i + 2)) (bracket ∙ b.joined)
       ∙ ap (λ n. take n (b.text ++ b.more)) size ∙ take-append_seam b.text b.more) in (
         b.tag,

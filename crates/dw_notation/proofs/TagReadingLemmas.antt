@@ -13,8 +13,8 @@ use Rattle.dw_notation.specs.inner.Sections.{section_found, found_by, sections_f
 use Rattle.dw_notation.specs.Tags.{Tag, is_plain, Spells, is_space}
 use Rattle.dw_notation.specs.Tags.Spells.{nothing, quotation, backslash, lone, plain}
 use Rattle.dw_notation.specs.declared.problems.pdn.automaton.State.{State}
-use Rattle.dw_notation.specs.declared.problems.pdn.automaton.State.TheVariants.{Between, BeforeName, InName, BehindName, InValue}
-use Rattle.dw_notation.specs.declared.problems.pdn.automaton.State.TheVariants.{BehindValue}
+use Rattle.dw_notation.specs.declared.problems.pdn.automaton.State.TheVariants.{Between, BeforeName, InName, BehindName}
+use Rattle.dw_notation.specs.declared.problems.pdn.automaton.State.TheVariants.{InValue, BehindValue}
 use Rattle.dw_notation.specs.declared.problems.pdn.automaton.Action.{Action}
 use Rattle.dw_notation.specs.declared.problems.pdn.automaton.Action.TheVariants.{Count, AddName, OpenValue, AddValue}
 use Rattle.dw_notation.specs.declared.problems.pdn.automaton.Action.TheVariants.{AddBoth}
@@ -57,8 +57,8 @@ pub reads_found : (at_end : Bool) (g : Geometry) (more : List ℕ) {state next :
     → sections_found at_end g state s (text ++ more) ≡ sections_found at_end g next t more
 reads_found at_end g more here = refl
 reads_found at_end g more (step {state} {next} {s} {text} byte action e silent rest) =
-    ap (λ x. found_by x.action (section_found g s) ++ sections_found at_end g x.state (after x.action s) (text ++ more)) e
-    ∙ ap (λ l. l ++ sections_found at_end g next (after action s) (text ++ more)) (silent (section_found g s))
+    ap (λ x. found_by x.action (section_found g s) ++ sections_found at_end g x.state (after x.action s) (text ++ more))
+    e ∙ ap (λ l. l ++ sections_found at_end g next (after action s) (text ++ more)) (silent (section_found g s))
     ∙ reads_found at_end g more rest
 
 -- nor does a tag end

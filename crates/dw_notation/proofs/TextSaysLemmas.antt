@@ -1,7 +1,6 @@
 -- What a text of lines says is what is found in it.
 use Rattle.std.proofs.Common.{◌≡◌, ℕ, ◌==◌, List, [], ◌∷◌, ◌++◌, length, Bool, true, false, cond, nat_lt, MatchBool}
-use Rattle.std.proofs.Common.{Some, None, Ok, Err, option_to_list, refl, sym, ap, subst, ◌∙◌}
-use Rattle.std.proofs.Common.{append_assoc, append-nil}
+use Rattle.std.proofs.Common.{Some, None, Ok, Err, option_to_list, refl, sym, ap, subst, ◌∙◌, append_assoc, append-nil}
 use Rattle.std.proofs.Common.{inl, inr, arith, codes, map}
 use Rattle.std.proofs.lemmas.Bool.{cases_Bool, and_parts, eqb-true}
 use Rattle.std.specs.Char.{to_ascii_lowercase}
@@ -57,7 +56,8 @@ fens_named (tag ∷ tags) = fen_value (same_name tag.name (codes "FEN")) (same_n
 
 game_value : (fen game : Bool) (value games : List ℕ) (named : List (List ℕ)) → games ≡ map game_of named
     → (fen ≡ true → game ≡ false)
-    → with_game (cond fen FenTag (cond game GameTag OtherTag)) value games ≡ map game_of (cond game (value ∷ named) named)
+    → with_game (cond fen FenTag (cond game GameTag OtherTag)) value games ≡ map game_of (cond game (value ∷ named)
+    named)
 game_value true true value games named rest apart = let bad : true ≡ false = apart refl in cc
 game_value true false value games named rest apart = rest
 game_value false true value games named rest apart = ap (λ l. game_of value ∷ l) rest
@@ -141,14 +141,15 @@ module _ (law : FensAreRead) where
       (line_says g line)))
   lines_say-from g over line (byte ∷ bytes) none = elim (cases_Bool (byte == 10)) [
     | inl feed ↦ rw feed (subst (λ b. LinesSay g over (line ++ b ∷ bytes) (option_to_list (line_found g line)
-        ++ found_from over g false [] bytes)) (sym (eqb-true byte 10 feed)) (one_more line (option_to_list (line_found g line))
-        none (line_says g line) (lines_say-from g over [] bytes tt)))
+        ++ found_from over g false [] bytes)) (sym (eqb-true byte 10 feed)) (one_more line (option_to_list (line_found g
+        line)) none (line_says g line) (lines_say-from g over [] bytes tt)))
     | inr other ↦ rw other (subst (λ l. LinesSay g over l (found_from over g false (line ++ byte ∷ []) bytes))
         (append_assoc line (byte ∷ []) bytes) (lines_say-from g over (line ++ byte ∷ []) bytes
         (NoLineFeed-push line byte none other)))
   ]
 
-  pub lines_say : (g : Geometry) (over : Bool) (bytes : List ℕ) → LinesSay g over bytes (found_from over g false [] bytes)
+  pub lines_say : (g : Geometry) (over : Bool) (bytes : List ℕ) → LinesSay g over bytes (found_from over g false []
+      bytes)
   lines_say g over bytes = lines_say-from g over [] bytes tt
 
   pub lines_say-only : {g : Geometry} {over : Bool} {bytes : List ℕ} {found : List Found} → LinesSay g over bytes found

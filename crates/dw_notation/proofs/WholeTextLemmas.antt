@@ -6,10 +6,8 @@ use Rattle.std.proofs.lemmas.Bool.{cases_Bool, and_from, eqb-true}
 use Rattle.std.specs.List.{list_all}
 use Rattle.dw_board.specs.Geometry.{Geometry}
 use Rattle.dw_notation.specs.TextLines.{Found}
-use Rattle.dw_notation.specs.Tags.{ends_line}
-use Rattle.dw_notation.specs.Tags.{Tag, IsTag, IsUnclosed, is_space, IsGap, IsSection}
-use Rattle.dw_notation.specs.inner.Tags.{tags_found, outside_found}
-use Rattle.dw_notation.specs.inner.Tags.{ends_section}
+use Rattle.dw_notation.specs.Tags.{ends_line, Tag, IsTag, IsUnclosed, is_space, IsGap, IsSection}
+use Rattle.dw_notation.specs.inner.Tags.{tags_found, outside_found, ends_section}
 use Rattle.dw_notation.specs.Tags.IsSection.{single, broken, longer, longer_broken}
 use Rattle.dw_notation.specs.TextLines.{if_over}
 use Rattle.dw_notation.specs.WholeTexts.{IsOpen, SectionsSay}
@@ -17,8 +15,8 @@ use Rattle.dw_notation.specs.WholeTexts.SectionsSay.{nothing, other, comment, la
 use Rattle.dw_notation.specs.declared.problems.ProblemFault.TheVariants.{UnclosedComment}
 use Rattle.dw_notation.proofs.TextSaysLemmas.{FensAreRead, section_says, section_says-only}
 use Rattle.dw_notation.proofs.TagFrontLemmas.{tag_or_none}
-use Rattle.dw_notation.proofs.SectionReadingLemmas.{sections_are_found, last_section_is_found}
-use Rattle.dw_notation.proofs.SectionReadingLemmas.{comments_say_nothing, open_comment_is_found, others_say_nothing}
+use Rattle.dw_notation.proofs.SectionReadingLemmas.{sections_are_found, last_section_is_found, comments_say_nothing}
+use Rattle.dw_notation.proofs.SectionReadingLemmas.{open_comment_is_found, others_say_nothing}
 use Rattle.dw_notation.proofs.SectionReadingLemmas.{open_comment_gives_nothing, open_section_gives_nothing}
 
 -- ---- a row says what is found
@@ -271,7 +269,8 @@ module _ (law : FensAreRead) where
       elim f.ends [
         | inl none ↦ (
           if_over over (said ∷ []),
-          subst (λ l. SectionsSay g over l (if_over over (said ∷ []))) (sym (f.joined ∙ ap (λ b. f.front ++ (f.gap ++ b)) none.0
+          subst (λ l. SectionsSay g over l (if_over over (said ∷ []))) (sym (f.joined ∙ ap (λ b. f.front ++ (f.gap ++
+              b)) none.0
               ∙ ap (λ l. f.front ++ l) (append-nil f.gap))) (last_section f.front f.gap said
               f.is none.1 here),
         )
@@ -283,7 +282,8 @@ module _ (law : FensAreRead) where
             let some = section_some f.is in
             let r = further (next.0 ∷ next.1) (omega (arith, sizes, one, two, some, size)) in (
               said ∷ r.0,
-              subst (λ l. SectionsSay g over l (said ∷ r.0)) (sym joined) (section f.front f.gap next.0 said f.is next.3 next.4 here
+              subst (λ l. SectionsSay g over l (said ∷ r.0)) (sym joined) (section f.front f.gap next.0 said f.is next.3
+                  next.4 here
                   r.1),
             )
       ]

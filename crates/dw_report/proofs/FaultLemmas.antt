@@ -1,7 +1,6 @@
 -- Lemmas on faults that are handed on, and on results without one.
-use Rattle.std.proofs.Common.{◌≡◌, ◌∙◌, ℕ, List, refl, sym, ap, subst, Option, Bool}
-use Rattle.std.proofs.Common.{true, false, Result, Ok, Err, IsErrOf, arith}
-use Rattle.std.proofs.Common.{IfOk, IsTrue, ◌↔◌}
+use Rattle.std.proofs.Common.{◌≡◌, ◌∙◌, ℕ, List, refl, sym, ap, subst, Option, Bool, true, false, Result, Ok, Err}
+use Rattle.std.proofs.Common.{IsErrOf, arith, IfOk, IsTrue, ◌↔◌}
 use Rattle.dw_solve.specs.Solving.{Solving}
 use Rattle.dw_solve.specs.declared.stop.Stop.{Stop}
 use Rattle.dw_solve.specs.declared.stop.Stop.TheVariants as stops

@@ -190,7 +190,8 @@ HasHanded-next g form bytes left after old new handed problem next has took need
 -- no more was read than the problem handed out last asks for
 pub need-last : (g : Geometry) (form : Form) (bytes : List ℕ) (left : Option (List ℕ)) (reader : Reader)
     (handed : List Numbered) (problem : Numbered)
-    → (has : HasHanded g form bytes left reader (handed ++ problem ∷ [])) → ReadsUpTo g form (length handed + 1) has.read
+    → (has : HasHanded g form bytes left reader (handed ++ problem ∷ [])) → ReadsUpTo g form (length handed + 1)
+    has.read
 need-last g form bytes left reader handed problem has = subst (λ n. ReadsUpTo g form n has.read)
     (number_at-push handed problem) has.need
 
@@ -279,8 +280,8 @@ HasHanded-end g form bytes left after old new handed next has took gives end =
             (ahead-unmet g form bytes left old handed has unmet true next)
         | inr over ↦
             let rest = read-rest bytes after (has.read ++ next) all in
-            are-same g form true (has.read ++ (next ++ rest.0)) bytes (handed ++ old.ahead g true (next ++ rest.0)) handed
-            (sym (rest.1 ∙ append_assoc has.read next rest.0))
+            are-same g form true (has.read ++ (next ++ rest.0)) bytes (handed ++ old.ahead g true (next ++ rest.0))
+            handed (sym (rest.1 ∙ append_assoc has.read next rest.0))
             (ap (λ l. handed ++ l) (over.1 rest.0) ∙ append-nil handed)
             (ahead-unmet g form bytes left old handed has unmet true (next ++ rest.0))
       ]

@@ -13,8 +13,7 @@ use Rattle.dw_verdict.specs.Verdict.{Keys, reach, Verdict, unsolvable, cooked, d
 use Rattle.dw_verdict.specs.VerdictLaws.{OneVerdict, TriesAreListed}
 use Rattle.dw_verdict.specs.inner.WinningLemmas.{winning_legal}
 use Rattle.dw_report.specs.JudgedText.{next_number, IsVerdictText, IsTryLine, AreTryLines}
-use Rattle.dw_report.specs.inner.JudgedText.{IsVerdictLine}
-use Rattle.dw_report.specs.inner.JudgedText.{AreTriesListed}
+use Rattle.dw_report.specs.inner.JudgedText.{IsVerdictLine, AreTriesListed}
 use Rattle.dw_report.specs.JudgedText.{IsJudgedText}
 
 -- the texts of legal moves

@@ -1,8 +1,8 @@
 -- Lemmas on lists of lines that are written row by row.
-use Rattle.std.proofs.Common.{◌≡◌, ℕ, zero, suc, ◌+◌, ◌<◌, ◌≤◌, ◌-◌, ◌%◌, List, [], ◌∷◌, ◌++◌, length, reverse}
-use Rattle.std.proofs.Common.{refl, sym, ap, ◌∙◌, subst, inl, inr, arith, append_assoc, append-nil, length-append}
-use Rattle.std.proofs.Common.{Option, Some, None, codes, decimal, Result, Ok, Err, OnOk, OnErr, IfOk, IsTrue, ◌↔◌, Bool}
-use Rattle.std.proofs.Common.{true, false}
+use Rattle.std.proofs.Common.{◌≡◌, ℕ, zero, suc, ◌+◌, ◌<◌, ◌≤◌, ◌-◌, ◌%◌, List, [], ◌∷◌, ◌++◌, length, reverse, refl}
+use Rattle.std.proofs.Common.{sym, ap, ◌∙◌, subst, inl, inr, arith, append_assoc, append-nil, length-append, Option}
+use Rattle.std.proofs.Common.{Some, None, codes, decimal, Result, Ok, Err, OnOk, OnErr, IfOk, IsTrue, ◌↔◌, Bool, true}
+use Rattle.std.proofs.Common.{false}
 use Rattle.std.proofs.lemmas.Bool.{cond-true, cond-false}
 use Rattle.std.specs.Io.KnownBytes.{Appends}
 use Rattle.std.proofs.KnownBytes.{Appends-trans, Appends-nil}
@@ -23,8 +23,7 @@ use Rattle.dw_list.specs.inner.StackWalk.{GivesNext}
 use Rattle.dw_list.specs.Tokens.{token_of}
 use Rattle.dw_list.specs.Laws.{GivenInTurn}
 use Rattle.dw_report.specs.ListedText.{AreLineTexts, IsListing, IsListedText, more_after}
-use Rattle.dw_report.specs.inner.Rows.{has_tokens}
-use Rattle.dw_report.specs.inner.Rows.{IsRow, IsNothing}
+use Rattle.dw_report.specs.inner.Rows.{has_tokens, IsRow, IsNothing}
 use Rattle.dw_report.specs.Running.{AreLinesOf, AreWholeLines, IsNoLine}
 use Rattle.dw_report.specs.inner.Running.{TextEnds}
 use Rattle.dw_report.proofs.JudgedTextLemmas.{line_playable}
@@ -48,8 +47,8 @@ line_odd g p (suc n) (m ∷ r ∷ l) h = let rest = line_odd g (play g (play g p
 abbrev pub HaveTexts : Geometry → Placement → List (List Move) → Type 0
 HaveTexts g p lines = (l : List Move) → Member l lines → (text : List ℕ) × IsLineText g p l text
 
-pub lines_text : LinesHaveTexts → (g : Geometry) → IsBoard g → (s : LineStack) (p : Placement) (lines : List (List Move))
-    → s.position ≡ p → AreToCome g s lines → HaveTexts g p lines
+pub lines_text : LinesHaveTexts → (g : Geometry) → IsBoard g → (s : LineStack) (p : Placement) (lines : List (List
+    Move)) → s.position ≡ p → AreToCome g s lines → HaveTexts g p lines
 lines_text laws g b s p lines e h = λ l m. laws.some g b p l
     (subst (λ z. ArePlayable g z l) e (line_playable g s.position s.moves l ((h.exactly l).0 m).0))
 
@@ -184,7 +183,8 @@ pub record RowsSoFar (g : Geometry) (p : Placement) (start now : LineStack) (cou
   pub rows : Rows g p start now count texts
   pub wrote : Appends old new texts
 
-pub no_rows : GivenInTurn → (g : Geometry) (p : Placement) (s : LineStack) (old : Option (List ℕ)) → RowsSoFar g p s s 0 old old
+pub no_rows : GivenInTurn → (g : Geometry) (p : Placement) (s : LineStack) (old : Option (List ℕ)) → RowsSoFar g p s s 0
+    old old
 no_rows turn g p s old = record {
   texts = [];
   rows = record {
@@ -209,8 +209,8 @@ row_given turn g p start a b count texts row h first r = record {
   are = rows_more g p h.given (reverse b.line) texts row h.are r;
 }
 
-pub row_written : GivenInTurn → (g : Geometry) (p : Placement) (start a b : LineStack) (count : ℕ) (old mid new : Option (List ℕ))
-    → RowsSoFar g p start a count old mid → GivesFirst g a b → Writes (IsRow g p (reverse b.line)) mid new
+pub row_written : GivenInTurn → (g : Geometry) (p : Placement) (start a b : LineStack) (count : ℕ) (old mid new : Option
+    (List ℕ)) → RowsSoFar g p start a count old mid → GivesFirst g a b → Writes (IsRow g p (reverse b.line)) mid new
     → RowsSoFar g p start b (count + 1) old new
 row_written turn g p start a b count old mid new h first w = record {
   texts = h.texts ++ w.text;
@@ -284,8 +284,8 @@ module _ (g : Geometry) (p : Placement) (most : ℕ) (some : 1 ≤ most) (start 
       }
 
   -- a row was cut short
-  row_short : GivenInTurn → (a b : LineStack) (count : ℕ) (old mid new : Option (List ℕ)) → RowsSoFar g p start a count old mid
-      → GivesFirst g a b → count < most → WritesShort (IsRow g p (reverse b.line)) mid new
+  row_short : GivenInTurn → (a b : LineStack) (count : ℕ) (old mid new : Option (List ℕ)) → RowsSoFar g p start a count
+      old mid → GivesFirst g a b → count < most → WritesShort (IsRow g p (reverse b.line)) mid new
       → WritesShort (IsListing g p most lines) old new
   row_short turn a b count old mid new h first few w =
       let r = begun_by b (count + 1) (h.texts ++ w.text) (row_given turn g p start a b count h.texts w.text h.rows first
@@ -307,7 +307,8 @@ module _ (g : Geometry) (p : Placement) (most : ℕ) (some : 1 ≤ most) (start 
       }) few
 
   -- a row was not written to its end
-  pub row_ends : {X Y : Type 0} → GivenInTurn → (a b : LineStack) (count : ℕ) (old mid new : Option (List ℕ)) (r : Result X TextFault)
+  pub row_ends : {X Y : Type 0} → GivenInTurn → (a b : LineStack) (count : ℕ) (old mid new : Option (List ℕ)) (r :
+      Result X TextFault)
       (s : Result Y TextFault) (fault other : TextFault) → RowsSoFar g p start a count old mid → GivesFirst g a b
       → count < most
       → r ≡ Err fault → s ≡ Err other → fault ≡ other → TextEnds (IsRow g p (reverse b.line)) IsNothing mid new r

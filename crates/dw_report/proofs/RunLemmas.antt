@@ -1,6 +1,6 @@
 -- Lemmas on a run so far.
-use Rattle.std.proofs.Common.{◌≡◌, ℕ, ◌+◌, ◌≤◌, inl, inr, ◌⊎◌, List, [], ◌∷◌, ◌++◌, Bool, true, false, Option}
-use Rattle.std.proofs.Common.{Some, None, Ok, Err, refl, sym, ap, ◌∙◌, append_assoc, append-nil, arith, subst, length}
+use Rattle.std.proofs.Common.{◌≡◌, ℕ, ◌+◌, ◌≤◌, inl, inr, ◌⊎◌, List, [], ◌∷◌, ◌++◌, Bool, true, false, Option, Some}
+use Rattle.std.proofs.Common.{None, Ok, Err, refl, sym, ap, ◌∙◌, append_assoc, append-nil, arith, subst, length}
 use Rattle.std.proofs.Common.{length-append, Result, is_err, ◌||◌, cond, ◌↔◌, IsTrue, if◌then◌else◌, add-zero}
 use Rattle.std.specs.List.{list_any}
 use Rattle.std.proofs.lemmas.Bool.{cases_Bool, true≢false, eqb-true}
@@ -15,8 +15,7 @@ use Rattle.dw_notation.specs.Writes.{Writes}
 use Rattle.dw_notation.specs.inner.Writes.{WritesShort}
 use Rattle.dw_report.specs.Request.{number_is_chosen, number_is_asked, Request}
 use Rattle.dw_report.specs.Report.{AreTexts, IsReportOn, chosen}
-use Rattle.dw_report.specs.Running.{RunEnds, IsPart, IsPartOn, BeginsReport, IsRefused, AreRefused}
-use Rattle.dw_report.specs.Running.{ReadsUpTo}
+use Rattle.dw_report.specs.Running.{RunEnds, IsPart, IsPartOn, BeginsReport, IsRefused, AreRefused, ReadsUpTo}
 use Rattle.dw_report.specs.inner.Running.{TextEnds, CountsOne, ended_by}
 use Rattle.dw_report.specs.declared.problem.TextFault.{TextFault}
 use Rattle.dw_solve.specs.declared.stop.Stop.{Stop}
@@ -25,9 +24,9 @@ use Rattle.dw_report.specs.declared.settings.RunFault.TheVariants.{Stopped, Read
 use Rattle.dw_report.proofs.ChosenLemmas.{is_asked, AreNumbered, problems-AreNumbered, number_here, up_to_asked-none}
 use Rattle.dw_report.proofs.ChosenLemmas.{up_to_asked-here, chosen-through, any-push, report_on-append, part_on-behind}
 use Rattle.dw_report.proofs.ChosenLemmas.{refused-push, length-chosen-push}
-use Rattle.dw_report.proofs.HandedLemmas.{HasHanded, GivesOne, GivesNone, HasHanded-start, HasHanded-next, number_at-some}
-use Rattle.dw_report.proofs.HandedLemmas.{number_at}
-use Rattle.dw_report.proofs.HandedLemmas.{EndsThere, HasHanded-ahead, HasHanded-all, HasHanded-end, ahead-unmet, need-last}
+use Rattle.dw_report.proofs.HandedLemmas.{HasHanded, GivesOne, GivesNone, HasHanded-start, HasHanded-next}
+use Rattle.dw_report.proofs.HandedLemmas.{number_at-some, number_at, EndsThere, HasHanded-ahead, HasHanded-all}
+use Rattle.dw_report.proofs.HandedLemmas.{HasHanded-end, ahead-unmet, need-last}
 use Rattle.dw_report.proofs.WritingLemmas.{begins_within, chosen_one}
 
 -- ---- a run so far
@@ -160,7 +159,8 @@ SoFar-asked g request (Some bytes) left has_ended taken after reader summary pro
         wrote = more.wrote.wrote;
       };
       counts = record {
-        read = more.read ∙ sym (ap length (up_to_asked-here request.only more.before rest.0 problem more.unasked asked));
+        read = more.read ∙ sym (ap length (up_to_asked-here request.only more.before rest.0 problem more.unasked
+            asked));
         shown = more.shown ∙ sym (ap length through);
         refusals = subst (λ z. AreRefused g request z summary.refused) (sym through) more.refusals;
       };
@@ -285,7 +285,8 @@ SoFar-write g request (Some bytes) left after has_ended taken mid written old ne
     }
 
 pub SoFar-stopped : (g : Geometry) (request : Request) (coming left after : Option (List ℕ)) (has_ended : Bool)
-    (taken mid written : Option (List ℕ)) (old new : Reader) (summary : Summary) (problem : Numbered) (next : List ℕ) (why : Stop) (expanded : ℕ)
+    (taken mid written : Option (List ℕ)) (old new : Reader) (summary : Summary) (problem : Numbered) (next : List ℕ)
+    (why : Stop) (expanded : ℕ)
     → SoFar g request coming left taken mid old summary → Consumes left after next → ReadsAtNeed g old next
     → GivesOne g old new next problem new.met_end → EndsThere after new
     → (old.met_end ≡ true → new.met_end ≡ true) → (new.met_end ≡ true → has_ended ≡ true)
@@ -322,12 +323,13 @@ SoFar-stopped g request (Some bytes) left after has_ended taken mid written old 
 
 -- a problem's text was not written to its end, and so the run ends
 pub SoFar-fault : (g : Geometry) (request : Request) (coming left after : Option (List ℕ)) (has_ended : Bool)
-    (taken mid written : Option (List ℕ)) (old new : Reader) (summary : Summary) (problem : Numbered) (next : List ℕ) (expanded : ℕ) (fault : TextFault)
+    (taken mid written : Option (List ℕ)) (old new : Reader) (summary : Summary) (problem : Numbered) (next : List ℕ)
+    (expanded : ℕ) (fault : TextFault)
     → SoFar g request coming left taken mid old summary → Consumes left after next → ReadsAtNeed g old next
     → GivesOne g old new next problem new.met_end → EndsThere after new
     → (old.met_end ≡ true → new.met_end ≡ true) → (new.met_end ≡ true → has_ended ≡ true) → HaveTexts g request
-    → TextEnds {X = Summary} (IsReportOn g request (problem ∷ [])) (IsPartOn g request problem.number (problem ∷ [])) mid
-    written (Err fault)
+    → TextEnds {X = Summary} (IsReportOn g request (problem ∷ [])) (IsPartOn g request problem.number (problem ∷ []))
+    mid written (Err fault)
     → RunEnds g request coming after has_ended taken written (Err (ended_by fault expanded))
 SoFar-fault g request coming left after has_ended taken mid written old new summary problem next expanded
     (TextFault.Stopped why) so_far took need gives end stays over exist h = SoFar-stopped g request coming left after

@@ -1,7 +1,6 @@
 -- Lemmas on what a call for the next problem makes of a run so far.
-use Rattle.std.proofs.Common.{◌≡◌, ◌∙◌, ℕ, ◌+◌, ◌≤◌, List, [], ◌∷◌, length, refl}
-use Rattle.std.proofs.Common.{sym, ap, subst, true, false, Bool, add-zero}
-use Rattle.std.proofs.Common.{Option, Some, None, Result, Ok, Err}
+use Rattle.std.proofs.Common.{◌≡◌, ◌∙◌, ℕ, ◌+◌, ◌≤◌, List, [], ◌∷◌, length, refl, sym, ap, subst, true, false, Bool}
+use Rattle.std.proofs.Common.{add-zero, Option, Some, None, Result, Ok, Err}
 use Rattle.std.specs.Result.{IsErr}
 use Rattle.dw_board.specs.Geometry.{Geometry}
 use Rattle.dw_notation.specs.Problems.{Numbered, numbered}
@@ -18,14 +17,14 @@ use Rattle.dw_report.specs.declared.problem.TextFault.{TextFault}
 use Rattle.dw_report.specs.declared.settings.Summary.{Summary}
 use Rattle.dw_report.specs.declared.settings.RunFault.TheVariants.{Read}
 use Rattle.dw_report.proofs.HandedLemmas.{EndsThere}
-use Rattle.dw_report.proofs.RunLemmas.{SoFar, SoFar-more, SoFar-end, SoFar-read, SoFar-fault, More}
-use Rattle.dw_report.proofs.RunLemmas.{HaveTexts, unmet_before}
+use Rattle.dw_report.proofs.RunLemmas.{SoFar, SoFar-more, SoFar-end, SoFar-read, SoFar-fault, More, HaveTexts}
+use Rattle.dw_report.proofs.RunLemmas.{unmet_before}
 use Rattle.dw_report.proofs.WritingLemmas.{chosen_none}
 
 -- no problem is left
 pub next_none : {B : Type 0} (g : Geometry) (request : Request) (coming left after : Option (List ℕ))
-    (has_ended : Bool) (taken mid : Option (List ℕ)) (old new : Reader) (summary : Summary) (o : Option (Problem B)) → o ≡ None
-    → NextGives g left after old new (Ok o) → IsCounted old new (Ok o)
+    (has_ended : Bool) (taken mid : Option (List ℕ)) (old new : Reader) (summary : Summary) (o : Option (Problem B)) → o
+    ≡ None → NextGives g left after old new (Ok o) → IsCounted old new (Ok o)
     → SoFar g request coming left taken mid old summary → EndsThere after new → old.handed ≤ MAX_PROBLEMS + 1
     → RunEnds g request coming after has_ended taken mid (Ok summary)
 next_none {B} g request coming left after has_ended taken mid old new summary o e given counted so_far end bound =
@@ -36,7 +35,8 @@ next_none {B} g request coming left after has_ended taken mid old new summary o 
 
 -- the source failed
 pub next_failed : {B : Type 0} (g : Geometry) (request : Request) (coming left after : Option (List ℕ))
-    (has_ended : Bool) (taken mid : Option (List ℕ)) (old new : Reader) (summary : Summary) (r : Result (Option (Problem B)) ReadFault) (fault : ReadFault)
+    (has_ended : Bool) (taken mid : Option (List ℕ)) (old new : Reader) (summary : Summary) (r : Result (Option (Problem
+    B)) ReadFault) (fault : ReadFault)
     (is_failed : Bool) → r ≡ Err fault → NextGives g left after old new r → (IsErr r → HasStopped is_failed new)
     → (old.met_end ≡ true → new.met_end ≡ true) → SoFar g request coming left taken mid old summary
     → RunEnds g request coming after has_ended taken mid (Err Read)
@@ -71,8 +71,8 @@ next_more {B} g request coming left after taken mid written old new summary coun
 
 -- or not to its end
 pub next_fault : {B : Type 0} (g : Geometry) (request : Request) (coming left after : Option (List ℕ))
-    (has_ended : Bool) (taken mid written : Option (List ℕ)) (old new : Reader) (summary : Summary) (o : Option (Problem B)) (p : Problem B) (expanded : ℕ)
-    (r : Result Summary TextFault) (fault : TextFault) → o ≡ Some p → r ≡ Err fault
+    (has_ended : Bool) (taken mid written : Option (List ℕ)) (old new : Reader) (summary : Summary) (o : Option (Problem
+    B)) (p : Problem B) (expanded : ℕ) (r : Result Summary TextFault) (fault : TextFault) → o ≡ Some p → r ≡ Err fault
     → NextGives g left after old new (Ok o) → SoFar g request coming left taken mid old summary
     → EndsThere after new → (old.met_end ≡ true → new.met_end ≡ true) → (new.met_end ≡ true → has_ended ≡ true)
     → HaveTexts g request
@@ -82,8 +82,8 @@ next_fault {B} g request coming left after has_ended taken mid written old new s
     so_far end stays over exist text =
     let now = subst (λ (z : Option (Problem B)). NextGives {B = B} g left after old new (Ok z)) e given in
     SoFar-fault g request coming left after has_ended taken mid written old new summary (numbered p) now.read expanded
-    fault so_far now.took now.need now.gives end stays over exist (subst (TextEnds (IsReportOn g request (numbered p ∷ []))
-    (IsPartOn g request p.number (numbered p ∷ [])) mid written) is text)
+    fault so_far now.took now.need now.gives end stays over exist (subst (TextEnds (IsReportOn g request (numbered p ∷
+    [])) (IsPartOn g request p.number (numbered p ∷ [])) mid written) is text)
 
 -- a problem more that is not chosen
 pub counts_passed : (g : Geometry) (request : Request) (old new : Summary) (p : Numbered)

@@ -19,8 +19,7 @@ use Rattle.dw_solve.specs.Laws.{WinsAreDecided}
 use Rattle.dw_solve.specs.inner.ListLemmas.{at_item}
 use Rattle.dw_verdict.specs.Verdict.{Verdict, IsVerdict, IsRefutation, IsTry, Tries, FindsRefutation}
 use Rattle.dw_report.specs.JudgedText.{IsVerdictText, IsTryLine, AreTryLines, IsJudgedText}
-use Rattle.dw_report.specs.inner.JudgedText.{AreTriesListed}
-use Rattle.dw_report.specs.inner.JudgedText.{IsTryText}
+use Rattle.dw_report.specs.inner.JudgedText.{AreTriesListed, IsTryText}
 use Rattle.dw_report.specs.Running.{AreWholeLines, AreLinesOf}
 use Rattle.dw_report.specs.inner.Running.{TextEnds}
 use Rattle.dw_report.specs.declared.problem.TextFault.{TextFault}

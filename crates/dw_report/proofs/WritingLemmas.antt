@@ -15,8 +15,7 @@ use Rattle.dw_report.specs.Report.{IsSaid, IsFurther, IsProblemText, AreTexts, I
 use Rattle.dw_report.specs.declared.settings.Command.{Command}
 use Rattle.dw_report.specs.declared.settings.Command.TheVariants.{Show, Moves, Judge, List as Lists}
 use Rattle.dw_report.specs.Running.{AreLinesOf, IsPartOn}
-use Rattle.dw_report.specs.inner.Running.{IsProblemPart}
-use Rattle.dw_report.specs.inner.Running.{at_once, IsSaidThen, IsRest, SearchesFor, TextEnds}
+use Rattle.dw_report.specs.inner.Running.{IsProblemPart, at_once, IsSaidThen, IsRest, SearchesFor, TextEnds}
 use Rattle.dw_solve.specs.Solving.{Solving}
 use Rattle.dw_solve.specs.declared.stop.Stop.{Stop}
 use Rattle.dw_report.specs.declared.problem.TextFault.{TextFault}
@@ -199,7 +198,8 @@ one_report_on g request problem e text h = subst (λ l. AreTexts g request l tex
     (sym (chosen_one request.only problem e)) (text, [], h, refl, sym (append-nil text))
 
 pub one_part_on : (g : Geometry) (request : Request) (problem : Numbered) → number_is_chosen request.only problem.number
-    ≡ true → (text : List ℕ) → IsProblemPart g request problem text → IsPartOn g request problem.number (problem ∷ []) text
+    ≡ true → (text : List ℕ) → IsProblemPart g request problem text → IsPartOn g request problem.number (problem ∷ [])
+    text
 one_part_on g request problem e text h = record {
   before = [];
   problem = problem;

@@ -1,6 +1,6 @@
 -- Replies of which some are put off, and the others were answered.
-use Rattle.std.proofs.Common.{◌≡◌, ℕ, ◌+◌, ◌≤◌, ◌<◌, ◌⊎◌, ◌↔◌, Bool, true, false, List, [], ◌∷◌, ◌++◌, length}
-use Rattle.std.proofs.Common.{get_or, refl, sym, ap, ◌∙◌, subst, inl, inr, arith, IsTrue}
+use Rattle.std.proofs.Common.{◌≡◌, ℕ, ◌+◌, ◌≤◌, ◌<◌, ◌⊎◌, ◌↔◌, Bool, true, false, List, [], ◌∷◌, ◌++◌, length, get_or}
+use Rattle.std.proofs.Common.{refl, sym, ap, ◌∙◌, subst, inl, inr, arith, IsTrue}
 use Rattle.std.specs.Prelude.{Option, Some, None}
 use Rattle.std.proofs.lemmas.List.{map-append}
 use Rattle.std.specs.List.Sorted.{IsPermutation}
@@ -47,7 +47,8 @@ module _ {M G : Type 0} (g : Geometry) (content : M → Content) (lost : M → �
     count = k.count ∙ h.count;
     limit = k.limit ∙ h.limit;
     same = λ e. ((λ m. (k.same e).0 ((h.same e).0 m)), (λ m. (h.same e).1 ((k.same e).1 m)));
-    work = searched_after g 0 0 (at_time content lost a) (at_time content lost b) (at_time content lost c) h.work k.work;
+    work = searched_after g 0 0 (at_time content lost a) (at_time content lost b) (at_time content lost c) h.work
+        k.work;
   }
 
 pub counted_looked : (a l b l' : ℕ) → a ≤ l → b ≡ a → l' ≡ l → IsCounted a l b l'

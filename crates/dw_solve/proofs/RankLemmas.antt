@@ -1,6 +1,6 @@
 -- Lists of ranked moves.
-use Rattle.std.proofs.Common.{◌≡◌, ℕ, ◌+◌, ◌≤◌, ◌<◌, zero, suc, List, [], ◌∷◌, ◌++◌, length, take, get_or, refl}
-use Rattle.std.proofs.Common.{sym, ap, ◌∙◌, subst, ◌⊎◌, ◌↔◌, false, inl, inr, arith}
+use Rattle.std.proofs.Common.{◌≡◌, ℕ, ◌+◌, ◌≤◌, ◌<◌, zero, suc, List, [], ◌∷◌, ◌++◌, length, take, get_or, refl, sym}
+use Rattle.std.proofs.Common.{ap, ◌∙◌, subst, ◌⊎◌, ◌↔◌, false, inl, inr, arith}
 use Rattle.std.specs.Prelude.{Contains}
 use Rattle.std.specs.List.Sorted.{IsPermutation}
 use Rattle.std.specs.List.{IsDistinct, AllByRecursion}
@@ -48,8 +48,8 @@ ranked_members g p ranked all m = (
 )
 
 -- one more move, with its rank
-pub ranked_more : (moves : List Move) (ranked : List (ℕ × Move)) (i rank : ℕ) (m : Move) → moves_of ranked ≡ take i moves
-    → i < length moves → m ≡ get_or moves i m → moves_of (ranked ++ (rank, m) ∷ []) ≡ take (i + 1) moves
+pub ranked_more : (moves : List Move) (ranked : List (ℕ × Move)) (i rank : ℕ) (m : Move) → moves_of ranked ≡ take i
+    moves → i < length moves → m ≡ get_or moves i m → moves_of (ranked ++ (rank, m) ∷ []) ≡ take (i + 1) moves
 ranked_more moves ranked i rank m h low is =
     let next = take-suc moves i m low in
     map-append (λ (r : ℕ × Move). r.1) ranked ((rank, m) ∷ [])
@@ -118,8 +118,8 @@ ranked_anyhow g p ranked sorted all moved =
             (IsPermutation-sym (moves_of ranked) (moves_of sorted) there) m k)),
         (λ l. still_there (moves_of ranked) (moves_of sorted) there m ((all.exactly m).1 l)),
       );
-      once = no_repeat (moves_of sorted) (IsDistinct-IsPermutation same_moves same_flip (moves_of ranked) (moves_of sorted) there
-          (distinct (moves_of ranked) all.once));
+      once = no_repeat (moves_of sorted) (IsDistinct-IsPermutation same_moves same_flip (moves_of ranked) (moves_of
+          sorted) there (distinct (moves_of ranked) all.once));
     }
 
 -- what stands at an index is a legal move

@@ -118,8 +118,8 @@ one_key lines g p n m one (None, none) = (sound m, sound_found g p n m one none)
 one_key lines g p n m one (Some d, found) = (dual d.0 d.1, dual_found lines g p n m d.0 d.1 one found)
 
 -- there is a verdict
-pub verdict_some : MovesListed → WinsAreDecided → WinsStay → MovesInOrder → MovesHaveKeys → WinsHaveLines → (g : Geometry)
-    → IsBoard g → (p : Placement) (n : ℕ) → (v : Verdict) × IsVerdict g p n v
+pub verdict_some : MovesListed → WinsAreDecided → WinsStay → MovesInOrder → MovesHaveKeys → WinsHaveLines → (g :
+    Geometry) → IsBoard g → (p : Placement) (n : ℕ) → (v : Verdict) × IsVerdict g p n v
 verdict_some listed decided stay order law lines g board p n = by_keys (keys_exist listed decided order g board p n)
   where
     by_keys : (ks : List Move) × Keys g p n ks → (v : Verdict) × IsVerdict g p n v

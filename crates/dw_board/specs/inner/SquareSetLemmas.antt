@@ -13,8 +13,8 @@ use Rattle.std.proofs.lemmas.Nat.Bits.{bit_at_or, bit_at-zero, bit_at-pow_same, 
 use Rattle.std.proofs.lemmas.Nat.Bits.{same_from_bits, bit_at_above}
 use Rattle.std.proofs.lemmas.Bool.Decides.{nat_tests}
 use Rattle.dw_board.specs.Geometry.{Geometry, IsBoard, squares, OnBoard, bit, Squares, is_square}
-use Rattle.dw_board.specs.SquareSet.{is_set, square_at, members_below, squares_of, word_below, word_of}
-use Rattle.dw_board.specs.SquareSet.{OnlySquares, WholeBoard}
+use Rattle.dw_board.specs.SquareSet.{is_set, square_at, members_below, squares_of, word_below, word_of, OnlySquares}
+use Rattle.dw_board.specs.SquareSet.{WholeBoard}
 use Rattle.dw_board.specs.inner.GeometryLemmas.{square_at-bit, bit-square_at}
 
 pub contains-insert : (v : Squares) (k q : ℕ) → set.contains (set.insert v k) q ≡ (eqb q k || set.contains v q)

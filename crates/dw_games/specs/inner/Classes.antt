@@ -4,8 +4,7 @@ use Rattle.dw_board.specs.FenTokens.{is_digit}
 use Rattle.dw_notation.specs.Tags.{is_space}
 use Rattle.dw_games.specs.Tokens.{is_dot, is_praise, is_written, is_inside, is_in_line}
 use Rattle.dw_games.specs.declared.class.Class.{Class}
-use Rattle.dw_games.specs.declared.class.Class.TheVariants.{Digit, Dot, Praise, Written, Inside, InLine}
-use Rattle.dw_games.specs.declared.class.Class.TheVariants.{Space}
+use Rattle.dw_games.specs.declared.class.Class.TheVariants.{Digit, Dot, Praise, Written, Inside, InLine, Space}
 
 -- whether a byte is of a class
 abbrev pub test_of : Class → ℕ → Bool

@@ -1,6 +1,6 @@
 -- Bytes without a section.
-use Rattle.std.specs.Prelude.{◌≡◌, ℕ, if◌then◌else◌, List, [], ◌∷◌, ◌++◌, drop, Bool, true, false}
-use Rattle.std.specs.Prelude.{Option, Result, Err, OnOk, IfOk}
+use Rattle.std.specs.Prelude.{◌≡◌, ℕ, if◌then◌else◌, List, [], ◌∷◌, ◌++◌, drop, Bool, true, false, Option, Result, Err}
+use Rattle.std.specs.Prelude.{OnOk, IfOk}
 use Rattle.dw_board.specs.Geometry.{Geometry}
 use Rattle.dw_notation.specs.Tags.{open_bracket, close_brace}
 use Rattle.dw_notation.specs.WholeTexts.{IsOpen}

@@ -4,8 +4,8 @@ use Rattle.dw_notation.specs.declared.read_move.MoveFault.{MoveFault}
 use Rattle.dw_notation.specs.declared.read_move.MoveFault.TheVariants as reading
 use Rattle.dw_games.specs.declared.fault.MovetextFault.{MovetextFault}
 use Rattle.dw_games.specs.declared.fault.MovetextFault.TheVariants.{Refused, Memory}
-use Rattle.dw_games.specs.declared.fault.MovetextFaultKind.TheVariants.{Token as NoToken, NoSuchMove}
-use Rattle.dw_games.specs.declared.fault.MovetextFaultKind.TheVariants.{Ambiguous, TooLong}
+use Rattle.dw_games.specs.declared.fault.MovetextFaultKind.TheVariants.{Token as NoToken, NoSuchMove, Ambiguous}
+use Rattle.dw_games.specs.declared.fault.MovetextFaultKind.TheVariants.{TooLong}
 
 -- the fault at a place, by whether the path has as many moves as it may, and why no move was read
 abbrev pub refusal_of : ℕ → Bool → MoveFault → MovetextFault

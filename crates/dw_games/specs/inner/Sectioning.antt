@@ -1,6 +1,6 @@
 -- A section, read piece by piece.
-use Rattle.std.specs.Prelude.{◌≡◌, ◌==◌, ◌<◌, ◌||◌, ◌⊎◌, not, ℕ, List, [], ◌∷◌, ◌++◌, length, Bool, true, false}
-use Rattle.std.specs.Prelude.{Option, Result, Ok, Err, OnOk, IfOk, MatchOption}
+use Rattle.std.specs.Prelude.{◌≡◌, ◌==◌, ◌<◌, ◌||◌, ◌⊎◌, not, ℕ, List, [], ◌∷◌, ◌++◌, length, Bool, true, false, Option}
+use Rattle.std.specs.Prelude.{Result, Ok, Err, OnOk, IfOk, MatchOption}
 use Rattle.std.specs.List.{list_all}
 use Rattle.dw_board.specs.Geometry.{Geometry}
 use Rattle.dw_notation.specs.TextLines.{Found}

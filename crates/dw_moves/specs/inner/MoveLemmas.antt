@@ -1,6 +1,6 @@
 -- Equality of moves is equality of what contracts see, and a list of legal moves has legal moves.
-use Rattle.std.proofs.Common.{◌≡◌, ℕ, ◌<◌, zero, suc, Bool, true, List, [], ◌∷◌, length, get_or, sym, ap, ◌∙◌}
-use Rattle.std.proofs.Common.{◌↔◌, inl, inr, arith, eqb}
+use Rattle.std.proofs.Common.{◌≡◌, ℕ, ◌<◌, zero, suc, Bool, true, List, [], ◌∷◌, length, get_or, sym, ap, ◌∙◌, ◌↔◌, inl}
+use Rattle.std.proofs.Common.{inr, arith, eqb}
 use Rattle.std.specs.Cmp.{nat_cmp_total}
 use Rattle.std.specs.Cmp.Lexicographic.{pointwise, bytes_decides}
 use Rattle.std.specs.FinSet as set

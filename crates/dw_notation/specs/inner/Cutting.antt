@@ -1,6 +1,6 @@
 -- What a reader of problems holds, and how the pieces of a text are cut off and handed out.
-use Rattle.std.specs.Prelude.{◌≡◌, ℕ, ◌≤◌, ◌==◌, ◌&&◌, ◌⊎◌, List, [], ◌++◌, length, Bool, true, false, not}
-use Rattle.std.specs.Prelude.{Option, option_to_list, Result, Ok, Err, nat_le}
+use Rattle.std.specs.Prelude.{◌≡◌, ℕ, ◌≤◌, ◌==◌, ◌&&◌, ◌⊎◌, List, [], ◌++◌, length, Bool, true, false, not, Option}
+use Rattle.std.specs.Prelude.{option_to_list, Result, Ok, Err, nat_le}
 use Rattle.std.specs.Io.KnownBytes.{Consumes}
 use Rattle.dw_board.specs.Geometry.{Geometry}
 use Rattle.dw_notation.specs.TextLines.{Found}

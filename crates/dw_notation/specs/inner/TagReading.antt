@@ -5,9 +5,8 @@ use Rattle.dw_notation.specs.inner.Sections.{Section, bare, transition, after}
 use Rattle.dw_notation.specs.declared.problems.pdn.automaton.State.{State}
 use Rattle.dw_notation.specs.declared.problems.pdn.automaton.State.TheVariants.{BeforeName}
 use Rattle.dw_notation.specs.declared.problems.pdn.automaton.Action.{Action}
-use Rattle.dw_notation.specs.declared.problems.pdn.automaton.Action.TheVariants.{Keep, Open, Count}
-use Rattle.dw_notation.specs.declared.problems.pdn.automaton.Action.TheVariants.{AddName, OpenValue, AddValue}
-use Rattle.dw_notation.specs.declared.problems.pdn.automaton.Action.TheVariants.{AddBoth, Close, Break}
+use Rattle.dw_notation.specs.declared.problems.pdn.automaton.Action.TheVariants.{Keep, Open, Count, AddName, OpenValue}
+use Rattle.dw_notation.specs.declared.problems.pdn.automaton.Action.TheVariants.{AddValue, AddBoth, Close, Break}
 use Rattle.dw_notation.specs.declared.problems.pdn.automaton.Action.TheVariants.{EndLine, NextTag, End}
 
 -- what is read of a tag, and what stands behind it

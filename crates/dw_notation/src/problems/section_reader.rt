@@ -35,8 +35,8 @@ impl<B: Board> SectionReader<B> {
         }
     }
 
-    /// Reads up to the byte that ends a section, and returns its place. That byte is no part of the section. It reads all
-    /// bytes if none ends it.
+    /// Reads up to the byte that ends a section, and returns its place. That byte is no part of the section. It reads
+    /// all bytes if none ends it.
     /// Example: in `[FEN "W:W32:B28"] 1. 32x23` the section is ended by the `1`, whose place is 18.
     #[tactic(auto, unfolding(crate::specs::inner::Readers::ahead_of))]
     pub fn cut(&mut self, bytes: &[u8]) -> Option<usize>

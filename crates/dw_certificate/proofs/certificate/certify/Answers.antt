@@ -2,8 +2,8 @@ use Rattle.std.proofs.Common.{◌≡◌, ◌+◌, ◌-◌, ◌∙◌, sym, subst
 use Rattle.dw_certificate.specs.Certificate.{claims}
 use Rattle.dw_certificate.specs.inner.Rows.{AreFollowed, IsSupported, Knows, LeadsTo}
 use Rattle.dw_certificate.proofs.RowLemmas.{knows_grown}
-use Rattle.dw_certificate.proofs.ClosedLemmas.{rows_first, rows_grown, some_at, followed_none, followed_more}
-use Rattle.dw_certificate.proofs.ClosedLemmas.{none_at, certificate_of}
+use Rattle.dw_certificate.proofs.ClosedLemmas.{rows_first, rows_grown, some_at, followed_none, followed_more, none_at}
+use Rattle.dw_certificate.proofs.ClosedLemmas.{certificate_of}
 use Rattle.dw_certificate.proofs.certificate.certify.Goals as goal
 
 pub rows-init : goal.rows-init
@@ -35,7 +35,8 @@ rows-preserved g c =
     let here : IsSupported geo win place (bound - 1) old new =
     subst (λ w. IsSupported geo w place (bound - 1) old new) same c.in_ok-support.ensures.supported in
     record {
-      are = rows_grown (LeadsTo geo place here.steps) n old new c.rows.index place bound c.rows.invariant.are at here.grown;
+      are = rows_grown (LeadsTo geo place here.steps) n old new c.rows.index place bound c.rows.invariant.are at
+          here.grown;
       known = subst (λ w. Knows w (claims w new) p n) (sym same)
           (knows_grown win (LeadsTo geo place here.steps) (bound - 1) old new p n here.grown c.rows.invariant.known);
       followed = subst (λ w. AreFollowed geo p w new (c.rows.index + 1)) (sym same)

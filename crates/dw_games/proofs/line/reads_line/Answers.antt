@@ -15,7 +15,8 @@ returns-then-is_opening g c = λ p h.
       on.0,
       token_value c.in-Some.token,
       _,
-      ahead_all c.args.tokens.now c.next.new.self _ (read_more c.args.tokens.now c.tokens.tokens c.next.new.self on.0 (token_value c.in-Some.token) on.2 c.in-Some.ensures.token),
+      ahead_all c.args.tokens.now c.next.new.self _ (read_more c.args.tokens.now c.tokens.tokens c.next.new.self on.0
+          (token_value c.in-Some.token) on.2 c.in-Some.ensures.token),
       begins_variation (is_straight _ p on.0 c.tokens.reader on.1) (c.is_opening.ensures.0 c.if-is_opening.true),
       refl,
     )
@@ -24,10 +25,10 @@ pub returns-in_err-take : goal.returns-in_err-take
 returns-in_err-take g c = λ p h.
     let on = c.tokens.invariant.gone_on p h in
     let e = err_from_is_err_and c.from_residual.result c.from_residual.ensures.1 in
-    rw (e.1, e.2) (line_stopped _ p c.args.tokens.now c.next.new.self c.take.new.self c.tokens.reader on.0 (token_value c.in-Some.token) _ _
-    on.1
-    (ahead_all c.args.tokens.now c.next.new.self _ (read_more c.args.tokens.now c.tokens.tokens c.next.new.self on.0 (token_value c.in-Some.token) on.2 c.in-Some.ensures.token))
-    (c.in_err-take.ensures p on.0 on.1.read))
+    rw (e.1, e.2) (line_stopped _ p c.args.tokens.now c.next.new.self c.take.new.self c.tokens.reader on.0 (token_value
+    c.in-Some.token) _ _ on.1
+    (ahead_all c.args.tokens.now c.next.new.self _ (read_more c.args.tokens.now c.tokens.tokens c.next.new.self on.0
+    (token_value c.in-Some.token) on.2 c.in-Some.ensures.token)) (c.in_err-take.ensures p on.0 on.1.read))
 
 pub returns-then-branch : goal.returns-then-branch
 returns-then-branch g c = λ p h.
@@ -37,7 +38,8 @@ returns-then-branch g c = λ p h.
       token_value c.in-Some.token,
       record { read = taken.1; none_opens = on.1.none_opens },
       taken.0,
-      read_more c.args.tokens.now c.tokens.tokens c.next.new.self on.0 (token_value c.in-Some.token) on.2 c.in-Some.ensures.token,
+      read_more c.args.tokens.now c.tokens.tokens c.next.new.self on.0 (token_value c.in-Some.token) on.2
+          c.in-Some.ensures.token,
     )
 
 pub tokens-preserved : goal.tokens-preserved
@@ -54,7 +56,8 @@ tokens-preserved g c =
               read = rw c.if-branch.false at (c.in_ok-take.ensures p on.0 on.1.read);
               none_opens = none_more on.0 (token_value c.in-Some.token) on.1.none_opens other;
             },
-            read_more c.args.tokens.now c.tokens.tokens c.next.new.self on.0 (token_value c.in-Some.token) on.2 c.in-Some.ensures.token,
+            read_more c.args.tokens.now c.tokens.tokens c.next.new.self on.0 (token_value c.in-Some.token) on.2
+                c.in-Some.ensures.token,
           );
     }
 

@@ -8,7 +8,8 @@ tokens-preserved c =
     let h = c.tokens.invariant in (
       _,
       comments_more h.0 (token_value c.in-Some.token) h.1 c.in-Comment.is,
-      read_more c.args.tokens.now c.tokens.tokens c.next.new.self h.0 (token_value c.in-Some.token) h.2 c.in-Some.ensures.token,
+      read_more c.args.tokens.now c.tokens.tokens c.next.new.self h.0 (token_value c.in-Some.token) h.2
+          c.in-Some.ensures.token,
     )
 
 pub returns-in-CutOff : goal.returns-in-CutOff
@@ -18,7 +19,8 @@ returns-in-CutOff c =
       token_value c.in-Some.token,
       bytes_ahead c.next.new.self,
       h.1,
-      ahead_all c.args.tokens.now c.next.new.self _ (read_more c.args.tokens.now c.tokens.tokens c.next.new.self h.0 (token_value c.in-Some.token) h.2 c.in-Some.ensures.token),
+      ahead_all c.args.tokens.now c.next.new.self _ (read_more c.args.tokens.now c.tokens.tokens c.next.new.self h.0
+          (token_value c.in-Some.token) h.2 c.in-Some.ensures.token),
       rw c.fault.ensures (inl (refl, c.in-CutOff.is), refl),
     )
 
@@ -29,6 +31,10 @@ returns-in_default-what c =
       token_value c.in-Some.token,
       bytes_ahead c.next.new.self,
       h.1,
-      ahead_all c.args.tokens.now c.next.new.self _ (read_more c.args.tokens.now c.tokens.tokens c.next.new.self h.0 (token_value c.in-Some.token) h.2 c.in-Some.ensures.token),
-      rw c.fault-in_default-what.ensures (inr (refl, c.in_default-what.not-Comment, c.in_default-what.not-CutOff), refl),
+      ahead_all c.args.tokens.now c.next.new.self _ (read_more c.args.tokens.now c.tokens.tokens c.next.new.self h.0
+          (token_value c.in-Some.token) h.2 c.in-Some.ensures.token),
+      rw c.fault-in_default-what.ensures (
+        inr (refl, c.in_default-what.not-Comment, c.in_default-what.not-CutOff),
+        refl,
+      ),
     )

@@ -1,4 +1,5 @@
-use Rattle.std.proofs.Common.{◌≡◌, ◌+◌, ◌<◌, ◌∷◌, [], false, length, take, drop, refl, sym, ap, subst, ◌∙◌, rules, arith}
+use Rattle.std.proofs.Common.{◌≡◌, ◌+◌, ◌<◌, ◌∷◌, [], false, length, take, drop, refl, sym, ap, subst, ◌∙◌, rules}
+use Rattle.std.proofs.Common.{arith}
 use Rattle.std.proofs.lemmas.List.{take_all}
 use Rattle.std.proofs.lemmas.Result.{err_from_is_err_and}
 use Rattle.dw_notation.specs.Buffering.{Passes, unread_in, input_of}
@@ -6,8 +7,8 @@ use Rattle.dw_notation.specs.Between.{IsBetween, in_comment}
 use Rattle.dw_games.specs.declared.games.GameFault.TheVariants.{Failed}
 use Rattle.dw_games.specs.inner.Playing.{PlaysOn}
 use Rattle.dw_games.proofs.InputLemmas.{Passes-refl, Passes-piece, found_at, none_found, begins}
-use Rattle.dw_games.proofs.PlayLemmas.{PlaysOn-start, PlaysOn-fill, PlaysOn-piece, PlaysOn-section}
-use Rattle.dw_games.proofs.PlayLemmas.{PlaysOn-end, PlaysOn-fault}
+use Rattle.dw_games.proofs.PlayLemmas.{PlaysOn-start, PlaysOn-fill, PlaysOn-piece, PlaysOn-section, PlaysOn-end}
+use Rattle.dw_games.proofs.PlayLemmas.{PlaysOn-fault}
 use Rattle.dw_games.proofs.play.scan_to_section.Goals as goal
 
 pub pieces-init : goal.pieces-init
@@ -22,15 +23,16 @@ pub returns-in_err-fill : goal.returns-in_err-fill
 returns-in_err-fill g c =
     let s = g.S.Source in
     let e = err_from_is_err_and c.from_residual.result c.from_residual.ensures.1 in
-    rw (e.1, e.2) (PlaysOn-fault s.coming s.has_ended s.is_failed s.pulls_left _ (input_of c.pieces.source c.pieces.buffer) _ _
+    rw (e.1, e.2) (PlaysOn-fault s.coming s.has_ended s.is_failed s.pulls_left _ (input_of c.pieces.source
+    c.pieces.buffer) _ _
     c.pieces.kept _ (in_comment c.pieces.finder) Failed c.pieces.invariant c.in_err-fill.ensures.passes)
 
 pub returns-then-is_empty : goal.returns-then-is_empty
 returns-then-is_empty g c =
     let s = g.S.Source in
     let none : unread_in c.fill.new.self ≡ [] = search (rules, arith) in
-    PlaysOn-end s.coming s.has_ended s.is_failed s.pulls_left _ (input_of c.fill.new.source c.fill.new.self) _ c.pieces.kept
-    (in_comment c.pieces.finder) c.end_of_text.result
+    PlaysOn-end s.coming s.has_ended s.is_failed s.pulls_left _ (input_of c.fill.new.source c.fill.new.self) _
+    c.pieces.kept (in_comment c.pieces.finder) c.end_of_text.result
     (PlaysOn-fill s.coming s.has_ended s.is_failed s.pulls_left _ (input_of c.pieces.source c.pieces.buffer) _ _ _
     (in_comment c.pieces.finder) c.pieces.invariant c.in_ok-fill.ensures.passes)
     (none, c.in_ok-fill.ensures.more none) c.end_of_text.ensures
@@ -39,8 +41,8 @@ pub returns-in_err-extend : goal.returns-in_err-extend
 returns-in_err-extend g c =
     let s = g.S.Source in
     let e = err_from_is_err_and c.from_residual-in_err-extend.result c.from_residual-in_err-extend.ensures.1 in
-    rw (e.1, e.2) (PlaysOn-fault s.coming s.has_ended s.is_failed s.pulls_left _ (input_of c.fill.new.source c.fill.new.self) _ _
-    c.pieces.kept _ (in_comment c.pieces.finder) _
+    rw (e.1, e.2) (PlaysOn-fault s.coming s.has_ended s.is_failed s.pulls_left _ (input_of c.fill.new.source
+    c.fill.new.self) _ _ c.pieces.kept _ (in_comment c.pieces.finder) _
     (PlaysOn-fill s.coming s.has_ended s.is_failed s.pulls_left _ (input_of c.pieces.source c.pieces.buffer) _ _ _
     (in_comment c.pieces.finder) c.pieces.invariant c.in_ok-fill.ensures.passes)
     (Passes-refl s.coming s.has_ended s.is_failed s.pulls_left (input_of c.fill.new.source c.fill.new.self)))
@@ -64,7 +66,8 @@ returns-then-is_some g c =
     (PlaysOn-fill s.coming s.has_ended s.is_failed s.pulls_left _ (input_of c.pieces.source c.pieces.buffer) _ _ _
     (in_comment c.pieces.finder) c.pieces.invariant c.in_ok-fill.ensures.passes)
     here.2 c.in_ok-extend.ensures
-    (subst (λ l. Passes s.coming s.has_ended s.is_failed s.pulls_left mid new (take count l) false) (sym c.unread-bytes.ensures)
+    (subst (λ l. Passes s.coming s.has_ended s.is_failed s.pulls_left mid new (take count l) false) (sym
+    c.unread-bytes.ensures)
     (Passes-piece s.coming s.has_ended s.is_failed s.pulls_left mid new count refl c.consume.ensures.met_end
     c.consume.ensures.unread)))
     (begins new.unread _ (sym rest ∙ here.3))
@@ -84,6 +87,7 @@ pieces-preserved g c =
     (in_comment c.pieces.finder) c.pieces.invariant c.in_ok-fill.ensures.passes)
     (subst (IsBetween (in_comment c.pieces.finder) (in_comment c.find-begin.new.self))
     (sym (take_all count bytes (omega (arith, all.0)))) all.1) c.in_ok-extend.ensures
-    (subst (λ l. Passes s.coming s.has_ended s.is_failed s.pulls_left mid new (take count l) false) (sym c.unread-bytes.ensures)
+    (subst (λ l. Passes s.coming s.has_ended s.is_failed s.pulls_left mid new (take count l) false) (sym
+    c.unread-bytes.ensures)
     (Passes-piece s.coming s.has_ended s.is_failed s.pulls_left mid new count refl c.consume.ensures.met_end
     c.consume.ensures.unread))

@@ -1,5 +1,5 @@
-use Rattle.std.proofs.Common.{◌≡◌, ◌+◌, ◌<◌, ◌++◌, ◌∷◌, ℕ, List, Bool, Some, [], false, length, take, drop, slice_index, refl}
-use Rattle.std.proofs.Common.{sym, ap, subst, ◌∙◌, arith}
+use Rattle.std.proofs.Common.{◌≡◌, ◌+◌, ◌<◌, ◌++◌, ◌∷◌, ℕ, List, Bool, Some, [], false, length, take, drop, slice_index}
+use Rattle.std.proofs.Common.{refl, sym, ap, subst, ◌∙◌, arith}
 use Rattle.std.proofs.lemmas.Bool.{eqb-true}
 use Rattle.std.proofs.lemmas.List.{nil_from_length, take_all, take_more, drop_more}
 use Rattle.std.proofs.lemmas.Result.{err_from_is_err_and}
@@ -8,8 +8,7 @@ use Rattle.dw_notation.specs.TextLines.{Found}
 use Rattle.dw_notation.specs.inner.Readers.{ahead_of, cut_of}
 use Rattle.dw_games.specs.declared.games.GameFault.TheVariants.{Failed}
 use Rattle.dw_games.proofs.InputLemmas.{Passes-refl, Passes-piece, found_at, none_found, begins}
-use Rattle.dw_games.proofs.ReadLemmas.{ReadsOn-fill, ReadsOn-piece, ReadsOn-cut, ReadsOn-last}
-use Rattle.dw_games.proofs.ReadLemmas.{ReadsOn-fault}
+use Rattle.dw_games.proofs.ReadLemmas.{ReadsOn-fill, ReadsOn-piece, ReadsOn-cut, ReadsOn-last, ReadsOn-fault}
 use Rattle.dw_games.proofs.section.read_section.Goals as goal
 
 pub returns-in_err-fill : goal.returns-in_err-fill
@@ -45,8 +44,8 @@ returns-in_err-extend g c =
 pub returns-in_err-keep_spaces : goal.returns-in_err-keep_spaces
 returns-in_err-keep_spaces g c =
     let s = g.S.Source in
-    let e = err_from_is_err_and c.from_residual-in_err-keep_spaces.result c.from_residual-in_err-keep_spaces.ensures.1 in
-    rw (e.1, e.2) (ReadsOn-fault g.B.Board.geometry s.coming s.has_ended s.is_failed s.pulls_left _
+    let e = err_from_is_err_and c.from_residual-in_err-keep_spaces.result c.from_residual-in_err-keep_spaces.ensures.1
+    in rw (e.1, e.2) (ReadsOn-fault g.B.Board.geometry s.coming s.has_ended s.is_failed s.pulls_left _
     (input_of c.fill.new.source c.fill.new.self) _ _ c.pieces.row _ _ c.pieces.spaces _ c.pieces.reader _
     (ReadsOn-fill g.B.Board.geometry s.coming s.has_ended s.is_failed s.pulls_left _
     (input_of c.pieces.source c.pieces.buffer) _ _ _ _ _ c.pieces.reader c.pieces.invariant c.in_ok-fill.ensures.passes)
@@ -76,9 +75,10 @@ returns-then-is_some g c =
     (ReadsOn-fill board s.coming s.has_ended s.is_failed s.pulls_left _
     (input_of c.pieces.source c.pieces.buffer) _ _ _ _ _ old c.pieces.invariant c.in_ok-fill.ensures.passes)
     c.requires (begins new.unread _ (sym rest ∙ drop_more bytes count 0 here.1)) here.3
-    (λ over more. ap (λ l. ahead_of old board over (l ++ more)) (sym (take_more bytes count 0 here.1)) ∙ here.4 over more)
-    c.in_ok-extend.ensures c.in_ok-keep_spaces.ensures
-    (subst (λ l. Passes s.coming s.has_ended s.is_failed s.pulls_left mid new (take count l) false) (sym c.unread-bytes.ensures)
+    (λ over more. ap (λ l. ahead_of old board over (l ++ more)) (sym (take_more bytes count 0 here.1)) ∙ here.4 over
+    more) c.in_ok-extend.ensures c.in_ok-keep_spaces.ensures
+    (subst (λ l. Passes s.coming s.has_ended s.is_failed s.pulls_left mid new (take count l) false) (sym
+    c.unread-bytes.ensures)
     (Passes-piece s.coming s.has_ended s.is_failed s.pulls_left mid new count refl c.consume.ensures.met_end
     c.consume.ensures.unread))
     (c.found.ensures ∙ here.2)
@@ -102,6 +102,7 @@ pieces-preserved g c =
     (input_of c.pieces.source c.pieces.buffer) _ _ _ _ _ old c.pieces.invariant c.in_ok-fill.ensures.passes)
     (λ over more. ap (λ l. ahead_of old board over (l ++ more)) whole ∙ all.1 over more) c.cut-end.ensures.begun
     c.in_ok-extend.ensures c.in_ok-keep_spaces.ensures
-    (subst (λ l. Passes s.coming s.has_ended s.is_failed s.pulls_left mid new (take count l) false) (sym c.unread-bytes.ensures)
+    (subst (λ l. Passes s.coming s.has_ended s.is_failed s.pulls_left mid new (take count l) false) (sym
+    c.unread-bytes.ensures)
     (Passes-piece s.coming s.has_ended s.is_failed s.pulls_left mid new count refl c.consume.ensures.met_end
     c.consume.ensures.unread))

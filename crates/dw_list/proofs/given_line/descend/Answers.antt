@@ -12,15 +12,15 @@ returns-in_default-clause-barred g c _ on =
 
 pub keeps-requires : goal.keeps-requires
 keeps-requires g c =
-    let few = candidate_few g.B.Board.geometry c.seek.new.stack c.keeps_its_levels.ensures.levels c.keeps_its_levels.ensures.fits
-    c.in-Some.candidate c.in-Some.ensures.found.0 in
+    let few = candidate_few g.B.Board.geometry c.seek.new.stack c.keeps_its_levels.ensures.levels
+    c.keeps_its_levels.ensures.fits c.in-Some.candidate c.in-Some.ensures.found.0 in
     omega (arith, few, c.keeps_its_levels.ensures.few)
 
 pub returns-in_err-kept-clause-asked : goal.returns-in_err-kept-clause-asked
 returns-in_err-kept-clause-asked g c =
     let geo = g.B.Board.geometry in
-    let few = candidate_few geo c.seek.new.stack c.keeps_its_levels.ensures.levels c.keeps_its_levels.ensures.fits c.in-Some.candidate
-    c.in-Some.ensures.found.0 in
+    let few = candidate_few geo c.seek.new.stack c.keeps_its_levels.ensures.levels c.keeps_its_levels.ensures.fits
+    c.in-Some.candidate c.in-Some.ensures.found.0 in
     let same = follow_moves geo c.args.stack.now c.list.new.self c.in_ok-list.field-0
     c.in_ok-list.ensures.listed c.seek.new.stack c.in-Some.ensures.passed in
     asked_for geo g.M.Memo.content g.M.Memo.dropped _ c.args.stack.now.moves _ _ _ same
@@ -32,8 +32,8 @@ returns-in_err-kept-clause-asked g c =
 pub returns-then-kept-clause-asked : goal.returns-then-kept-clause-asked
 returns-then-kept-clause-asked g c =
     let geo = g.B.Board.geometry in
-    let few = candidate_few geo c.seek.new.stack c.keeps_its_levels.ensures.levels c.keeps_its_levels.ensures.fits c.in-Some.candidate
-    c.in-Some.ensures.found.0 in
+    let few = candidate_few geo c.seek.new.stack c.keeps_its_levels.ensures.levels c.keeps_its_levels.ensures.fits
+    c.in-Some.candidate c.in-Some.ensures.found.0 in
     let same = follow_moves geo c.args.stack.now c.list.new.self c.in_ok-list.field-0
     c.in_ok-list.ensures.listed c.seek.new.stack c.in-Some.ensures.passed in
     asked_for geo g.M.Memo.content g.M.Memo.dropped _ c.args.stack.now.moves _ _ _ same
@@ -50,8 +50,8 @@ returns-else-kept-clause-barred g c _ on =
 pub returns-else-kept-clause-asked : goal.returns-else-kept-clause-asked
 returns-else-kept-clause-asked g c =
     let geo = g.B.Board.geometry in
-    let few = candidate_few geo c.seek.new.stack c.keeps_its_levels.ensures.levels c.keeps_its_levels.ensures.fits c.in-Some.candidate
-    c.in-Some.ensures.found.0 in
+    let few = candidate_few geo c.seek.new.stack c.keeps_its_levels.ensures.levels c.keeps_its_levels.ensures.fits
+    c.in-Some.candidate c.in-Some.ensures.found.0 in
     let same = follow_moves geo c.args.stack.now c.list.new.self c.in_ok-list.field-0
     c.in_ok-list.ensures.listed c.seek.new.stack c.in-Some.ensures.passed in
     asked_for geo g.M.Memo.content g.M.Memo.dropped _ c.args.stack.now.moves _ _ _ same

@@ -2,7 +2,8 @@ use Rattle.std.proofs.Common.{◌≡◌, ◌+◌, length, sym, subst, ap, ◌∙
 use Rattle.dw_list.specs.Places.{IsPlace}
 use Rattle.dw_solve.specs.inner.QuestionLemmas.{answered, asked_none, asked_then, asked_ok, asked_stop, asked_memory}
 use Rattle.dw_solve.specs.inner.QuestionLemmas.{asked_for}
-use Rattle.dw_list.proofs.FollowLemmas.{place_of, Follows, follows_init, follows_more, follows_place, follows_short, follows_line}
+use Rattle.dw_list.proofs.FollowLemmas.{place_of, Follows, follows_init, follows_more, follows_place, follows_short}
+use Rattle.dw_list.proofs.FollowLemmas.{follows_line}
 use Rattle.dw_list.proofs.given_line.walk_along.Goals as goal
 
 pub descend-requires : goal.descend-requires

@@ -32,8 +32,8 @@ returns-in-Ok-Some-clause-lines g c =
     let geo = g.B.Board.geometry in
     let left = subst (LendsNext geo g.M.Memo.content g.M.Memo.dropped c.set_limit.new.self
     c.next.follows.lender-at-none) (c.in-Ok-Some.is ∙ ap Ok c.in-Ok-Some.field-0-is) c.next.follows.holds-at-none in
-    λ start given. taken_more geo _ _ _ c.set_limit.ensures.stack _ start _ _ _ c.copied.result _ c.reserve.ensures.items
-    c.push_reserved.ensures.items c.copied.ensures left.line left.next given
+    λ start given. taken_more geo _ _ _ c.set_limit.ensures.stack _ start _ _ _ c.copied.result _
+    c.reserve.ensures.items c.push_reserved.ensures.items c.copied.ensures left.line left.next given
 
 pub returns-in-Ok-Some-clause-end : goal.returns-in-Ok-Some-clause-end
 returns-in-Ok-Some-clause-end g c =

@@ -7,7 +7,8 @@ use Rattle.dw_moves.proofs.quiet.runs_to.Goals as goal
 pub returns-then-eq : goal.returns-then-eq
 returns-then-eq g c =
     let f = freed g.B.Board.geometry g.met.B.Board.numbers c.args.position.now c.run.at c.args.direction
-    c.in-Some.reached c.run.invariant.on (sym (c.free_step.ensures.free c.args.position.now c.occupied.ensures) ∙ c.in-Some.is) in
+    c.in-Some.reached c.run.invariant.on (sym (c.free_step.ensures.free c.args.position.now c.occupied.ensures) ∙
+    c.in-Some.is) in
     let it = reached_it g.B.Board.geometry c.args.position.now c.args.kind c.args.direction c.args.from c.args.to
     c.run.at c.in-Some.reached c.run.invariant f (eqb-true c.in-Some.reached c.args.to (sym c.eq.ensures
     ∙ c.if-eq.true)) in
@@ -16,13 +17,15 @@ returns-then-eq g c =
 pub run-smaller : goal.run-smaller
 run-smaller g c =
     let f = freed g.B.Board.geometry g.met.B.Board.numbers c.args.position.now c.run.at c.args.direction
-    c.in-Some.reached c.run.invariant.on (sym (c.free_step.ensures.free c.args.position.now c.occupied.ensures) ∙ c.in-Some.is) in
+    c.in-Some.reached c.run.invariant.on (sym (c.free_step.ensures.free c.args.position.now c.occupied.ensures) ∙
+    c.in-Some.is) in
     ray_falls g.B.Board.geometry c.args.position.now c.run.at c.args.direction c.in-Some.reached f
 
 pub run-preserved : goal.run-preserved
 run-preserved g c =
     let f = freed g.B.Board.geometry g.met.B.Board.numbers c.args.position.now c.run.at c.args.direction
-    c.in-Some.reached c.run.invariant.on (sym (c.free_step.ensures.free c.args.position.now c.occupied.ensures) ∙ c.in-Some.is) in
+    c.in-Some.reached c.run.invariant.on (sym (c.free_step.ensures.free c.args.position.now c.occupied.ensures) ∙
+    c.in-Some.is) in
     passed_more g.B.Board.geometry c.args.position.now c.args.kind c.args.direction c.args.from c.args.to c.run.at
     c.in-Some.reached c.in-King.is c.run.invariant f
     (λ e. true≢false (sym (eq-eqb c.in-Some.reached c.args.to e) ∙ (sym c.eq.ensures ∙ c.if-eq.false)))
@@ -30,7 +33,8 @@ run-preserved g c =
 pub returns-in-Man : goal.returns-in-Man
 returns-in-Man g c =
     let f = freed g.B.Board.geometry g.met.B.Board.numbers c.args.position.now c.run.at c.args.direction
-    c.in-Some.reached c.run.invariant.on (sym (c.free_step.ensures.free c.args.position.now c.occupied.ensures) ∙ c.in-Some.is) in
+    c.in-Some.reached c.run.invariant.on (sym (c.free_step.ensures.free c.args.position.now c.occupied.ensures) ∙
+    c.in-Some.is) in
     let missed = man_missed g.B.Board.geometry c.args.position.now c.args.kind c.args.direction c.args.from c.args.to
     c.run.at c.in-Some.reached c.in-Man.is c.run.invariant f
     (λ e. true≢false (sym (eq-eqb c.in-Some.reached c.args.to e) ∙ (sym c.eq.ensures ∙ c.if-eq.false))) in
@@ -39,5 +43,6 @@ returns-in-Man g c =
 pub returns-in_default : goal.returns-in_default
 returns-in_default g c =
     let missed = run_missed g.B.Board.geometry g.met.B.Board.numbers c.args.position.now c.args.kind c.args.direction
-    c.args.from c.args.to c.run.at c.run.invariant (sym (c.free_step.ensures.free c.args.position.now c.occupied.ensures) ∙ c.in_default.is) in
+    c.args.from c.args.to c.run.at c.run.invariant (sym (c.free_step.ensures.free c.args.position.now
+    c.occupied.ensures) ∙ c.in_default.is) in
     ((λ e. absurd (true≢false (sym e))), (λ m. absurd (missed m)))

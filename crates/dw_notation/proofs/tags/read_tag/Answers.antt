@@ -4,10 +4,11 @@ use Rattle.dw_notation.specs.inner.TagReading.{read_by, tag_from}
 use Rattle.dw_notation.specs.declared.problems.pdn.automaton.Action.{Action}
 use Rattle.dw_notation.specs.declared.problems.pdn.automaton.Action.TheVariants.{Count, AddName, OpenValue, AddValue}
 use Rattle.dw_notation.specs.declared.problems.pdn.automaton.Action.TheVariants.{AddBoth}
-use Rattle.dw_notation.proofs.TagLoopLemmas.{ReadsTag-start, ReadsTag-step, whole_tag, breaks_tag, broken_tag}
-use Rattle.dw_notation.proofs.TagLoopLemmas.{open_tag}
+use Rattle.dw_notation.proofs.TagLoopLemmas.{ReadsTag-start, ReadsTag-step, whole_tag, breaks_tag, broken_tag, open_tag}
 use Rattle.dw_notation.proofs.tags.read_tag.Goals as goal
-use Rattle.dw_notation.proofs.tags.read_tag.Goals.{in-Count, in-AddName, in-OpenValue, in-AddValue+in_ok-push-in-AddValue, in-AddBoth+in_ok-push-in-AddBoth+in_ok-push-in-AddBoth-2}
+use Rattle.dw_notation.proofs.tags.read_tag.Goals.{in-Count, in-AddName, in-OpenValue}
+use Rattle.dw_notation.proofs.tags.read_tag.Goals.{in-AddValue+in_ok-push-in-AddValue}
+use Rattle.dw_notation.proofs.tags.read_tag.Goals.{in-AddBoth+in_ok-push-in-AddBoth+in_ok-push-in-AddBoth-2}
 
 pub bytes-init : goal.bytes-init
 bytes-init c = ReadsTag-start c.in-Some.inside.now c.new-value.result.items c.new-value.ensures.items
@@ -42,11 +43,13 @@ bytes-preserved c =
     let inside = c.in-Some.inside.now in
     let t = c.transition-transition.result in
     let r = l.invariant in
-    let step = ReadsTag-step inside l.i l.state l.named l.value.items t r c.bytes-test.true c.transition-transition.ensures in
-    let by = λ (a : Action). read_by a r.section (drop (l.i + 1) inside) (λ u. tag_from t.state u (drop (l.i + 1) inside)) in
+    let step = ReadsTag-step inside l.i l.state l.named l.value.items t r c.bytes-test.true
+    c.transition-transition.ensures in
+    let by = λ (a : Action). read_by a r.section (drop (l.i + 1) inside) (λ u. tag_from t.state u (drop (l.i + 1)
+    inside)) in
     elim c.match-transition.branch [
-      | in-Count w ↦ rw (w.named-is, w.value-is) (step (after Count r.section) l.named l.value.items (ap by w.in-Count.is)
-          r.is_named (omega (arith, r.few)) r.is_value)
+      | in-Count w ↦ rw (w.named-is, w.value-is) (step (after Count r.section) l.named l.value.items (ap by
+          w.in-Count.is) r.is_named (omega (arith, r.few)) r.is_value)
       | in-AddName w ↦
           let longer = length-append r.section.name (w.in-AddName.field-0 ∷ []) in
           rw (w.named-is, w.value-is) (step (after (AddName w.in-AddName.field-0) r.section) (l.named + 1) l.value.items

@@ -12,8 +12,8 @@ reached-requires g c = dual_playable g.B.Board.geometry c.args.position.now c.ar
     c.args.choices.now c.requires.verdict
 
 pub joined_text-requires : goal.joined_text-requires
-joined_text-requires g c = choices_legal g.B.Board.geometry c.args.position.now c.reached.result c.args.moves c.args.at.now
-    c.args.choices.now c.reached.ensures c.requires.verdict
+joined_text-requires g c = choices_legal g.B.Board.geometry c.args.position.now c.reached.result c.args.moves
+    c.args.at.now c.args.choices.now c.reached.ensures c.requires.verdict
 
 pub returns : goal.returns
 returns g c =

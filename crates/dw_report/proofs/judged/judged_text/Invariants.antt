@@ -4,5 +4,5 @@ use Rattle.dw_report.proofs.TryTextLemmas.{TextTo}
 use Rattle.dw_report.proofs.judged.judged_text.Given as goal
 
 abbrev pub invariant-tries : goal.invariant-tries
-invariant-tries g l = TextTo g.B.Board.geometry l.position l.moves (said_by l.judged.verdict) l.tried-items l.tried-index
-    (string_bytes l.text)
+invariant-tries g l = TextTo g.B.Board.geometry l.position l.moves (said_by l.judged.verdict) l.tried-items
+    l.tried-index (string_bytes l.text)

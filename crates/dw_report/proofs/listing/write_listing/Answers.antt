@@ -12,20 +12,21 @@ use Rattle.dw_report.specs.Running.{AreLinesOf}
 use Rattle.dw_report.specs.inner.Running.{TextEnds, SinkEnds}
 use Rattle.dw_report.proofs.SearchLemmas.{same_fault}
 use Rattle.dw_report.proofs.JudgedTextLemmas.{line_playable}
-use Rattle.dw_report.proofs.LineRowLemmas.{line_odd, lines_text, no_rows, row_written, given_line}
-use Rattle.dw_report.proofs.LineRowLemmas.{last_line, line_next, none_next, rows_stop, row_ends}
+use Rattle.dw_report.proofs.LineRowLemmas.{line_odd, lines_text, no_rows, row_written, given_line, last_line, line_next}
+use Rattle.dw_report.proofs.LineRowLemmas.{none_next, rows_stop, row_ends}
 use Rattle.dw_report.specs.ListedText.{more_after}
 use Rattle.dw_report.proofs.LineRowLemmas.{complete_written, complete_short, more_written, more_short}
 use Rattle.dw_report.proofs.WritingLemmas.{at_stop, at_sink}
 use Rattle.dw_report.proofs.SpendingLemmas.{counted_further}
-use Rattle.dw_report.proofs.FaultLemmas.{sink_same, sink_stopped, sink_failed}
-use Rattle.dw_report.proofs.FaultLemmas.{spends_done, spends_memory, spends_sink, spends_stopped}
+use Rattle.dw_report.proofs.FaultLemmas.{sink_same, sink_stopped, sink_failed, spends_done, spends_memory, spends_sink}
+use Rattle.dw_report.proofs.FaultLemmas.{spends_stopped}
 use Rattle.dw_report.proofs.listing.write_listing.Goals as goal
 
 pub lines-init : goal.lines-init
 lines-init g c = record {
   lender = refl;
-  rows = no_rows c.given_in_turn.ensures g.B.Board.geometry c.args.position.now (stack_of c.args.lister.now) (g.K.Sink.taken c.args.sink.now);
+  rows = no_rows c.given_in_turn.ensures g.B.Board.geometry c.args.position.now (stack_of c.args.lister.now)
+      (g.K.Sink.taken c.args.sink.now);
   start = ap (λ (v : LineFrom). v.start) c.new-text.ensures;
   last = λ some. absurd (omega (arith, some));
   few = omega arith;
@@ -88,7 +89,8 @@ write_row-requires g c =
     c.in_ok-take_line.ensures.next c.if-not-branch.false in
     let line = given_line geo p start (stack_of c.lines.lister) (stack_of c.take_line.new.lister) c.lines.written
     c.lines.invariant.rows.texts c.lines.invariant.rows.rows first c.requires.ahead.lines c.requires.ahead.to_come in
-    let playable = subst (λ z. ArePlayable geo z (reverse (stack_of c.take_line.new.lister).line)) c.requires.ahead.position
+    let playable = subst (λ z. ArePlayable geo z (reverse (stack_of c.take_line.new.lister).line))
+    c.requires.ahead.position
     (line_playable geo start.position start.moves (reverse (stack_of c.take_line.new.lister).line) line) in
     let copy = c.as_slice.ensures.value ∙ c.in_ok-take_line.ensures.line c.if-not-branch.false in
     let legal = subst (λ z. ArePlayable geo z c.as_slice.result.now) (sym c.lines.invariant.start)
@@ -130,8 +132,8 @@ lines-preserved g c =
     copy here in
     record {
       lender = c.take_line.ensures.lender ∙ c.lines.invariant.lender;
-      rows = row_written c.given_in_turn.ensures geo p start (stack_of c.lines.lister) (stack_of c.take_line.new.lister) c.lines.written _ _ _
-          c.lines.invariant.rows first row;
+      rows = row_written c.given_in_turn.ensures geo p start (stack_of c.lines.lister) (stack_of c.take_line.new.lister)
+          c.lines.written _ _ _ c.lines.invariant.rows first row;
       start = c.write_row.ensures.start ∙ c.lines.invariant.start;
       last = λ some. c.in_ok-take_line.ensures.line c.if-not-branch.false;
       few = omega (arith, c.lines-test.true);

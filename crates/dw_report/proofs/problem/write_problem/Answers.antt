@@ -5,8 +5,7 @@ use Rattle.dw_notation.specs.Problems.{numbered}
 use Rattle.dw_notation.specs.Writes.{StopsShort}
 use Rattle.dw_report.specs.Request.{request_of}
 use Rattle.dw_report.specs.Report.{IsProblemText}
-use Rattle.dw_report.specs.inner.Running.{IsProblemPart}
-use Rattle.dw_report.specs.inner.Running.{SinkEnds}
+use Rattle.dw_report.specs.inner.Running.{IsProblemPart, SinkEnds}
 use Rattle.dw_report.proofs.SearchLemmas.{searches_none, sink_not_stopped}
 use Rattle.dw_report.proofs.WritingLemmas.{at_sink, known_short, problem_ends}
 use Rattle.dw_report.proofs.FaultLemmas.{sink_failed, ok_not_stopped}

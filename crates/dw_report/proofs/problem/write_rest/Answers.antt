@@ -8,8 +8,8 @@ use Rattle.dw_report.specs.Running.{AreLinesOf}
 use Rattle.dw_report.specs.inner.Running.{TextEnds, IsSaidThen}
 use Rattle.dw_report.specs.declared.settings.Command.TheVariants.{Moves, Judge, Show, List as Lists}
 use Rattle.dw_report.proofs.SearchLemmas.{same_fault, searches_none}
-use Rattle.dw_report.proofs.FaultLemmas.{fault_same, sink_same, spends_same, ok_not_stopped, spends_ok}
-use Rattle.dw_report.proofs.FaultLemmas.{searches_for, searches_moves, refused_none, refused_lists, spends_after}
+use Rattle.dw_report.proofs.FaultLemmas.{fault_same, sink_same, spends_same, ok_not_stopped, spends_ok, searches_for}
+use Rattle.dw_report.proofs.FaultLemmas.{searches_moves, refused_none, refused_lists, spends_after}
 use Rattle.dw_report.proofs.problem.write_rest.Goals as goal
 
 pub returns-in_ok-write_moves-in-Moves-clause-text : goal.returns-in_ok-write_moves-in-Moves-clause-text

@@ -10,8 +10,7 @@ use Rattle.dw_report.proofs.RunLemmas.{counts_chosen}
 use Rattle.dw_report.proofs.RunStepLemmas.{counts_passed}
 use Rattle.dw_report.proofs.SearchLemmas.{searches_none, searches_as, same_fault}
 use Rattle.dw_report.proofs.FaultLemmas.{sink_same, ok_not_stopped}
-use Rattle.dw_report.proofs.WritingLemmas.{fault_stays, one_report_on, one_part_on, no_report_on}
-use Rattle.dw_report.proofs.WritingLemmas.{chosen_report_on}
+use Rattle.dw_report.proofs.WritingLemmas.{fault_stays, one_report_on, one_part_on, no_report_on, chosen_report_on}
 use Rattle.dw_report.proofs.run.report_problem.Goals as goal
 
 pub returns-in_err-refused-clause-text : goal.returns-in_err-refused-clause-text

@@ -5,8 +5,7 @@ use Rattle.dw_notation.specs.inner.Readers.{reader_of}
 use Rattle.dw_report.specs.Request.{request_of}
 use Rattle.dw_report.specs.Report.{chosen}
 use Rattle.dw_report.specs.inner.Running.{CountsOne, HasRoom}
-use Rattle.dw_report.proofs.RunLemmas.{SoFar-start, SoFar-next, SoFar-asked}
-use Rattle.dw_report.proofs.RunLemmas.{failed-at_ok, refused-le, length-chosen-le}
+use Rattle.dw_report.proofs.RunLemmas.{SoFar-start, SoFar-next, SoFar-asked, failed-at_ok, refused-le, length-chosen-le}
 use Rattle.dw_report.proofs.RunStepLemmas.{next_none, next_failed, counted_one, next_more, next_fault}
 use Rattle.dw_report.proofs.SearchLemmas.{searches_keep, stops_rightly}
 use Rattle.dw_report.proofs.run.write_report.Goals as goal
@@ -34,19 +33,19 @@ pub returns-in-Ok-None-clause-report : goal.returns-in-Ok-None-clause-report
 returns-in-Ok-None-clause-report g c =
     let ends = next_none g.B.Board.geometry (request_of c.args.settings.now)
     (g.S.Source.coming (source_of c.new-problems.result)) (g.S.Source.coming (source_of c.problems.problems))
-    (g.S.Source.coming (source_of c.next.new.self)) (g.S.Source.has_ended (source_of c.next.new.self)) (g.K.Sink.taken c.args.sink.now) (g.K.Sink.taken c.problems.sink)
-    (reader_of c.problems.problems) (reader_of c.next.new.self)
+    (g.S.Source.coming (source_of c.next.new.self)) (g.S.Source.has_ended (source_of c.next.new.self)) (g.K.Sink.taken
+    c.args.sink.now) (g.K.Sink.taken c.problems.sink) (reader_of c.problems.problems) (reader_of c.next.new.self)
     c.problems.summary c.in-Ok-None.field-0 c.in-Ok-None.field-0-is c.in-Ok-None.ensures.given
-    c.in-Ok-None.ensures.counted c.problems.invariant.so_far (λ met. (c.next.ensures.end c.problems.invariant.end met).0)
-    c.problems.invariant.bound in
+    c.in-Ok-None.ensures.counted c.problems.invariant.so_far (λ met. (c.next.ensures.end c.problems.invariant.end
+    met).0) c.problems.invariant.bound in
     search rules
 
 pub returns-in-Err-clause-report : goal.returns-in-Err-clause-report
 returns-in-Err-clause-report g c =
     let ends = next_failed g.B.Board.geometry (request_of c.args.settings.now)
     (g.S.Source.coming (source_of c.new-problems.result)) (g.S.Source.coming (source_of c.problems.problems))
-    (g.S.Source.coming (source_of c.next.new.self)) (g.S.Source.has_ended (source_of c.next.new.self)) (g.K.Sink.taken c.args.sink.now) (g.K.Sink.taken c.problems.sink)
-    (reader_of c.problems.problems) (reader_of c.next.new.self)
+    (g.S.Source.coming (source_of c.next.new.self)) (g.S.Source.has_ended (source_of c.next.new.self)) (g.K.Sink.taken
+    c.args.sink.now) (g.K.Sink.taken c.problems.sink) (reader_of c.problems.problems) (reader_of c.next.new.self)
     c.problems.summary c.next.result c.in-Err.field-0 (g.S.Source.is_failed (source_of c.next.new.self))
     c.in-Err.is c.next.ensures.given c.next.ensures.stopped c.next.ensures.stays c.problems.invariant.so_far in
     search rules
@@ -65,7 +64,8 @@ pub returns-in-Err-report_problem-clause-report : goal.returns-in-Err-report_pro
 returns-in-Err-report_problem-clause-report g c =
     let stops = next_fault g.B.Board.geometry (request_of c.args.settings.now)
     (g.S.Source.coming (source_of c.new-problems.result)) (g.S.Source.coming (source_of c.problems.problems))
-    (g.S.Source.coming (source_of c.next.new.self)) (g.S.Source.has_ended (source_of c.next.new.self)) (g.K.Sink.taken c.args.sink.now) (g.K.Sink.taken c.problems.sink)
+    (g.S.Source.coming (source_of c.next.new.self)) (g.S.Source.has_ended (source_of c.next.new.self)) (g.K.Sink.taken
+    c.args.sink.now) (g.K.Sink.taken c.problems.sink)
     (g.K.Sink.taken c.report_problem.new.sink) (reader_of c.problems.problems) (reader_of c.next.new.self)
     c.problems.summary c.in-Ok-Some.field-0 c.in-Ok-Some.problem c.expanded.result c.report_problem.result
     c.in-Err-report_problem.fault c.in-Ok-Some.field-0-is c.in-Err-report_problem.is c.in-Ok-Some.ensures.given
@@ -90,11 +90,12 @@ returns-then-asks_for-clause-report g c =
     (g.K.Sink.taken c.report_problem.new.sink) (reader_of c.problems.problems) (reader_of c.next.new.self)
     c.problems.summary c.in-Ok.counted c.in-Ok-Some.field-0 c.in-Ok-Some.problem c.in-Ok-Some.field-0-is
     c.in-Ok-Some.ensures.given c.in-Ok-Some.ensures.counted c.problems.invariant.so_far
-    (λ met. (c.next.ensures.end c.problems.invariant.end met).0) c.next.ensures.stays c.in-Ok.ensures.text c.in-Ok.ensures.counts in
+    (λ met. (c.next.ensures.end c.problems.invariant.end met).0) c.next.ensures.stays c.in-Ok.ensures.text
+    c.in-Ok.ensures.counts in
     let ends = SoFar-asked g.B.Board.geometry (request_of c.args.settings.now)
     (g.S.Source.coming (source_of c.new-problems.result)) (g.S.Source.coming (source_of c.next.new.self))
-    (g.S.Source.has_ended (source_of c.next.new.self)) (g.K.Sink.taken c.args.sink.now) (g.K.Sink.taken c.report_problem.new.sink)
-    (reader_of c.next.new.self) c.in-Ok.counted (numbered c.in-Ok-Some.problem) more
+    (g.S.Source.has_ended (source_of c.next.new.self)) (g.K.Sink.taken c.args.sink.now) (g.K.Sink.taken
+    c.report_problem.new.sink) (reader_of c.next.new.self) c.in-Ok.counted (numbered c.in-Ok-Some.problem) more
     (sym c.asks_for.ensures ∙ c.if-asks_for.true) in
     search rules
 
@@ -113,7 +114,8 @@ problems-preserved g c =
     (g.K.Sink.taken c.report_problem.new.sink) (reader_of c.problems.problems) (reader_of c.next.new.self)
     c.problems.summary c.in-Ok.counted c.in-Ok-Some.field-0 c.in-Ok-Some.problem c.in-Ok-Some.field-0-is
     c.in-Ok-Some.ensures.given c.in-Ok-Some.ensures.counted c.problems.invariant.so_far
-    (λ met. (c.next.ensures.end c.problems.invariant.end met).0) c.next.ensures.stays c.in-Ok.ensures.text c.in-Ok.ensures.counts in
+    (λ met. (c.next.ensures.end c.problems.invariant.end met).0) c.next.ensures.stays c.in-Ok.ensures.text
+    c.in-Ok.ensures.counts in
     let few = length-chosen-le request.only one in
     let refused = refused-le g.B.Board.geometry request (chosen request.only (one ∷ [])) counts.refused.0
     counts.refused.1 in

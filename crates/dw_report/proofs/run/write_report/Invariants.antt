@@ -1,6 +1,5 @@
 use Rattle.std.proofs.Common.{◌≡◌, ◌≤◌, ◌-◌, false}
-use Rattle.dw_notation.specs.Reading.{EndIsTrue}
-use Rattle.dw_notation.specs.Reading.{lender, source_of}
+use Rattle.dw_notation.specs.Reading.{EndIsTrue, lender, source_of}
 use Rattle.dw_notation.specs.inner.Readers.{reader_of}
 use Rattle.dw_report.specs.Request.{request_of}
 use Rattle.dw_report.specs.declared.settings.Command.TheVariants.{Moves}

@@ -1,4 +1,5 @@
-use Rattle.std.proofs.Common.{◌≡◌, ◌∙◌, ◌+◌, ◌-◌, ◌*◌, ◌≤◌, true, false, Ok, length, refl, sym, ap, subst, arith, inl, inr, ◌↔◌, ◌⊎◌}
+use Rattle.std.proofs.Common.{◌≡◌, ◌∙◌, ◌+◌, ◌-◌, ◌*◌, ◌≤◌, true, false, Ok, length, refl, sym, ap, subst, arith, inl}
+use Rattle.std.proofs.Common.{inr, ◌↔◌, ◌⊎◌}
 use Rattle.std.specs.Prelude.{IsTrue, IfOk}
 use Rattle.std.proofs.lemmas.Result.{IfOk-weaker, IfOk-from_err}
 use Rattle.std.proofs.lemmas.Bool.{true≢false}
@@ -14,7 +15,8 @@ use Rattle.dw_solve.specs.Certificates.{SaysWin, SaysLost}
 use Rattle.dw_moves.specs.Moves.{play}
 use Rattle.dw_moves.specs.inner.MoveLemmas.{listed_is_legal}
 use Rattle.dw_solve.proofs.OpenLemmas.{put_off_none, put_off_won, put_off_more, put_off_all, put_off_legal, moves_added}
-use Rattle.dw_solve.proofs.OpenLemmas.{open_anyhow, all_win, one_does_not, says_all, says_not_all, all_lose, says_all_lose}
+use Rattle.dw_solve.proofs.OpenLemmas.{open_anyhow, all_win, one_does_not, says_all, says_not_all, all_lose}
+use Rattle.dw_solve.proofs.OpenLemmas.{says_all_lose}
 use Rattle.dw_solve.proofs.RankLemmas.{ranked_legal, below_more, win_by, never_won}
 use Rattle.dw_solve.proofs.WorkLemmas.{searched_none, searched_wider, searched_looser, searched_stop, stop_passed}
 use Rattle.dw_solve.proofs.WorkLemmas.{moment_is, begun_is, wins_stopped, wins_ended, second_kept}
@@ -23,14 +25,15 @@ use Rattle.dw_solve.proofs.StepLemmas.{searched_memory, searched_looked, memory_
 use Rattle.dw_solve.proofs.TriedLemmas.{Refuted, Answered, tried_none, tried_later, refuted_more, answered_more}
 use Rattle.dw_solve.proofs.TriedLemmas.{says_winning, says_none, says_refuted}
 use Rattle.dw_solve.proofs.WinLemmas.{hopeless_is}
-use Rattle.dw_solve.proofs.SearchLemmas.{ok_is_no_err, not_known, spent_in, unchanged_none, unchanged_then, reply_decided, replies_same}
-use Rattle.dw_solve.proofs.SearchLemmas.{lost_at_none, says_at_none, decided_same, counted_none, counted_then, is_so, is_not}
-use Rattle.dw_solve.proofs.SearchLemmas.{answer_no, answer_yes, some_first, counted_within, same_within, one_spent}
-use Rattle.dw_solve.proofs.SearchLemmas.{none_below_none, none_or_one, none_or_some, one_at_most, one_less}
-use Rattle.dw_solve.proofs.SearchLemmas.{room_for_replies, room_for_moves}
+use Rattle.dw_solve.proofs.SearchLemmas.{ok_is_no_err, not_known, spent_in, unchanged_none, unchanged_then}
+use Rattle.dw_solve.proofs.SearchLemmas.{reply_decided, replies_same, lost_at_none, says_at_none, decided_same}
+use Rattle.dw_solve.proofs.SearchLemmas.{counted_none, counted_then, is_so, is_not, answer_no, answer_yes, some_first}
+use Rattle.dw_solve.proofs.SearchLemmas.{counted_within, same_within, one_spent, none_below_none, none_or_one}
+use Rattle.dw_solve.proofs.SearchLemmas.{none_or_some, one_at_most, one_less, room_for_replies, room_for_moves}
 use Rattle.dw_solve.proofs.SearchLemmas.{room_left, room_after, none_at_most, same_at_most}
 use Rattle.dw_solve.proofs.search.+search.Goals as goal
-use Rattle.dw_solve.proofs.search.+search.Goals.{good_reply_refutes-in-Answered-true, good_reply_refutes-in-PutOff+in_ok-add_reply-in-PutOff}
+use Rattle.dw_solve.proofs.search.+search.Goals.{good_reply_refutes-in-Answered-true}
+use Rattle.dw_solve.proofs.search.+search.Goals.{good_reply_refutes-in-PutOff+in_ok-add_reply-in-PutOff}
 
 pub some_move_wins-play-requires : goal.some_move_wins-play-requires
 some_move_wins-play-requires g t c =
@@ -208,7 +211,8 @@ wins-returns-in-Some-clause-searched g t c =
 
 pub expand-returns-in_err-line_up-clause-searched : goal.expand-returns-in_err-line_up-clause-searched
 expand-returns-in_err-line_up-clause-searched g t c = record {
-  right = subst (λ m. AreTrue g.B.Board.geometry (g.M.Memo.content m)) (sym c.count.ensures.memo) c.requires.ready.right;
+  right = subst (λ m. AreTrue g.B.Board.geometry (g.M.Memo.content m)) (sym c.count.ensures.memo)
+      c.requires.ready.right;
   count = counted_one c.args.search.now.expanded c.args.search.now.limit c.args.search.now.expanded
       c.args.search.now.limit c.count.new.search.expanded c.count.new.search.limit c.requires.ready.within
       refl refl c.count.ensures.rises c.count.ensures.limit c.count.ensures.within;
@@ -560,8 +564,8 @@ loses-returns-clause-known g t c all =
     inr (
       later.0,
       unchanged_then first then (g.M.Memo.content c.all_replies_lose.new.search.memo)
-          c.args.search.now.expanded c.good_reply_refutes.new.search.expanded c.all_replies_lose.new.search.expanded here.1
-          later.1,
+          c.args.search.now.expanded c.good_reply_refutes.new.search.expanded c.all_replies_lose.new.search.expanded
+          here.1 later.1,
     )
 
 pub good_reply_refutes-replies-init : goal.good_reply_refutes-replies-init
@@ -608,7 +612,8 @@ good_reply_refutes-try_reply-requires g t c κs within =
       ),
     )
 
-pub good_reply_refutes-returns-in_err-try_reply-clause-searched : goal.good_reply_refutes-returns-in_err-try_reply-clause-searched
+pub good_reply_refutes-returns-in_err-try_reply-clause-searched :
+    goal.good_reply_refutes-returns-in_err-try_reply-clause-searched
 good_reply_refutes-returns-in_err-try_reply-clause-searched g t c =
     let geo = g.B.Board.geometry in
     let content = g.M.Memo.content in
@@ -622,7 +627,8 @@ good_reply_refutes-returns-in_err-try_reply-clause-searched g t c =
       work = c.replies.invariant.1.1.0.work;
     }) c.in_err-try_reply.ensures.searched)
 
-pub good_reply_refutes-returns-in_err-try_reply-clause-known : goal.good_reply_refutes-returns-in_err-try_reply-clause-known
+pub good_reply_refutes-returns-in_err-try_reply-clause-known :
+    goal.good_reply_refutes-returns-in_err-try_reply-clause-known
 good_reply_refutes-returns-in_err-try_reply-clause-known g t c all =
     let geo = g.B.Board.geometry in
     let content = g.M.Memo.content in
@@ -634,7 +640,8 @@ good_reply_refutes-returns-in_err-try_reply-clause-known g t c all =
     c.reply-item.result c.args.moves c.args.search.now.expanded c.replies.search.expanded all before legal refl) in
     absurd (true≢false (sym here.0))
 
-pub good_reply_refutes-returns-in-Answered-false-clause-refuted : goal.good_reply_refutes-returns-in-Answered-false-clause-refuted
+pub good_reply_refutes-returns-in-Answered-false-clause-refuted :
+    goal.good_reply_refutes-returns-in-Answered-false-clause-refuted
 good_reply_refutes-returns-in-Answered-false-clause-refuted g t c _ all =
     let geo = g.B.Board.geometry in
     let legal = listed_is_legal geo c.args.position.now c.args.legal.now c.replies.reply-index c.reply-item.result
@@ -645,7 +652,8 @@ good_reply_refutes-returns-in-Answered-false-clause-refuted g t c _ all =
     is_not c.in-Answered-false.field-0 (Win geo after c.args.moves) answer c.in-Answered-false.field-0-test
     (all c.reply-item.result legal)
 
-pub good_reply_refutes-returns-in-Answered-false-clause-searched : goal.good_reply_refutes-returns-in-Answered-false-clause-searched
+pub good_reply_refutes-returns-in-Answered-false-clause-searched :
+    goal.good_reply_refutes-returns-in-Answered-false-clause-searched
 good_reply_refutes-returns-in-Answered-false-clause-searched g t c =
     let geo = g.B.Board.geometry in
     let content = g.M.Memo.content in
@@ -659,7 +667,8 @@ good_reply_refutes-returns-in-Answered-false-clause-searched g t c =
       work = c.replies.invariant.1.1.0.work;
     }) c.in_ok-try_reply.ensures.searched)
 
-pub good_reply_refutes-returns-in-Answered-false-clause-says : goal.good_reply_refutes-returns-in-Answered-false-clause-says
+pub good_reply_refutes-returns-in-Answered-false-clause-says :
+    goal.good_reply_refutes-returns-in-Answered-false-clause-says
 good_reply_refutes-returns-in-Answered-false-clause-says g t c kept _ =
     let geo = g.B.Board.geometry in
     let content = g.M.Memo.content in
@@ -674,7 +683,8 @@ good_reply_refutes-returns-in-Answered-false-clause-says g t c kept _ =
     (λ k. subst (IfAnswered (SaysWin (content c.try_reply.new.search.memo) after c.args.moves))
     c.in-Answered-false.is (c.in_ok-try_reply.ensures.says k)) kept
 
-pub good_reply_refutes-returns-in-Answered-false-clause-known : goal.good_reply_refutes-returns-in-Answered-false-clause-known
+pub good_reply_refutes-returns-in-Answered-false-clause-known :
+    goal.good_reply_refutes-returns-in-Answered-false-clause-known
 good_reply_refutes-returns-in-Answered-false-clause-known g t c all =
     let geo = g.B.Board.geometry in
     let content = g.M.Memo.content in
@@ -690,7 +700,8 @@ good_reply_refutes-returns-in-Answered-false-clause-known g t c all =
           c.try_reply.new.search.expanded before here.1,
     )
 
-pub good_reply_refutes-returns-in_err-add_reply-in-PutOff-clause-searched : goal.good_reply_refutes-returns-in_err-add_reply-in-PutOff-clause-searched
+pub good_reply_refutes-returns-in_err-add_reply-in-PutOff-clause-searched :
+    goal.good_reply_refutes-returns-in_err-add_reply-in-PutOff-clause-searched
 good_reply_refutes-returns-in_err-add_reply-in-PutOff-clause-searched g t c =
     let geo = g.B.Board.geometry in
     let content = g.M.Memo.content in
@@ -704,7 +715,8 @@ good_reply_refutes-returns-in_err-add_reply-in-PutOff-clause-searched g t c =
       work = c.replies.invariant.1.1.0.work;
     }) (searched_ok geo content lost c.args.moves _ _ _ 0 c.in_ok-try_reply.ensures.searched))
 
-pub good_reply_refutes-returns-in_err-add_reply-in-PutOff-clause-known : goal.good_reply_refutes-returns-in_err-add_reply-in-PutOff-clause-known
+pub good_reply_refutes-returns-in_err-add_reply-in-PutOff-clause-known :
+    goal.good_reply_refutes-returns-in_err-add_reply-in-PutOff-clause-known
 good_reply_refutes-returns-in_err-add_reply-in-PutOff-clause-known g t c all =
     let geo = g.B.Board.geometry in
     let content = g.M.Memo.content in
@@ -760,7 +772,8 @@ good_reply_refutes-replies-preserved g t c =
               let before = c.replies.invariant.1.1.1 all in
               let here = c.in_ok-try_reply.ensures.known (reply_decided geo (content c.args.search.now.memo)
               (content c.replies.search.memo) c.args.position.now (play geo c.args.position.now c.reply-item.result)
-              c.reply-item.result c.args.moves c.args.search.now.expanded c.replies.search.expanded all before legal refl) in
+              c.reply-item.result c.args.moves c.args.search.now.expanded c.replies.search.expanded all before legal
+              refl) in
               unchanged_then (content c.args.search.now.memo) (content c.replies.search.memo)
               (content c.try_reply.new.search.memo) c.args.search.now.expanded c.replies.search.expanded
               c.try_reply.new.search.expanded before here.1,
@@ -867,7 +880,8 @@ all_replies_lose-returns-then-not-branch-clause-answer g t c =
     (λ win. is_not c.in_ok-wins.field-0 _ c.in_ok-wins.ensures.answer c.if-not-branch.true
     (subst (λ q. Win geo q c.args.moves) (sym c.play.ensures) win)))
 
-pub all_replies_lose-returns-then-not-branch-clause-searched : goal.all_replies_lose-returns-then-not-branch-clause-searched
+pub all_replies_lose-returns-then-not-branch-clause-searched :
+    goal.all_replies_lose-returns-then-not-branch-clause-searched
 all_replies_lose-returns-then-not-branch-clause-searched g t c =
     let geo = g.B.Board.geometry in
     let content = g.M.Memo.content in
@@ -939,8 +953,8 @@ all_replies_lose-replies-preserved g t c =
               let before = c.replies.invariant.1.1.2 all in
               let here = c.in_ok-wins.ensures.known (reply_decided geo (content c.args.search.now.memo)
               (content c.replies.search.memo) c.args.position.now c.play.result
-              c.candidate-item.result.1 c.args.moves c.args.search.now.expanded c.replies.search.expanded all before legal
-              c.play.ensures) in
+              c.candidate-item.result.1 c.args.moves c.args.search.now.expanded c.replies.search.expanded all before
+              legal c.play.ensures) in
               unchanged_then (content c.args.search.now.memo) (content c.replies.search.memo)
               (content c.wins.new.search.memo) c.args.search.now.expanded c.replies.search.expanded
               c.wins.new.search.expanded before here.1,

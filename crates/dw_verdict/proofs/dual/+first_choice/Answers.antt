@@ -12,8 +12,7 @@ use Rattle.dw_verdict.specs.inner.GatheredLemmas.{item_among}
 use Rattle.dw_verdict.proofs.ChoiceLemmas.{leads_begin, replies_begin, comes_later}
 use Rattle.dw_verdict.specs.inner.WinningLemmas.{winning_legal}
 use Rattle.dw_verdict.proofs.ChoiceLoopLemmas.{none_to_more, none_to_all, found_at, map_same, after_key, some_left}
-use Rattle.dw_verdict.proofs.ChoiceLoopLemmas.{room_for_key, room_for_reply, after_reply, least_is}
-use Rattle.dw_verdict.proofs.ChoiceLoopLemmas.{first_here}
+use Rattle.dw_verdict.proofs.ChoiceLoopLemmas.{room_for_key, room_for_reply, after_reply, least_is, first_here}
 use Rattle.dw_verdict.proofs.dual.+first_choice.Goals as goal
 
 pub choice_after_reply-returns-in_err-list-clause-asked : goal.choice_after_reply-returns-in_err-list-clause-asked

@@ -7,8 +7,8 @@ returns-clause-grammar g c = short_is_grammar g.B.Board.geometry c.args.text.now
     c.read_short_fen.ensures
 
 pub returns-clause-fault : goal.returns-clause-fault
-returns-clause-fault g c = short_fault_is_grammar g.B.Board.geometry c.args.text.now c.read_short_fen.result (omega arith)
-    c.read_short_fen.ensures
+returns-clause-fault g c = short_fault_is_grammar g.B.Board.geometry c.args.text.now c.read_short_fen.result (omega
+    arith) c.read_short_fen.ensures
 
 pub returns-then-text-gt-MAX_FEN-clause-fault : goal.returns-then-text-gt-MAX_FEN-clause-fault
 returns-then-text-gt-MAX_FEN-clause-fault g c = long_fault_is_grammar g.B.Board.geometry c.args.text.now

@@ -28,8 +28,8 @@ invariant_of-result g c =
       | in-Some w ↦ subst (λ h. IsKept board cells (set_of h)) (sym w.held-is)
           (kept-carried board g.met.B.Board.numbers before sets (set_of c.without-left.result)
           (set_of w.with-held.result) from to c.args.taken w.in-Some.piece
-          c.self.invariant c.keeps_to_its_board.ensures c.keeps_to_its_board-2.ensures (there ∙ sym w.in-Some.ensures) goes
-          (λ side k. w.with-held.ensures side k ∙ ap (entered side k (set_of c.without-left.result side k) to)
+          c.self.invariant c.keeps_to_its_board.ensures c.keeps_to_its_board-2.ensures (there ∙ sym w.in-Some.ensures)
+          goes (λ side k. w.with-held.ensures side k ∙ ap (entered side k (set_of c.without-left.result side k) to)
           w.crowned.ensures))
       | in-None w ↦ subst (λ h. IsKept board cells (set_of h)) (sym w.held-is)
           (kept-none board g.met.B.Board.numbers before sets (set_of c.without-left.result) from to c.args.taken
@@ -55,8 +55,8 @@ returns g c =
       | in-Some w ↦ subst (λ h. IsKept board cells (set_of h)) (sym w.held-is)
           (kept-carried board g.met.B.Board.numbers before sets (set_of c.without-left.result)
           (set_of w.with-held.result) from to c.args.taken w.in-Some.piece
-          c.self.invariant c.keeps_to_its_board.ensures c.keeps_to_its_board-2.ensures (there ∙ sym w.in-Some.ensures) goes
-          (λ side k. w.with-held.ensures side k ∙ ap (entered side k (set_of c.without-left.result side k) to)
+          c.self.invariant c.keeps_to_its_board.ensures c.keeps_to_its_board-2.ensures (there ∙ sym w.in-Some.ensures)
+          goes (λ side k. w.with-held.ensures side k ∙ ap (entered side k (set_of c.without-left.result side k) to)
           w.crowned.ensures))
       | in-None w ↦ subst (λ h. IsKept board cells (set_of h)) (sym w.held-is)
           (kept-none board g.met.B.Board.numbers before sets (set_of c.without-left.result) from to c.args.taken

@@ -7,5 +7,5 @@ pub returns-clause-given : goal.returns-clause-given
 returns-clause-given g c =
     let number = c.hand_out.ensures in
     open_numbers (handed_out c.args.self.now.numbers)
-    (record { problem = c.hand_out.result; tags = c.new.result; movetext = c.new-2.result }) c.requires (number.number ∙ number.more c.requires)
-    number.found c.new.ensures.items c.new-2.ensures.items
+    (record { problem = c.hand_out.result; tags = c.new.result; movetext = c.new-2.result }) c.requires (number.number ∙
+    number.more c.requires) number.found c.new.ensures.items c.new-2.ensures.items

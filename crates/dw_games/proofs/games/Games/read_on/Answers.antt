@@ -15,14 +15,15 @@ pub returns-in-Section-clause-reads : goal.returns-in-Section-clause-reads
 returns-in-Section-clause-reads g c =
     let s = g.S.Source in
     ReadsGame-front g.B.Board.geometry s.coming s.has_ended s.is_failed s.pulls_left _ _ c.read_game.new.self
-    c.new-front.result c.scan_to_section.new.kept c.read_game.result (rw c.in-Section.is at c.in_ok-scan_to_section.ensures) refl
-    c.read_game.ensures.reads
+    c.new-front.result c.scan_to_section.new.kept c.read_game.result (rw c.in-Section.is at
+    c.in_ok-scan_to_section.ensures) refl c.read_game.ensures.reads
 
 pub returns-in-Open-clause-reads : goal.returns-in-Open-clause-reads
 returns-in-Open-clause-reads g c =
     let s = g.S.Source in
     ReadsGame-open g.B.Board.geometry s.coming s.has_ended s.is_failed s.pulls_left c.texts_of_tags_say.ensures _
-    c.hand_out_open.new.self (input_of c.scan_to_section.new.source c.scan_to_section.new.buffer) c.new-front.result c.scan_to_section.new.kept c.hand_out_open.result
+    c.hand_out_open.new.self (input_of c.scan_to_section.new.source c.scan_to_section.new.buffer) c.new-front.result
+    c.scan_to_section.new.kept c.hand_out_open.result
     (rw c.in-Open.is at c.in_ok-scan_to_section.ensures) c.hand_out_open.ensures.input c.hand_out_open.ensures.stage
     c.hand_out_open.ensures.given
 

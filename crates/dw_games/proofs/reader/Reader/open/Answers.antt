@@ -5,7 +5,10 @@ use Rattle.dw_games.proofs.reader.Reader.open.Goals as goal
 
 pub returns-in_default : goal.returns-in_default
 returns-in_default g c = λ p ts h.
-    rw c.fault.ensures (fault_no_move _ p ts c.args.self.now h (token_value c.args.token) c.in_default.is c.requires, refl)
+    rw c.fault.ensures (
+      fault_no_move _ p ts c.args.self.now h (token_value c.args.token) c.in_default.is c.requires,
+      refl,
+    )
 
 pub returns-then-is_full : goal.returns-then-is_full
 returns-then-is_full g c = λ p ts h.

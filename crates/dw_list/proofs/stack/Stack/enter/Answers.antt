@@ -1,7 +1,9 @@
-use Rattle.std.proofs.Common.{◌<◌, ◌+◌, ◌≡◌, [], ◌∷◌, ◌++◌, sym, ap, ◌∙◌, reverse, arith, length, length-append, lit<, inl, inr}
+use Rattle.std.proofs.Common.{◌<◌, ◌+◌, ◌≡◌, [], ◌∷◌, ◌++◌, sym, ap, ◌∙◌, reverse, arith, length, length-append, lit<}
+use Rattle.std.proofs.Common.{inl, inr}
 use Rattle.std.proofs.lemmas.List.{length-reverse}
 use Rattle.dw_list.specs.LineStack.{LineStack}
-use Rattle.dw_list.proofs.StackViewLemmas.{same_count, end_of, end_first, inside_first, inside_entered, same_candidate, seen_entered}
+use Rattle.dw_list.proofs.StackViewLemmas.{same_count, end_of, end_first, inside_first, inside_entered, same_candidate}
+use Rattle.dw_list.proofs.StackViewLemmas.{seen_entered}
 use Rattle.dw_list.proofs.stack.Stack.enter.Goals as goal
 
 pub push-requires-2 : goal.push-requires-2
@@ -51,8 +53,8 @@ invariant_of-self g c =
           c.unwrap-frame.result c.pass.new.self c.frame_at-next.result (reverse c.self.inside.line.items) _
           c.args.candidate.now.mv c.args.candidate.now.after c.args.candidate.now.attacks c.args.candidate.now.left was
           (c.push-2.ensures.items ∙ ap (λ z. z ++ c.frame_at-next.result ∷ []) c.push.ensures.items) c.pass.ensures
-          (end_first _ _ _ c.push-3.ensures.items) candidate.0 candidate.1 candidate.2 candidate.3 c.frame_at-next.ensures.frame c.requires.keeps
-          c.self.invariant.0,
+          (end_first _ _ _ c.push-3.ensures.items) candidate.0 candidate.1 candidate.2 candidate.3
+          c.frame_at-next.ensures.frame c.requires.keeps c.self.invariant.0,
       elim c.frame_at-next.ensures.spare [
         | inl none ↦ omega (arith, same, more, few, none.0, none.1, room.1, old)
         | inr one ↦ omega (arith, same, more, few, one)
@@ -72,7 +74,8 @@ pub returns : goal.returns
 returns g c =
     let was = end_of _ _ c.pop.result c.unwrap-frame.result c.pop.ensures.items c.unwrap-frame.ensures in
     seen_entered c.args.self.now c.self.inside.position c.self.inside.moves c.self.inside.line.items
-    c.push-3.new.self.items c.args.candidate.now.mv c.self.inside.frames.items c.pop.new.self.items c.push-2.new.self.items
+    c.push-3.new.self.items c.args.candidate.now.mv c.self.inside.frames.items c.pop.new.self.items
+    c.push-2.new.self.items
     c.unwrap-frame.result c.pass.new.self c.frame_at-next.result _ c.self.view_is c.push-3.ensures.items was
     (c.push-2.ensures.items ∙ ap (λ z. z ++ c.frame_at-next.result ∷ []) c.push.ensures.items) c.pass.ensures
     c.frame_at-next.ensures.frame

@@ -1,6 +1,5 @@
 use Rattle.std.proofs.Common.{◌∙◌, sym}
-use Rattle.dw_memo.proofs.PairLemmas.{own_first, own_second, new_first, new_second}
-use Rattle.dw_memo.proofs.PairLemmas.{own_first_choice, own_second_choice}
+use Rattle.dw_memo.proofs.PairLemmas.{own_first, own_second, new_first, new_second, own_first_choice, own_second_choice}
 use Rattle.dw_memo.proofs.pair.Pair.place.Goals as goal
 
 pub returns-then-holds-clause-note : goal.returns-then-holds-clause-note
@@ -9,8 +8,8 @@ returns-then-holds-clause-note g c = own_first c.args.self.now.first c.args.self
     (sym c.holds.ensures ∙ c.if-holds.true) c.enter_again.ensures.note
 
 pub returns-then-holds-clause-choice : goal.returns-then-holds-clause-choice
-returns-then-holds-clause-choice g c = own_first_choice c.args.self.now.first c.args.self.now.second c.enter_again.new.place
-    c.args.position.now c.args.bounds c.enter_again.result.noted c.enter_again.ensures.kept
+returns-then-holds-clause-choice g c = own_first_choice c.args.self.now.first c.args.self.now.second
+    c.enter_again.new.place c.args.position.now c.args.bounds c.enter_again.result.noted c.enter_again.ensures.kept
     (sym c.holds.ensures ∙ c.if-holds.true)
 
 pub returns-then-holds-2-clause-note : goal.returns-then-holds-2-clause-note

@@ -3,8 +3,7 @@ use Rattle.std.specs.Prelude.{IsTrue}
 use Rattle.std.proofs.lemmas.Bool.{true≢false}
 use Rattle.dw_moves.specs.Order.{Listed}
 use Rattle.dw_moves.specs.inner.Walks.{OneKept, These}
-use Rattle.dw_moves.proofs.KeeperLemmas.{Left, held_more, held_past, one_alike, one_bare, one_here, one_other}
-use Rattle.dw_moves.proofs.KeeperLemmas.{same_aim}
+use Rattle.dw_moves.proofs.KeeperLemmas.{Left, held_more, held_past, one_alike, one_bare, one_here, one_other, same_aim}
 use Rattle.dw_moves.proofs.seeker.SeekerKeeper.offer.Goals as goal
 use Rattle.dw_moves.proofs.seeker.SeekerKeeper.offer.Goals.{then-self-count, else-self-count}
 

@@ -1,8 +1,8 @@
 use Rattle.std.proofs.Common.{◌≡◌, ℕ, ◌+◌, ◌-◌, ◌∙◌, rules, sym, ap, refl, length, subst, take, drop, append-nil, arith}
 use Rattle.dw_notation.specs.Text.{ArePlayable}
 use Rattle.dw_notation.specs.inner.WrittenMoves.{after_moves}
-use Rattle.dw_notation.proofs.LineWrittenLemmas.{next_legal, moves_more, playable_from, rest_is, played_short, after_push}
-use Rattle.dw_notation.proofs.LineWrittenLemmas.{begins_line}
+use Rattle.dw_notation.proofs.LineWrittenLemmas.{next_legal, moves_more, playable_from, rest_is, played_short}
+use Rattle.dw_notation.proofs.LineWrittenLemmas.{after_push, begins_line}
 use Rattle.dw_notation.proofs.line_text.LineText.switch_to.Goals as goal
 
 pub moves-init : goal.moves-init
@@ -16,7 +16,8 @@ moves-init g c =
       start = refl;
       taken = sym (append-nil t.moves);
       playable = subst (ArePlayable geo (after_moves geo t.start t.moves)) (sym (rest_is line shared))
-          (playable_from geo t.start t.moves line shared (c.keep.ensures.moves ∙ sym c.shared-shared.ensures.same) legal);
+          (playable_from geo t.start t.moves line shared (c.keep.ensures.moves ∙ sym c.shared-shared.ensures.same)
+          legal);
     }
 
 pub moves-preserved : goal.moves-preserved

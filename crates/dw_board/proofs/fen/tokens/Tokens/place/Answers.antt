@@ -1,6 +1,5 @@
 use Rattle.std.proofs.Common.{◌≡◌, ◌+◌, length, drop, length-drop, arith, sym, ◌∙◌, ap}
-use Rattle.dw_board.specs.FenTokens.{tokens_from}
-use Rattle.dw_board.specs.FenTokens.{place_of}
+use Rattle.dw_board.specs.FenTokens.{tokens_from, place_of}
 use Rattle.dw_board.proofs.FenTokenLemmas.{place_of-here}
 use Rattle.dw_board.proofs.fen.tokens.Tokens.place.Goals as goal
 

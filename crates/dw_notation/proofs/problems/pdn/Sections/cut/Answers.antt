@@ -1,5 +1,5 @@
-use Rattle.std.proofs.Common.{◌≡◌, ◌+◌, ◌++◌, ◌∷◌, [], false, take, drop, slice_index, sym, ap, refl, ◌∙◌}
-use Rattle.std.proofs.Common.{append-nil, append_assoc, subst, true, arith}
+use Rattle.std.proofs.Common.{◌≡◌, ◌+◌, ◌++◌, ◌∷◌, [], false, take, drop, slice_index, sym, ap, refl, ◌∙◌, append-nil}
+use Rattle.std.proofs.Common.{append_assoc, subst, true, arith}
 use Rattle.std.proofs.lemmas.List.{take_more}
 use Rattle.std.specs.List.{list_all}
 use Rattle.dw_notation.specs.inner.Tags.{passes}
@@ -25,8 +25,8 @@ returns-then-add-clause-some c =
       cut = c.if-add.ensures.cut refl;
       before = λ g. ap (sections_ahead false g old) (sym (append-nil (take c.bytes.at bytes)))
           ∙ c.bytes.invariant.same g false [];
-      said = λ g at_end more. ap (λ l. sections_ahead at_end g old (l ++ more)) (take_more bytes c.bytes.at 0 (omega arith))
-          ∙ ap (sections_ahead at_end g old) (append_assoc (take c.bytes.at bytes) (byte ∷ []) more)
+      said = λ g at_end more. ap (λ l. sections_ahead at_end g old (l ++ more)) (take_more bytes c.bytes.at 0 (omega
+          arith)) ∙ ap (sections_ahead at_end g old) (append_assoc (take c.bytes.at bytes) (byte ∷ []) more)
           ∙ c.bytes.invariant.same g at_end (byte ∷ more) ∙ c.if-add.ensures.said g at_end more;
     }
 
@@ -39,8 +39,8 @@ bytes-preserved c =
     let passed = take n (drop (c.bytes.at + 1) bytes) in
     record {
       within = omega (arith, c.passed-at-in-bytes.ensures.within);
-      same = λ g at_end more. ap (λ l. sections_ahead at_end g old (l ++ more)) (take-one_more c.bytes.at n bytes (omega arith))
-          ∙ ap (sections_ahead at_end g old) (append_assoc (take c.bytes.at bytes) (byte ∷ passed) more)
+      same = λ g at_end more. ap (λ l. sections_ahead at_end g old (l ++ more)) (take-one_more c.bytes.at n bytes (omega
+          arith)) ∙ ap (sections_ahead at_end g old) (append_assoc (take c.bytes.at bytes) (byte ∷ passed) more)
           ∙ c.bytes.invariant.same g at_end (byte ∷ (passed ++ more))
           ∙ c.if-add.ensures.said g at_end (passed ++ more)
           ∙ pass_all at_end g c.add.new.self.state (held_of c.add.new.self.section) passed more

@@ -18,26 +18,31 @@ returns-in-Err-clause-given g c =
     let piece = c.in-Err.ensures.piece in
     let so_far = c.pieces.invariant in
     NextGives-err _ _ _ _ _ (progress_of c.pieces.self) (progress_of c.next_piece.new.self) c.in-Err.fault
-    (omega (arith, c.if-is_over.ensures, c.pieces.invariant.handed)) so_far.nothing piece.0 piece.1 (ap handed_out c.next_piece.ensures.numbers)
+    (omega (arith, c.if-is_over.ensures, c.pieces.invariant.handed)) so_far.nothing piece.0 piece.1 (ap handed_out
+    c.next_piece.ensures.numbers)
 
 pub returns-in-Some-clause-given : goal.returns-in-Some-clause-given
 unfolding reader_of
 returns-in-Some-clause-given g c =
     let handed = c.hand_out.ensures in
-    let new = progress_at c.next_piece.new.self.buffer c.hand_out.new.self.pieces (handed_out c.hand_out.new.self.numbers) in
-    rw (handed.source, handed.buffer) (NextGives-some _ _ _ _ _ (progress_of c.pieces.self) (progress_of c.next_piece.new.self) new
-    c.in-Some.problem c.in-Ok.is_whole (omega (arith, c.if-is_over.ensures, c.pieces.invariant.handed)) c.pieces.invariant.nothing c.in-Ok.ensures.piece
-    (ap handed_out c.next_piece.ensures.numbers)
+    let new = progress_at c.next_piece.new.self.buffer c.hand_out.new.self.pieces (handed_out
+    c.hand_out.new.self.numbers) in
+    rw (handed.source, handed.buffer) (NextGives-some _ _ _ _ _ (progress_of c.pieces.self) (progress_of
+    c.next_piece.new.self) new
+    c.in-Some.problem c.in-Ok.is_whole (omega (arith, c.if-is_over.ensures, c.pieces.invariant.handed))
+    c.pieces.invariant.nothing c.in-Ok.ensures.piece (ap handed_out c.next_piece.ensures.numbers)
     (record { ahead = handed.ahead _; rest = refl; given = c.in-Some.ensures.given }) refl)
 
 pub returns-then-not-is_whole-clause-given : goal.returns-then-not-is_whole-clause-given
 unfolding reader_of
 returns-then-not-is_whole-clause-given g c =
     let handed = c.hand_out.ensures in
-    let new = progress_at c.next_piece.new.self.buffer c.hand_out.new.self.pieces (handed_out c.hand_out.new.self.numbers) in
-    rw (handed.source, handed.buffer) (NextGives-end _ _ _ _ _ (progress_of c.pieces.self) (progress_of c.next_piece.new.self) new
-    c.in-Ok.is_whole c.if-not-is_whole.true (omega (arith, c.if-is_over.ensures, c.pieces.invariant.handed)) c.pieces.invariant.nothing c.in-Ok.ensures.piece
-    (ap handed_out c.next_piece.ensures.numbers)
+    let new = progress_at c.next_piece.new.self.buffer c.hand_out.new.self.pieces (handed_out
+    c.hand_out.new.self.numbers) in
+    rw (handed.source, handed.buffer) (NextGives-end _ _ _ _ _ (progress_of c.pieces.self) (progress_of
+    c.next_piece.new.self) new
+    c.in-Ok.is_whole c.if-not-is_whole.true (omega (arith, c.if-is_over.ensures, c.pieces.invariant.handed))
+    c.pieces.invariant.nothing c.in-Ok.ensures.piece (ap handed_out c.next_piece.ensures.numbers)
     (record { ahead = handed.ahead _; rest = refl; given = c.in_default.ensures.given }) refl)
 
 pub pieces-preserved : goal.pieces-preserved
@@ -45,11 +50,13 @@ pieces-preserved g c =
     let so_far = c.pieces.invariant in
     let handed = c.hand_out.ensures in
     let next = c.in-Ok.ensures in
-    let new = progress_at c.next_piece.new.self.buffer c.hand_out.new.self.pieces (handed_out c.hand_out.new.self.numbers) in
+    let new = progress_at c.next_piece.new.self.buffer c.hand_out.new.self.pieces (handed_out
+    c.hand_out.new.self.numbers) in
     let number = ap handed_out next.numbers in
     rw (handed.source, handed.buffer) (record {
       lender = next.lender ∙ so_far.lender;
-      nothing = HandsOut-blank _ _ _ _ _ (progress_of c.pieces.self) (progress_of c.next_piece.new.self) new c.in-Ok.is_whole
+      nothing = HandsOut-blank _ _ _ _ _ (progress_of c.pieces.self) (progress_of c.next_piece.new.self) new
+          c.in-Ok.is_whole
           c.if-not-is_whole.false (omega (arith, c.if-is_over.ensures, so_far.handed)) so_far.nothing next.piece number
           (record { ahead = handed.ahead _; rest = refl; given = c.in_default.ensures.given });
       end = λ known. next.end (so_far.end known);

@@ -23,8 +23,8 @@ returns-in-Open-clause-some c =
     let bytes = c.args.bytes.now in
     let byte = slice_index bytes c.bytes.at in
     let opens : (transition (state_of c.bytes.self.is_comment) byte).action ≡ Open =
-    ap (λ s. (transition s byte).action) (sym c.state-in-bytes.ensures) ∙ ap (λ t. t.action) (sym c.transition-to.ensures)
-    ∙ c.in-Open.is in
+    ap (λ s. (transition s byte).action) (sym c.state-in-bytes.ensures) ∙ ap (λ t. t.action) (sym
+    c.transition-to.ensures) ∙ c.in-Open.is in
     let begins = begins_section c.bytes.self.is_comment byte opens in (
       omega arith,
       begins.0,
@@ -47,8 +47,8 @@ bytes-preserved c =
     ] in
     record {
       within = omega (arith, c.passed-at-in-bytes.ensures.within);
-      passed = IsBetween-on c.args.self.now.is_comment is c.match-matches.self c.bytes.at c.passed-at-in-bytes.result bytes
-          (omega arith) c.bytes.invariant.passed
+      passed = IsBetween-on c.args.self.now.is_comment is c.match-matches.self c.bytes.at c.passed-at-in-bytes.result
+          bytes (omega arith) c.bytes.invariant.passed
           (λ h. c.in_default.not-Open (ap (λ t. t.action) to ∙ h)) stands
           (subst (λ s. list_all (passes s) (take c.passed-at-in-bytes.result (drop (c.bytes.at + 1) bytes)) ≡ true)
           c.state-in-bytes-2.ensures (subst (λ l. list_all (passes c.state-in-bytes-2.result)
