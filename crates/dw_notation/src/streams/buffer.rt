@@ -1,6 +1,5 @@
 //! A buffer over a source.
-ghost use Rattle.std.specs.Prelude.{◌≡◌, ◌⊎◌, ◌<◌, ◌≤◌, [], ◌∷◌, true, false, length, drop, is_err};
-ghost use Rattle.std.specs.Prelude.{IfOk, IsErr, MatchOption};
+ghost use Rattle.std.specs.Prelude.{◌≡◌, ◌⊎◌, ◌≤◌, [], true, false, length, drop, is_err, IfOk, IsErr};
 
 use super::Source;
 use crate::problems::{MAX_READ, ReadFault};
@@ -80,34 +79,5 @@ impl Buffer {
         ensures unread { unread_in self.new ≡ drop count (unread_in self.old) }
     {
         self.start += count.min(self.unread().len());
-    }
-
-    /// The next byte of a source, which stays the next until it is consumed; `None` at the end.
-    ///
-    /// # Errors
-    ///
-    /// `Failed` if the source fails.
-    /// Example: of a source of `*` it is the star, and after `consume(1)` it is `None`.
-    pub fn peek<S: Source>(&mut self, source: &mut S) -> Result<Option<u8>, ReadFault>
-        ensures passes { Passes S.coming S.has_ended S.is_failed S.pulls_left (input_of source.old self.old)
-            (input_of source.new self.new) [] (is_err result) }
-        ensures next { IfOk result (λ next. MatchOption next
-            ((unread_in self.new ≡ []) × (met_end_in self.new ≡ true))
-            (λ byte. unread_in self.new ≡ byte ∷ drop 1 (unread_in self.new))) }
-    {
-        self.fill(source)?;
-        Ok(self.first())
-    }
-
-    /// The first of the bytes that were read and not yet consumed.
-    fn first(&self) -> Option<u8>
-        ensures { MatchOption result (unread_in self.now ≡ [])
-            (λ byte. unread_in self.now ≡ byte ∷ drop 1 (unread_in self.now)) }
-    {
-        if self.start < self.end {
-            Some(self.bytes[self.start])
-        } else {
-            None
-        }
     }
 }
