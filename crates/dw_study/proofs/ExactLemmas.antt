@@ -1,6 +1,6 @@
 -- If each path of a tree that goes on nowhere is a line, no remark is a fault; if these are all lines, there is none.
-use Rattle.std.proofs.Common.{◌≡◌, ◌⊎◌, ℕ, zero, suc, ◌+◌, ◌<◌, ◌≤◌, List, [], ◌∷◌, ◌++◌, length, map, max, refl, sym, ap}
-use Rattle.std.proofs.Common.{subst, ◌∙◌, inl, inr, arith, append-nil, append_assoc, length-append}
+use Rattle.std.proofs.Common.{◌≡◌, ◌⊎◌, ℕ, zero, suc, ◌+◌, ◌<◌, ◌≤◌, List, [], ◌∷◌, ◌++◌, length, map, max, refl, sym}
+use Rattle.std.proofs.Common.{ap, subst, ◌∙◌, inl, inr, arith, append-nil, append_assoc, length-append}
 use Rattle.dw_board.specs.Geometry.{Geometry, IsBoard}
 use Rattle.dw_board.specs.Placement.{Placement}
 use Rattle.dw_board.specs.Lists.{Member}
@@ -14,9 +14,9 @@ use Rattle.dw_solve.specs.Wins.{Win, Lost}
 use Rattle.dw_games.specs.Play.{after}
 use Rattle.dw_games.specs.Laws.{IsPlayed}
 use Rattle.dw_verdict.specs.Verdict.{IsWinning}
-use Rattle.dw_study.specs.Remarks.{Remark, fails, also, leaves_open, GoesOnBy, if_any, AtAttacker}
-use Rattle.dw_study.specs.Remarks.{without_move, with_moves, AtDefender, over, without_reply, with_replies, InTurn, nothing}
-use Rattle.dw_study.specs.Remarks.{one_more, AreRemarks}
+use Rattle.dw_study.specs.Remarks.{Remark, fails, also, leaves_open, GoesOnBy, if_any, AtAttacker, without_move}
+use Rattle.dw_study.specs.Remarks.{with_moves, AtDefender, over, without_reply, with_replies, InTurn, nothing, one_more}
+use Rattle.dw_study.specs.Remarks.{AreRemarks}
 use Rattle.dw_study.specs.Laws.{IsFault, IsWholePath}
 use Rattle.dw_study.proofs.HoldsLemmas.{same_decided, first_same, rest_same, unlike, after_more, begins, goes_on_by}
 use Rattle.dw_study.proofs.SeenLemmas.{refuted}
@@ -128,7 +128,8 @@ module _ (order : MovesInOrder) (g : Geometry) (board : IsBoard g) where
       let h = key_line n p win.0 win.1 win.2 (win_line n) list.0 list.1 in
       (win.0, h.0, h.1)
 
-  line_behind : (n : ℕ) (p : Placement) (m : Move) → IsWinning g p (suc n) m → (l : List Move) × Line g p (suc n) (m ∷ l)
+  line_behind : (n : ℕ) (p : Placement) (m : Move) → IsWinning g p (suc n) m → (l : List Move) × Line g p (suc n) (m ∷
+      l)
   line_behind n p m wins =
       let list = order.some g board (play g p m) in key_line n p m wins.0 wins.1 (win_line n) list.0 list.1
 
@@ -161,8 +162,8 @@ module _ (decided : WinsAreDecided) (order : MovesInOrder) (g : Geometry) (board
         go : (front : List Move) (last : Move) → Member (front ++ last ∷ []) tree → ⊥
         go [] last there = whole last there
         go (m ∷ front) last there =
-            whole m (begins decided order g board start tree played (length (front ++ last ∷ [])) [] m (front ++ last ∷ [])
-            (omega arith) there)
+            whole m (begins decided order g board start tree played (length (front ++ last ∷ [])) [] m (front ++ last ∷
+            []) (omega arith) there)
 
   no_ends : (n : ℕ) (p : Placement) (b : List Move) → (b ≡ []) ⊎ Member b tree → Lined (suc n) p b
       → ((m : Move) → Member (b ++ m ∷ []) tree → ⊥) → ⊥
@@ -274,8 +275,8 @@ module _ (decided : WinsAreDecided) (order : MovesInOrder) (g : Geometry) (board
       let reply = (o.exactly a.1.0).0 a.1.1 in
       let line = line_through order g board n p m a.1.0 wins reply.0 in
       let on = begins decided order g board start tree played (length line.0) (b ++ m ∷ []) a.1.0 line.0 (omega arith)
-      (subst (λ z. Member z tree) (sym (append_assoc b (m ∷ []) (a.1.0 ∷ line.0))) (full (m ∷ a.1.0 ∷ line.0) line.1)) in
-      absurd (reply.1 (reply.0, on))
+      (subst (λ z. Member z tree) (sym (append_assoc b (m ∷ []) (a.1.0 ∷ line.0))) (full (m ∷ a.1.0 ∷ line.0) line.1))
+      in absurd (reply.1 (reply.0, on))
 
   speaks : (n : ℕ) (p : Placement) (b : List Move) (rs : List Remark) → AreRemarks g tree n p b rs → Full n p b
       → (r : Remark) → Member r rs → IsFault r

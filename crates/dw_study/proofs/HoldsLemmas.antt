@@ -18,8 +18,8 @@ use Rattle.dw_solve.specs.Laws.{WinsAreDecided}
 use Rattle.dw_games.specs.Play.{after}
 use Rattle.dw_games.specs.Laws.{IsPlayed}
 use Rattle.dw_verdict.specs.Verdict.{IsWinning}
-use Rattle.dw_study.specs.Remarks.{Remark, fails, ends, GoesOnBy, IsFirstRefutation, AtAttacker, without_move, with_moves}
-use Rattle.dw_study.specs.Remarks.{AtDefender, over, without_reply, with_replies, InTurn, nothing, one_more}
+use Rattle.dw_study.specs.Remarks.{Remark, fails, ends, GoesOnBy, IsFirstRefutation, AtAttacker, without_move}
+use Rattle.dw_study.specs.Remarks.{with_moves, AtDefender, over, without_reply, with_replies, InTurn, nothing, one_more}
 use Rattle.dw_study.specs.Remarks.{also, leaves_open, if_any, AreRemarks}
 use Rattle.dw_study.specs.Laws.{IsFault}
 use Rattle.dw_study.proofs.RemarkLemmas.{last_same}
@@ -247,8 +247,8 @@ module _ (decided : WinsAreDecided) (order : MovesInOrder) (g : Geometry) (board
             (subst (λ z. Member z tree) (sym whole_path) there) (subst (IsWhole tree) (sym whole_path) whole),
       )
 
-  pub holds : (n : ℕ) (rs : List Remark) → AreRemarks g tree n start [] rs → ((r : Remark) → Member r rs → IsFault r → ⊥)
-      → (path : List Move) → Member path tree → ((m : Move) → Member (path ++ m ∷ []) tree → ⊥) → Line g start n path
+  pub holds : (n : ℕ) (rs : List Remark) → AreRemarks g tree n start [] rs → ((r : Remark) → Member r rs → IsFault r →
+      ⊥) → (path : List Move) → Member path tree → ((m : Move) → Member (path ++ m ∷ []) tree → ⊥) → Line g start n path
   holds n rs h right path there whole = leads_on n start [] rs refl h right path there whole
 
   -- ---- no remark at all
@@ -292,15 +292,17 @@ module _ (decided : WinsAreDecided) (order : MovesInOrder) (g : Geometry) (board
       let here : Silent h.here = λ x y. none x (subst (Member x) (sym h.joined) (mem_left x h.here h.later y)) in
       let won = attacker_whole p (suc n) b h.at here m (line.0, line.1) line.0 in
       let next = behind_of h.behind m won.1 in
-      let still : Silent next.0 = λ x y. none x (subst (Member x) (sym h.joined) (mem_right x h.here h.later (next.2 x y))) in
+      let still : Silent next.0 = λ x y. none x (subst (Member x) (sym h.joined) (mem_right x h.here h.later (next.2 x
+      y))) in
       let q : Placement = play g p m in
       let c : List Move = b ++ m ∷ [] in
       let to : q ≡ after g start c = ap (λ z. play g z m) at ∙ sym (after_more g start b m) in
-      let there : Silent next.1.here = λ x y. still x (subst (Member x) (sym next.1.joined) (mem_left x next.1.here next.1.later y)) in
+      let there : Silent next.1.here = λ x y. still x (subst (Member x) (sym next.1.joined) (mem_left x next.1.here
+      next.1.later y)) in
       let reply = defender_whole q c next.1.at there r line.2 in
       let deeper = behind_of next.1.behind r reply.1 in
-      let last : Silent deeper.0 = λ x y. still x (subst (Member x) (sym next.1.joined) (mem_right x next.1.here next.1.later
-      (deeper.2 x y))) in
+      let last : Silent deeper.0 = λ x y. still x (subst (Member x) (sym next.1.joined) (mem_right x next.1.here
+      next.1.later (deeper.2 x y))) in
       let whole_path : (c ++ r ∷ []) ++ l ≡ b ++ m ∷ r ∷ l =
       append_assoc c (r ∷ []) l ∙ append_assoc b (m ∷ []) (r ∷ l) in
       subst (λ z. Member z tree × IsWhole tree z) whole_path

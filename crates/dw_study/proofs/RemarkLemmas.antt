@@ -1,6 +1,6 @@
 -- The tree of a movetext has one list of remarks at most.
-use Rattle.std.proofs.Common.{◌≡◌, ℕ, zero, suc, List, [], ◌∷◌, ◌++◌, map, Some, refl, sym, ap, subst, ◌∙◌}
-use Rattle.std.proofs.Common.{inl, inr, arith}
+use Rattle.std.proofs.Common.{◌≡◌, ℕ, zero, suc, List, [], ◌∷◌, ◌++◌, map, Some, refl, sym, ap, subst, ◌∙◌, inl, inr}
+use Rattle.std.proofs.Common.{arith}
 use Rattle.std.specs.List.{slice_get}
 use Rattle.dw_board.specs.Geometry.{Geometry}
 use Rattle.dw_board.specs.Placement.{Placement}
@@ -72,7 +72,8 @@ in_turn_one : (Behind : Move → List Remark → Type 0)
 in_turn_one Behind one e nothing nothing = refl
 in_turn_one Behind one e nothing (one_more {moves = moves} m h k) = filled moves m e
 in_turn_one Behind one e (one_more {moves = moves} m h k) nothing = filled moves m (sym e)
-in_turn_one Behind one e (one_more {moves = moves} {remarks = rs} m h k) (one_more {moves = others} {remarks = ss} o i j) =
+in_turn_one Behind one e (one_more {moves = moves} {remarks = rs} m h k) (one_more {moves = others} {remarks = ss} o i
+    j) =
     let both = last_same moves others m o e in
     let before = in_turn_one Behind one both.0 h i in
     let here = one o rs ss (subst (λ z. Behind z rs) both.1 k) j in

@@ -1,6 +1,6 @@
 -- The texts of remarks, put together.
-use Rattle.std.proofs.Common.{◌≡◌, ℕ, ◌+◌, ◌/◌, List, [], ◌++◌, length, refl, ap, ◌∙◌, subst}
-use Rattle.std.proofs.Common.{codes, decimal, Option, Some, None, option_map}
+use Rattle.std.proofs.Common.{◌≡◌, ℕ, ◌+◌, ◌/◌, List, [], ◌++◌, length, refl, ap, ◌∙◌, subst, codes, decimal, Option}
+use Rattle.std.proofs.Common.{Some, None, option_map}
 use Rattle.dw_board.specs.Geometry.{Geometry}
 use Rattle.dw_board.specs.Placement.{Placement}
 use Rattle.dw_moves.specs.Moves.{Move, play}

@@ -29,11 +29,11 @@ use Rattle.dw_study.specs.declared.branch.Seen.{Seen}
 use Rattle.dw_study.specs.declared.remark.Remark as code
 use Rattle.dw_study.specs.declared.remark.Remark.TheVariants.{Fails, Also, Open, Ends}
 use Rattle.dw_study.specs.Remarks.{Remark, fails, also, leaves_open, ends, GoesOnBy, StandsBefore, IsFirstRefutation}
-use Rattle.dw_study.specs.Remarks.{if_any, AtAttacker, without_move, with_moves, AtDefender, over}
-use Rattle.dw_study.specs.Remarks.{without_reply, with_replies, InTurn, nothing, one_more}
+use Rattle.dw_study.specs.Remarks.{if_any, AtAttacker, without_move, with_moves, AtDefender, over, without_reply}
+use Rattle.dw_study.specs.Remarks.{with_replies, InTurn, nothing, one_more}
 use Rattle.dw_study.specs.Telling.{remark_in, Say}
-use Rattle.dw_study.specs.inner.Checking.{AreChildren, AreOthers, AreOtherKeys, FindsFirst, IsSorted, IsSeen}
-use Rattle.dw_study.specs.inner.Checking.{At, Behind, IsKept, left_after}
+use Rattle.dw_study.specs.inner.Checking.{AreChildren, AreOthers, AreOtherKeys, FindsFirst, IsSorted, IsSeen, At}
+use Rattle.dw_study.specs.inner.Checking.{Behind, IsKept, left_after}
 
 -- ---- the first reply that refutes
 -- the attacker wins after each of the first so many replies
@@ -431,8 +431,8 @@ module _ {B : Type 0} (g : Geometry) (p : Placement) (n : ℕ) (tree : List (Lis
   }
 
   -- some are not
-  pub defender_misses : (seen : Seen B) (replies : Vec Move Global) → AreOthers g p (map (λ c. c.mv) children) replies.items
-      → 0 < length replies.items
+  pub defender_misses : (seen : Seen B) (replies : Vec Move Global) → AreOthers g p (map (λ c. c.mv) children)
+      replies.items → 0 < length replies.items
       → 0 < length children → Lost g p n → seen.remarks.items ≡ Open node replies ∷ []
       → seen.followed.items ≡ children → IsSeen g tree false n p b seen
   defender_misses seen replies other any some lost said same_ones =

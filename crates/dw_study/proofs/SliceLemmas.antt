@@ -1,6 +1,6 @@
 -- Slices of a search, one after another.
-use Rattle.std.proofs.Common.{◌≡◌, ℕ, ◌+◌, ◌-◌, ◌*◌, ◌^◌, ◌<◌, ◌≤◌, refl, sym, subst, ap, ◌∙◌, arith}
-use Rattle.std.proofs.Common.{Bool, Result, Ok, Err, OnOk, ◌⊎◌, inl, inr, min}
+use Rattle.std.proofs.Common.{◌≡◌, ℕ, ◌+◌, ◌-◌, ◌*◌, ◌^◌, ◌<◌, ◌≤◌, refl, sym, subst, ap, ◌∙◌, arith, Bool, Result, Ok}
+use Rattle.std.proofs.Common.{Err, OnOk, ◌⊎◌, inl, inr, min}
 use Rattle.std.proofs.lemmas.Bool.{cases_Bool, cases_lt}
 use Rattle.std.proofs.lemmas.Nat.{pow_pos}
 use Rattle.std.proofs.lemmas.Grind.{pow_more}
@@ -9,13 +9,15 @@ use Rattle.dw_board.specs.Geometry.{Geometry}
 use Rattle.dw_board.specs.Placement.{Placement}
 use Rattle.dw_memo.specs.Content.{Content, SameEntries}
 use Rattle.dw_solve.specs.Facts.{IsDecided}
+use Rattle.std.specs.Result.{IsErrOf}
 use Rattle.dw_solve.specs.declared.stop.Stop.{Stop}
+use Rattle.dw_solve.specs.declared.stop.Stop.TheVariants.{Limit}
 use Rattle.dw_solve.specs.Laws.{SearchesAddUp}
 use Rattle.dw_solve.specs.Questions.{moment_of, Idle, LostNothing}
 use Rattle.dw_solve.specs.Certificates.{SaysLeast, SaysWin}
 use Rattle.dw_solve.specs.Searching.{IsCounted}
 use Rattle.dw_solve.specs.Solving.{Solving}
-use Rattle.dw_solve.specs.Work.{Moment, Searched, Stronger, LossIsCounted}
+use Rattle.dw_solve.specs.Work.{Moment, Searched, Stronger, LossIsCounted, cut_off}
 use Rattle.dw_study.specs.Slices.{SearchedInSlices, SearchedSome, GoesOn, Watches, IsWatched, of_none, of_one_more}
 use Rattle.dw_study.specs.Slices.{next_end}
 
@@ -316,3 +318,7 @@ watched_none told n first start e w = of_none
 pub watched_last : {W : Type 0} (told : W → ℕ → ℕ → W → Type 0) (n first start e f after : ℕ) (w v : W)
     → Watches told n first start e w f v → f ≤ after → IsWatched told n first start e after w v
 watched_last told n first start e f after w v before within = record { last = f; watches = before; within = within }
+
+-- a search that stops at a limit is cut off as a whole
+pub cut_all : {A : Type 0} (r : Result A Stop) (n : ℕ) → IsErrOf r Limit → cut_off r n ≡ n
+cut_all {A} r n cut = ap (λ (z : Result A Stop). cut_off z n) cut

@@ -1,6 +1,6 @@
 -- The remarks on the tree of a movetext can be told: its paths are short, and a remark stands behind a path.
-use Rattle.std.proofs.Common.{◌≡◌, ℕ, zero, suc, ◌≤◌, List, [], ◌∷◌, ◌++◌, length, map, refl, sym, ap, subst}
-use Rattle.std.proofs.Common.{◌∙◌, inl, inr, arith, length-append}
+use Rattle.std.proofs.Common.{◌≡◌, ℕ, zero, suc, ◌≤◌, List, [], ◌∷◌, ◌++◌, length, map, refl, sym, ap, subst, ◌∙◌, inl}
+use Rattle.std.proofs.Common.{inr, arith, length-append}
 use Rattle.dw_board.specs.Geometry.{Geometry}
 use Rattle.dw_board.specs.Lists.{Member}
 use Rattle.dw_board.specs.Placement.{Placement}
@@ -14,8 +14,8 @@ use Rattle.dw_verdict.specs.Verdict.{IsWinning, reach}
 use Rattle.dw_study.specs.Laws.{RemarksCanBeTold}
 use Rattle.dw_study.specs.RemarkText.{CanBeTold}
 use Rattle.dw_study.specs.Remarks.{Remark, fails, also, leaves_open, if_any, GoesOnBy, AtAttacker, AtDefender}
-use Rattle.dw_study.specs.Remarks.{without_move, with_moves, over, without_reply, with_replies, InTurn, nothing, one_more}
-use Rattle.dw_study.specs.Remarks.{AfterKey, AreRemarks}
+use Rattle.dw_study.specs.Remarks.{without_move, with_moves, over, without_reply, with_replies, InTurn, nothing}
+use Rattle.dw_study.specs.Remarks.{one_more, AfterKey, AreRemarks}
 use Rattle.dw_study.proofs.BeginningLemmas.{playable_push, reach_push}
 
 -- ---- the paths of a movetext
@@ -46,7 +46,8 @@ paths_short (variation {paths = paths} {more = more} moves last opening closing 
 distinct_from : {paths tree : List (List Move)} → AreDistinct paths tree → (path : List Move) → Member path tree
     → Member path paths
 distinct_from no_path path there = absurd there
-distinct_from (again {paths = paths} one d known) path there = mem_left path paths (one ∷ []) (distinct_from d path there)
+distinct_from (again {paths = paths} one d known) path there = mem_left path paths (one ∷ []) (distinct_from d path
+    there)
 distinct_from (first {paths = paths} {tree = tree} one d unknown) path there =
     elim (mem_cases path tree (one ∷ []) there) [
       | inl old ↦ mem_left path paths (one ∷ []) (distinct_from d path old)
@@ -159,8 +160,8 @@ module _ (g : Geometry) (start : Placement) (tree : List (List Move))
       elim (mem_cases r are.here are.later (subst (Member r) are.joined there)) [
         | inl here ↦ told_at_defender q b h are.at r here
         | inr later ↦ told_behind are.behind
-            (λ m x rs behind. told (play g q m) (b ++ m ∷ []) rs (leads_on b q m h (defender_goes q b are.at m x)) behind)
-            r later
+            (λ m x rs behind. told (play g q m) (b ++ m ∷ []) rs (leads_on b q m h (defender_goes q b are.at m x))
+            behind) r later
       ]
 
   told_all : (n : ℕ) (p : Placement) (b : List Move) (remarks : List Remark) → LeadsTo g start b p

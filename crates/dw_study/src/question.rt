@@ -8,7 +8,7 @@ ghost use Rattle.dw_study.specs.Slices.{IsWatched, SearchedSome, Went};
 ghost use Rattle.dw_study.specs.inner.Slicing.{AskedUntil};
 
 use crate::limits::{lower, raise};
-use crate::slices::{Slices, Watcher};
+use crate::slices::{Slices, Watcher, is_cut};
 use dw_board::{Board, Position};
 use dw_memo::Memo;
 use dw_solve::{Guide, Solver, Stop};
@@ -63,10 +63,11 @@ pub(crate) fn ask_resuming<
     solver.keeps_its_limit();
     'slices: loop {
         let until = slices.next_limit(solver.expanded(), solver.limit());
-        match ask_until(alloc, solver, position, moves, until, question) {
-            Err(Stop::Limit) if until < solver.limit() => slices.tell(moves, solver.expanded()),
-            answer => return answer,
+        let answer = ask_until(alloc, solver, position, moves, until, question);
+        if !is_cut(&answer, until, solver.limit()) {
+            return answer;
         }
+        slices.tell(moves, solver.expanded());
     }
 }
 

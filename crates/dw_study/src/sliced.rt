@@ -10,7 +10,7 @@ ghost use Rattle.dw_study.specs.Slices.{Began, IsWatched, SearchedSome, Went};
 ghost use Rattle.dw_study.specs.inner.Slicing.{AskedUntil};
 
 use crate::limits::{lower, raise};
-use crate::slices::{Slices, Watcher};
+use crate::slices::{Slices, Watcher, is_cut};
 use dw_board::{Board, Position};
 use dw_memo::Memo;
 use dw_solve::{Guide, Solver, Stop};
@@ -77,10 +77,11 @@ pub fn wins_resuming<B: Board, M: Memo<B>, G: Guide<B>, W: Watcher>(
     solver.keeps_its_limit();
     'slices: loop {
         let until = slices.next_limit(solver.expanded(), solver.limit());
-        match wins_until(alloc, solver, position, moves, until) {
-            Err(Stop::Limit) if until < solver.limit() => slices.tell(moves, solver.expanded()),
-            answer => return answer,
+        let answer = wins_until(alloc, solver, position, moves, until);
+        if !is_cut(&answer, until, solver.limit()) {
+            return answer;
         }
+        slices.tell(moves, solver.expanded());
     }
 }
 

@@ -1,5 +1,9 @@
 //! Searches are cut into slices, so that a program can show how far it is.
-ghost use Rattle.std.specs.Prelude.{◌≡◌, ℕ, ◌+◌, ◌-◌, ◌^◌, ◌≤◌, min, max};
+ghost use Rattle.std.specs.Prelude.{◌≡◌, ℕ, ◌+◌, ◌-◌, ◌^◌, ◌<◌, ◌≤◌, ◌↔◌, min, max, IsTrue};
+ghost use Rattle.std.specs.Result.{IsErrOf};
+ghost use Rattle.dw_solve.specs.declared.stop.Stop.TheVariants.{Limit};
+
+use dw_solve::Stop;
 
 /// Is told between two slices of a search how far it is.
 /// Example: one that keeps the two numbers shows them in a line at a terminal.
@@ -102,4 +106,11 @@ impl<W: Watcher> Slices<W> {
         self.watcher
             .watch(moves, expanded.saturating_sub(self.start));
     }
+}
+
+/// Whether a search was cut off at the end of a slice, below the solver's own limit, and so goes on in the next slice.
+pub(crate) fn is_cut<A>(answer: &Result<A, Stop>, until: u64, limit: u64) -> bool
+    ensures { IsTrue result ↔ (IsErrOf answer.now Limit × (until < limit)) }
+{
+    matches!(answer, Err(Stop::Limit)) && until < limit
 }

@@ -10,10 +10,10 @@ returns-in_err-remarks-clause-went g c =
     let n = c.args.moves in
     let less : n ≤ n = omega arith in
     let won = c.in_ok-wins.ensures in
-    went_then geo content lost n n c.args.slices.now c.wins_resuming.new.slices c.remarks_from.new.slices c.args.solver.now
-    c.wins_resuming.new.solver c.remarks_from.new.solver c.from_residual-in_err-remarks.result less
-    (went_ok geo content lost n c.args.slices.now c.wins_resuming.new.slices c.args.solver.now c.wins_resuming.new.solver
-    c.in_ok-wins.wins 0
+    went_then geo content lost n n c.args.slices.now c.wins_resuming.new.slices c.remarks_from.new.slices
+    c.args.solver.now c.wins_resuming.new.solver c.remarks_from.new.solver c.from_residual-in_err-remarks.result less
+    (went_ok geo content lost n c.args.slices.now c.wins_resuming.new.slices c.args.solver.now
+    c.wins_resuming.new.solver c.in_ok-wins.wins 0
     won.went)
     (went_stop geo content lost n c.wins_resuming.new.slices c.remarks_from.new.slices c.wins_resuming.new.solver
     c.remarks_from.new.solver c.in_err-remarks.field-0.0 c.from_residual-in_err-remarks.result
@@ -30,10 +30,10 @@ returns-clause-went g c =
     let n = c.args.moves in
     let less : n ≤ n = omega arith in
     let won = c.in_ok-wins.ensures in
-    went_then geo content lost n n c.args.slices.now c.wins_resuming.new.slices c.remarks_from.new.slices c.args.solver.now
-    c.wins_resuming.new.solver c.remarks_from.new.solver _ less
-    (went_ok geo content lost n c.args.slices.now c.wins_resuming.new.slices c.args.solver.now c.wins_resuming.new.solver
-    c.in_ok-wins.wins 0
+    went_then geo content lost n n c.args.slices.now c.wins_resuming.new.slices c.remarks_from.new.slices
+    c.args.solver.now c.wins_resuming.new.solver c.remarks_from.new.solver _ less
+    (went_ok geo content lost n c.args.slices.now c.wins_resuming.new.slices c.args.solver.now
+    c.wins_resuming.new.solver c.in_ok-wins.wins 0
     won.went)
     (went_ok geo content lost n c.wins_resuming.new.slices c.remarks_from.new.slices c.wins_resuming.new.solver
     c.remarks_from.new.solver c.in_ok-remarks.remarks _ c.in_ok-remarks.ensures.went)

@@ -21,11 +21,11 @@ returns-in_err-judged-in-Ok-clause-began g c =
     let result = c.from_residual.result in
     began_stopped geo content lost n c.args.slices.now c.judge_resuming.new.slices before after result
     c.in_err-judged-in-Ok.field-0.0 c.from_residual.ensures.1
-    (began_here geo content lost c.searches_add_up.ensures n c.args.slices.now begun c.judge_resuming.new.slices before after
-    result (ap (λ z. z.first) c.begin.ensures) (ap (λ z. z.start) c.begin.ensures ∙ c.expanded-start.ensures)
+    (began_here geo content lost c.searches_add_up.ensures n c.args.slices.now begun c.judge_resuming.new.slices before
+    after result (ap (λ z. z.first) c.begin.ensures) (ap (λ z. z.start) c.begin.ensures ∙ c.expanded-start.ensures)
     (went_wider geo content lost k n begun c.judge_resuming.new.slices before after result found.number.1
-    (went_then geo content lost k k begun looked c.judge_resuming.new.slices before c.number_within.new.solver after result
-    (omega arith) (went_looked geo content lost _ begun looked before c.number_within.new.solver k found.looks)
+    (went_then geo content lost k k begun looked c.judge_resuming.new.slices before c.number_within.new.solver after
+    result (omega arith) (went_looked geo content lost _ begun looked before c.number_within.new.solver k found.looks)
     (went_stop geo content lost k looked c.judge_resuming.new.slices c.number_within.new.solver after
     c.in_err-judged-in-Ok.field-0.0 result c.from_residual.ensures.1 c.in_err-judged-in-Ok.ensures.went))))
 
@@ -39,8 +39,8 @@ returns-in_ok-judged-in-Ok-clause-began g c =
     let looked = c.number_within.new.slices in
     let before = c.args.solver.now in
     let after = c.judge_resuming.new.solver in
-    began_here geo content lost c.searches_add_up.ensures k c.args.slices.now begun c.judge_resuming.new.slices before after _
-    (ap (λ z. z.first) c.begin.ensures) (ap (λ z. z.start) c.begin.ensures ∙ c.expanded-start.ensures)
+    began_here geo content lost c.searches_add_up.ensures k c.args.slices.now begun c.judge_resuming.new.slices before
+    after _ (ap (λ z. z.first) c.begin.ensures) (ap (λ z. z.start) c.begin.ensures ∙ c.expanded-start.ensures)
     (went_then geo content lost k k begun looked c.judge_resuming.new.slices before c.number_within.new.solver after _
     (omega arith)
     (went_looked geo content lost _ begun looked before c.number_within.new.solver k c.in-Ok.ensures.looks)

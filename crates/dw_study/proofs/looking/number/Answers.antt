@@ -29,8 +29,8 @@ moves-preserved g c =
       lost = loss_then _ _ _ now.lost here.searched.1.counted;
       says = λ kept k low high. says_more g.B.Board.geometry g.M.Memo.content g.M.Memo.dropped
           c.searches_add_up.ensures c.args.position.now c.moves.moves c.args.solver.now c.moves.solver
-          c.wins_resuming.new.solver c.in-Ok-false.field-0 c.moves.auto.moves now.lost here.searched now.says here.says kept k
-          low (omega (arith, high));
+          c.wins_resuming.new.solver c.in-Ok-false.field-0 c.moves.auto.moves now.lost here.searched now.says here.says
+          kept k low (omega (arith, high));
       first = here.went.first ∙ now.first;
       start = here.went.start ∙ now.start;
     }
@@ -40,8 +40,8 @@ returns-in-Ok-true-clause-says g c =
     let now = c.moves.invariant in
     let here = c.in-Ok-true.ensures in
     says_more g.B.Board.geometry g.M.Memo.content g.M.Memo.dropped c.searches_add_up.ensures c.args.position.now
-    c.moves.moves c.args.solver.now c.moves.solver c.wins_resuming.new.solver c.in-Ok-true.field-0 c.moves.auto.moves now.lost
-    here.searched now.says here.says
+    c.moves.moves c.args.solver.now c.moves.solver c.wins_resuming.new.solver c.in-Ok-true.field-0 c.moves.auto.moves
+    now.lost here.searched now.says here.says
 
 pub returns-clause-says : goal.returns-clause-says
 returns-clause-says g c = λ kept k low high.
@@ -93,7 +93,8 @@ returns-clause-looks g c =
       few = now.count.within;
       stop = tt;
       on = goes_on_wider g.B.Board.geometry g.M.Memo.content g.M.Memo.dropped (c.moves.moves - 1) c.args.most
-          c.args.slices.now.first c.args.slices.now.start 0 c.args.solver.now c.moves.solver (omega (arith, end)) now.on;
+          c.args.slices.now.first c.args.slices.now.start 0 c.args.solver.now c.moves.solver (omega (arith, end))
+          now.on;
       first = now.first;
       start = now.start;
     }

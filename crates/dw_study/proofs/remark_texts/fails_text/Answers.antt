@@ -5,7 +5,8 @@ use Rattle.dw_study.proofs.RemarkTextLemmas.{fails_made}
 use Rattle.dw_study.proofs.remark_texts.fails_text.Goals as goal
 
 pub returns-clause-text : goal.returns-clause-text
-returns-clause-text g c = λ p b begun. fails_made g.B.Board.geometry p c.args.beginning.now.position c.play-after.result b
+returns-clause-text g c = λ p b begun. fails_made g.B.Board.geometry p c.args.beginning.now.position c.play-after.result
+    b
     c.args.mv.now c.args.reply.now begun.line c.in_ok-first.first.bytes c.in_ok-second.second.bytes c.as_str.result.now
     c.format.result.now c.as_str-2.result.now c.as_str-3.result.now (string_bytes c.in_ok-text.text)
     begun.written (c.as_str.ensures.value ∙ begun.text) begun.position c.play-after.ensures

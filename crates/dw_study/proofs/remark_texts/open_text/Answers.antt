@@ -5,7 +5,8 @@ use Rattle.dw_study.proofs.RemarkTextLemmas.{open_made}
 use Rattle.dw_study.proofs.remark_texts.open_text.Goals as goal
 
 pub returns-clause-text : goal.returns-clause-text
-returns-clause-text g c = λ p b begun. open_made g.B.Board.geometry p c.args.beginning.now.position b c.args.replies.now begun.line
+returns-clause-text g c = λ p b begun. open_made g.B.Board.geometry p c.args.beginning.now.position b c.args.replies.now
+    begun.line
     (string_bytes c.in_ok-moves.moves) c.as_str.result.now c.as_str-2.result.now (string_bytes c.in_ok-text.text)
     begun.written (c.as_str.ensures.value ∙ begun.text) begun.position c.in_ok-moves.ensures c.as_str-2.ensures.value
     c.in_ok-text.ensures.ok

@@ -28,7 +28,8 @@ returns-in-Some-2-clause-text g c = λ r is.
     let begun = subst (λ made. IfSome made (IsBegun g.B.Board.geometry p said.0)) c.in-Some-2.is
     (c.in_ok-beginning-in-Also.ensures.begun said.0 said.1) in
     subst (λ z. IfOk c.also_text.result (λ made. IfSome made (λ text. IsRemarkText g.B.Board.geometry p z
-    (string_bytes text)))) (ap (also said.0) c.as_slice.ensures.value ∙ said.2) (c.also_text.ensures.text p said.0 begun)
+    (string_bytes text)))) (ap (also said.0) c.as_slice.ensures.value ∙ said.2) (c.also_text.ensures.text p said.0
+    begun)
 
 pub returns-in-Some-3-clause-text : goal.returns-in-Some-3-clause-text
 returns-in-Some-3-clause-text g c = λ r is.
@@ -39,7 +40,8 @@ returns-in-Some-3-clause-text g c = λ r is.
     let begun = subst (λ made. IfSome made (IsBegun g.B.Board.geometry p said.0)) c.in-Some-3.is
     (c.in_ok-beginning-in-Open.ensures.begun said.0 said.1) in
     subst (λ z. IfOk c.open_text.result (λ made. IfSome made (λ text. IsRemarkText g.B.Board.geometry p z
-    (string_bytes text)))) (ap (leaves_open said.0) c.as_slice-in-Some-3.ensures.value ∙ said.2) (c.open_text.ensures.text p said.0 begun)
+    (string_bytes text)))) (ap (leaves_open said.0) c.as_slice-in-Some-3.ensures.value ∙ said.2)
+    (c.open_text.ensures.text p said.0 begun)
 
 pub returns-in-Some-4-clause-text : goal.returns-in-Some-4-clause-text
 returns-in-Some-4-clause-text g c = λ r is.
@@ -70,7 +72,8 @@ returns-in-Some-2-clause-some g c = λ r is can.
     (subst (λ z. remark_in tree z ≡ Some r) c.in-Also.is is) in
     let begun = subst (λ made. IfSome made (IsBegun g.B.Board.geometry p said.0)) c.in-Some-2.is
     (c.in_ok-beginning-in-Also.ensures.begun said.0 said.1) in
-    c.also_text.ensures.some p said.0 begun (subst (CanBeTold g.B.Board.geometry p) (sym (ap (also said.0) c.as_slice.ensures.value ∙ said.2)) can)
+    c.also_text.ensures.some p said.0 begun (subst (CanBeTold g.B.Board.geometry p) (sym (ap (also said.0)
+    c.as_slice.ensures.value ∙ said.2)) can)
 
 pub returns-in-Some-3-clause-some : goal.returns-in-Some-3-clause-some
 returns-in-Some-3-clause-some g c = λ r is can.
@@ -80,4 +83,5 @@ returns-in-Some-3-clause-some g c = λ r is can.
     (subst (λ z. remark_in tree z ≡ Some r) c.in-Open.is is) in
     let begun = subst (λ made. IfSome made (IsBegun g.B.Board.geometry p said.0)) c.in-Some-3.is
     (c.in_ok-beginning-in-Open.ensures.begun said.0 said.1) in
-    c.open_text.ensures.some p said.0 begun (subst (CanBeTold g.B.Board.geometry p) (sym (ap (leaves_open said.0) c.as_slice-in-Some-3.ensures.value ∙ said.2)) can)
+    c.open_text.ensures.some p said.0 begun (subst (CanBeTold g.B.Board.geometry p) (sym (ap (leaves_open said.0)
+    c.as_slice-in-Some-3.ensures.value ∙ said.2)) can)

@@ -37,8 +37,8 @@ replies-preserved g c =
           (a_win geo q c.play-after.result n c.reply-item.result.step c.in_ok-wins_resuming.field-0
           (c.play-after.ensures ∙ ap (play geo q) is) here.answer c.if-not-branch.false) c.replies.invariant.won;
       went = went_then geo g.M.Memo.content g.M.Memo.dropped n n c.args.slices.now c.replies.slices
-          c.wins_resuming.new.slices c.args.solver.now c.replies.solver c.wins_resuming.new.solver answered (omega arith)
-          c.replies.invariant.went (went_ok geo g.M.Memo.content g.M.Memo.dropped n c.replies.slices
+          c.wins_resuming.new.slices c.args.solver.now c.replies.solver c.wins_resuming.new.solver answered (omega
+          arith) c.replies.invariant.went (went_ok geo g.M.Memo.content g.M.Memo.dropped n c.replies.slices
           c.wins_resuming.new.slices c.replies.solver c.wins_resuming.new.solver c.in_ok-wins_resuming.field-0 0
           here.went);
     }
@@ -73,8 +73,8 @@ returns-in_err-wins_resuming-clause-went g c =
     let n = c.args.left in
     let here = c.in_err-wins_resuming.ensures in
     went_then geo g.M.Memo.content g.M.Memo.dropped n n c.args.slices.now c.replies.slices c.wins_resuming.new.slices
-    c.args.solver.now c.replies.solver c.wins_resuming.new.solver c.from_residual-in_err-wins_resuming.result (omega arith)
-    c.replies.invariant.went
+    c.args.solver.now c.replies.solver c.wins_resuming.new.solver c.from_residual-in_err-wins_resuming.result (omega
+    arith) c.replies.invariant.went
     (went_stop geo g.M.Memo.content g.M.Memo.dropped n c.replies.slices c.wins_resuming.new.slices c.replies.solver
     c.wins_resuming.new.solver c.in_err-wins_resuming.field-0.0 c.from_residual-in_err-wins_resuming.result
     c.from_residual-in_err-wins_resuming.ensures.1

@@ -11,7 +11,8 @@ returns-then-is_empty g c = λ b there.
     (record { remarks = c.new.result; followed = c.in_ok-followed.followed }) c.in_ok-replies.replies.items
     (others_of g.B.Board.geometry c.args.spot.now.position c.as_slice.result.now c.in_ok-followed.followed.items
     c.in_ok-replies.replies.items c.as_slice.ensures.value c.in_ok-replies.ensures)
-    (none_there c.in_ok-replies.replies _ c.is_empty.ensures c.if-is_empty.true) c.requires.lost c.new.ensures.items refl
+    (none_there c.in_ok-replies.replies _ c.is_empty.ensures c.if-is_empty.true) c.requires.lost c.new.ensures.items
+    refl
 
 pub returns-then-is_empty-2 : goal.returns-then-is_empty-2
 returns-then-is_empty-2 g c = λ b there.
@@ -23,7 +24,8 @@ returns-then-is_empty-2 g c = λ b there.
     (none_there c.in_ok-followed.followed _ c.is_empty-2.ensures c.if-is_empty-2.true)
     (λ e. one_lacks g.B.Board.geometry c.args.spot.now.position c.args.spot.now.left c.args.tree.now b
     c.args.spot.now.node there c.in_ok-followed.followed.items all c.in_ok-replies.replies.items others
-    (some_there c.in_ok-replies.replies _ c.is_empty.ensures c.if-is_empty.false)) c.end.ensures.remarks c.end.ensures.followed
+    (some_there c.in_ok-replies.replies _ c.is_empty.ensures c.if-is_empty.false)) c.end.ensures.remarks
+    c.end.ensures.followed
 
 pub returns : goal.returns
 returns g c = λ b there.
@@ -32,7 +34,7 @@ returns g c = λ b there.
     (record { remarks = c.push.new.list; followed = c.in_ok-followed.followed }) c.in_ok-replies.replies
     (others_of g.B.Board.geometry c.args.spot.now.position c.as_slice.result.now c.in_ok-followed.followed.items
     c.in_ok-replies.replies.items c.as_slice.ensures.value c.in_ok-replies.ensures)
-    (some_there c.in_ok-replies.replies _ c.is_empty.ensures c.if-is_empty.false) (some_there c.in_ok-followed.followed _ c.is_empty-2.ensures c.if-is_empty-2.false)
-    c.requires.lost
-    (c.in_ok-push.ensures ∙ ap (λ z. z ++ Open c.args.spot.now.node c.in_ok-replies.replies ∷ []) c.new-remarks.ensures.items)
-    refl
+    (some_there c.in_ok-replies.replies _ c.is_empty.ensures c.if-is_empty.false) (some_there c.in_ok-followed.followed
+    _ c.is_empty-2.ensures c.if-is_empty-2.false) c.requires.lost
+    (c.in_ok-push.ensures ∙ ap (λ z. z ++ Open c.args.spot.now.node c.in_ok-replies.replies ∷ [])
+    c.new-remarks.ensures.items) refl

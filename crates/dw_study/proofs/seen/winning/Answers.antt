@@ -12,8 +12,8 @@ moves-init g c =
     let geo = g.B.Board.geometry in
     let p = c.args.spot.now.position in
     record {
-      keys = λ ascending. to_none (λ m. m) (Precedes geo p) (λ m. m) (IsWinning geo p c.args.spot.now.left) c.args.moves.now
-          c.new-keys.result.items c.new-keys.ensures.items;
+      keys = λ ascending. to_none (λ m. m) (Precedes geo p) (λ m. m) (IsWinning geo p c.args.spot.now.left)
+          c.args.moves.now c.new-keys.result.items c.new-keys.ensures.items;
       went = went_none geo g.M.Memo.content g.M.Memo.dropped c.args.spot.now.left c.args.slices.now c.args.solver.now
           c.keeps_its_limit.ensures;
     }
