@@ -48,6 +48,7 @@ CHECKS = [
     Check("pages", slow=("--count", "1000")),
     Check("certificates", slow=("--count", "1000")),
     Check("mends", slow=("--count", "100")),
+    Check("first_moves", slow=("--count", "2000")),
     Check("refused_memory"),
     Check("long_list"),
     Check("random_moves", slow=("--count", "1000000")),

@@ -13,6 +13,7 @@ use Rattle.dw_arguments.specs.declared.certify.CertifyArgs.{CertifyArgs}
 use Rattle.dw_arguments.specs.declared.check.CheckArgs.{CheckArgs}
 use Rattle.dw_arguments.specs.declared.find.FindArgs.{FindArgs}
 use Rattle.dw_arguments.specs.declared.mend.MendArgs.{MendArgs}
+use Rattle.dw_arguments.specs.declared.moves.MovesArgs.{MovesArgs}
 use Rattle.dw_arguments.specs.declared.page.PageArgs.{PageArgs}
 use Rattle.dw_arguments.specs.declared.portion.Portion.{Portion}
 use Rattle.dw_arguments.specs.declared.solution.SolutionArgs.{SolutionArgs}
@@ -59,6 +60,10 @@ pub record AsksMend (options : List Row) (asked : MendArgs) : Type 0 where
   pub each : asked.each ≡ each_given options
   pub part : part_named (text_given options (codes "part")) ≡ Some (asked.part, asked.parts)
 
+pub record AsksMoves (options : List Row) (asked : MovesArgs) : Type 0 where
+  pub n : asked.n ≡ moves_within options
+  pub part : part_named (text_given options (codes "part")) ≡ Some (asked.part, asked.parts)
+
 -- what every command asks for
 abbrev pub Reads : List Row → DeskArgs → Type 0
 Reads options args = ReadsFrom options args.board args.form args.file
@@ -98,6 +103,9 @@ IsCertify options task = (asked : CertifyArgs) × (task ≡ tasks.Certify asked)
 abbrev pub IsMend : List Row → Task → Type 0
 IsMend options task = (asked : MendArgs) × (task ≡ tasks.Mend asked) × AsksMend options asked
 
+abbrev pub IsMoves : List Row → Task → Type 0
+IsMoves options task = (asked : MovesArgs) × (task ≡ tasks.Moves asked) × AsksMoves options asked
+
 -- the line of --line; it has to be there
 abbrev pub IsToken : List Row → Task → Type 0
 IsToken options task = (line : Bor (List ℕ)) × (task ≡ tasks.Token line)
@@ -115,10 +123,10 @@ abbrev pub ForOne : (options : List Row) → (Asks : List Row → Task → Type 
 ForOne options Asks (Ok args) = Searches options args × IsOneProblem options args.portion × Asks options args.task
 ForOne options Asks (Err refusal) = ⊥
 
--- the command `mend`; it is refused if the text names no part
-abbrev pub ForPart : (options : List Row) → Result DeskArgs (Bor (List ℕ)) → Type 0
-ForPart options (Ok args) = Searches options args × IsOneProblem options args.portion × IsMend options args.task
-ForPart options (Err refusal) = part_named (text_given options (codes "part")) ≡ None
+-- a command for a part of the work on one problem; it is refused if the text names no part
+abbrev pub ForPart : (options : List Row) → (Asks : List Row → Task → Type 0) → Result DeskArgs (Bor (List ℕ)) → Type 0
+ForPart options Asks (Ok args) = Searches options args × IsOneProblem options args.portion × Asks options args.task
+ForPart options Asks (Err refusal) = part_named (text_given options (codes "part")) ≡ None
 
 -- the command `token`, which searches nothing; it is never refused
 abbrev pub ForLine : (options : List Row) → Result DeskArgs (Bor (List ℕ)) → Type 0
@@ -131,10 +139,11 @@ IsAskedBy name options answer =
     MatchBool (bytes_eq name (codes "find")) (ForPortion options IsFind answer)
     (MatchBool (bytes_eq name (codes "check")) (ForPortion options IsCheck answer)
     (MatchBool (bytes_eq name (codes "solution")) (ForPortion options IsSolution answer)
+    (MatchBool (bytes_eq name (codes "moves")) (ForPart options IsMoves answer)
     (MatchBool (bytes_eq name (codes "page")) (ForPortion options IsPage answer)
     (MatchBool (bytes_eq name (codes "certify")) (ForOne options IsCertify answer)
-    (MatchBool (bytes_eq name (codes "mend")) (ForPart options answer)
-    (MatchBool (bytes_eq name (codes "token")) (ForLine options answer) (IsErr answer)))))))
+    (MatchBool (bytes_eq name (codes "mend")) (ForPart options IsMend answer)
+    (MatchBool (bytes_eq name (codes "token")) (ForLine options answer) (IsErr answer))))))))
 
 -- what a command line asks for, by its command and the options of that
 abbrev pub IsAsked : Option (Text × List Row) → Result DeskArgs (Bor (List ℕ)) → Type 0

@@ -6,6 +6,7 @@ use crate::check::CheckArgs;
 use crate::choices::{BoardSize, MemoKind};
 use crate::find::FindArgs;
 use crate::mend::MendArgs;
+use crate::moves::MovesArgs;
 use crate::page::PageArgs;
 use crate::portion::Portion;
 use crate::solution::SolutionArgs;
@@ -21,6 +22,8 @@ pub enum Task<'a> {
     Check(CheckArgs),
     /// The problem is written as a game, with its solution.
     Solution(SolutionArgs),
+    /// What each first move of the first of the chosen problems does is written.
+    Moves(MovesArgs),
     /// The problems are put on a page.
     Page(PageArgs<'a>),
     /// The certificate of the first of the chosen problems is written.

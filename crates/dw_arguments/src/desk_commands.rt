@@ -1,8 +1,8 @@
 //! The commands of `dw-desk`, and how what is asked for with one is read.
 ghost use Rattle.std.specs.Prelude.{◌≡◌};
 ghost use Rattle.clap.specs.Words.{subcommand_rows_of};
-ghost use Rattle.dw_arguments.specs.DeskCommands.{ForPart, ForPortion, IsAsked, IsAskedBy, IsOneProblem, IsToken};
-ghost use Rattle.dw_arguments.specs.DeskCommands.{Reads, Searches};
+ghost use Rattle.dw_arguments.specs.DeskCommands.{ForPart, ForPortion, IsAsked, IsAskedBy, IsMend, IsMoves};
+ghost use Rattle.dw_arguments.specs.DeskCommands.{IsOneProblem, IsToken, Reads, Searches};
 ghost use Rattle.dw_arguments.specs.Options.{options_of};
 
 use crate::certify::{CertifyArgs, certify_command};
@@ -12,9 +12,11 @@ use crate::desk::{DeskArgs, Task};
 use crate::desk_options::USUALLY_KEPT;
 use crate::error::CliError;
 use crate::find::{FindArgs, find_command};
-use crate::mend::{MendArgs, NO_PART, mend_command};
+use crate::mend::{MendArgs, mend_command};
+use crate::moves::{MovesArgs, moves_command};
 use crate::options::{FEWEST_KEPT, VERSION, flag_given, form_given, kept_given, text_given};
 use crate::page::{PageArgs, page_command};
+use crate::part::NO_PART;
 use crate::portion::{NO_PORTION, Portion};
 use crate::solution::{SolutionArgs, solution_command};
 use crate::token::token_command;
@@ -50,6 +52,7 @@ pub fn command<'a>(alloc: Global) -> Result<Command<'a>, AllocError> {
     let find = find_command(alloc)?;
     let check = check_command(alloc)?;
     let solution = solution_command(alloc)?;
+    let moves = moves_command(alloc)?;
     let page = page_command(alloc)?;
     let certify = certify_command(alloc)?;
     let mend = mend_command(alloc)?;
@@ -64,6 +67,7 @@ pub fn command<'a>(alloc: Global) -> Result<Command<'a>, AllocError> {
         .subcommand(find)?
         .subcommand(check)?
         .subcommand(solution)?
+        .subcommand(moves)?
         .subcommand(page)?
         .subcommand(certify)?
         .subcommand(mend)?
@@ -116,9 +120,10 @@ fn asked_by<'a>(name: &str, matches: &ArgMatches<'a>) -> Result<DeskArgs<'a>, &'
         "find" => for_portion(matches, Task::Find(FindArgs::new(matches))),
         "check" => for_portion(matches, Task::Check(CheckArgs::new(matches))),
         "solution" => for_portion(matches, Task::Solution(SolutionArgs::new(matches))),
+        "moves" => for_moves(matches),
         "page" => for_portion(matches, Task::Page(PageArgs::new(matches))),
         "certify" => Ok(for_one(matches, Task::Certify(CertifyArgs::new(matches)))),
-        "mend" => for_part(matches),
+        "mend" => for_mend(matches),
         "token" => Ok(for_line(matches)),
         _ => Err(NO_COMMAND),
     }
@@ -143,9 +148,19 @@ fn for_one<'a>(matches: &ArgMatches<'a>, task: Task<'a>) -> DeskArgs<'a>
     searched(matches, task, Portion::of_one(matches))
 }
 
+/// What the command `moves` asks for.
+fn for_moves<'a>(matches: &ArgMatches<'a>) -> Result<DeskArgs<'a>, &'static str>
+    ensures { ForPart (options_of matches.now) IsMoves result }
+{
+    match MovesArgs::new(matches) {
+        Some(asked) => Ok(for_one(matches, Task::Moves(asked))),
+        None => Err(NO_PART),
+    }
+}
+
 /// What the command `mend` asks for.
-fn for_part<'a>(matches: &ArgMatches<'a>) -> Result<DeskArgs<'a>, &'static str>
-    ensures { ForPart (options_of matches.now) result }
+fn for_mend<'a>(matches: &ArgMatches<'a>) -> Result<DeskArgs<'a>, &'static str>
+    ensures { ForPart (options_of matches.now) IsMend result }
 {
     match MendArgs::new(matches) {
         Some(asked) => Ok(for_one(matches, Task::Mend(asked))),

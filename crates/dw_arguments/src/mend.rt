@@ -1,16 +1,14 @@
 //! The arguments of the command `mend`.
-ghost use Rattle.std.specs.Prelude.{◌≡◌, ◌≤◌, IfSome, Some, None, codes};
-ghost use Rattle.std.specs.Option.{option_copied};
+ghost use Rattle.std.specs.Prelude.{◌≡◌, ◌≤◌, IfSome, None, codes};
 ghost use Rattle.std.proofs.Props.{props};
 ghost use Rattle.dw_arguments.specs.Numbers.{part_named};
 
 use crate::desk_options::{CACHE_HELP, moves_of, progress};
 use crate::options::{
-    board, cache, file, memo, number_within, one_problem, option, pdn, positions, positions_given,
-    text_given, within,
+    board, cache, file, memo, one_problem, pdn, positions, positions_given, within,
 };
-use clap::builder::ValueParser;
-use clap::{Arg, ArgMatches, Command};
+use crate::part::{part, part_given};
+use clap::{ArgMatches, Command};
 use std::alloc::{AllocError, Global};
 
 /// What the command `mend` is asked for.
@@ -21,9 +19,9 @@ pub struct MendArgs {
     pub n: u8,
     /// How many positions may be expanded for each neighbour, `FEWEST_POSITIONS` to `MOST_POSITIONS`.
     pub each: Option<u64>,
-    /// Which part of the neighbours is looked at, from `FIRST_PART` to `parts`.
+    /// Which part of the neighbours is looked at, from 1 to `parts`.
     pub part: u32,
-    /// How many parts there are, at most `MOST_PARTS`.
+    /// How many parts there are, at most 1,000,000.
     pub parts: u32,
     pub ghost some_moves: { 1 ≤ n },
     pub ghost few_moves: { n ≤ 20 },
@@ -33,19 +31,6 @@ pub struct MendArgs {
     pub ghost among_parts: { part ≤ parts },
     pub ghost few_parts: { parts ≤ 1_000_000 },
 }
-
-/// The number of the first part.
-const FIRST_PART: u32 = 1;
-
-/// The most parts of the neighbours.
-const MOST_PARTS: u32 = 1_000_000;
-
-/// What is said of a part that is none.
-pub(crate) const NO_PART: &str = "\
-error: invalid value for '--part <I/M>': M is 1 to 1000000, and I is 1 to M
-
-For more information, try '--help'.
-";
 
 const ABOUT: &str = "Finds the sound problems that are one change away from a problem.";
 
@@ -82,11 +67,6 @@ pub(crate) fn mend_command<'a>(alloc: Global) -> Result<Command<'a>, AllocError>
         .args(arguments)
 }
 
-fn part<'a>(alloc: Global) -> Arg<'a> {
-    let help = "Look at the part I of M alone, I is 1 to M, M is 1 to 1000000 [default: 1/1]";
-    option(alloc, "part", "I/M", ValueParser::string(), help)
-}
-
 impl MendArgs {
     ghost use Rattle.dw_arguments.specs.DeskCommands.{AsksMend};
     ghost use Rattle.dw_arguments.specs.Options.{options_of, text_given};
@@ -96,7 +76,7 @@ impl MendArgs {
         ensures asks { IfSome result (λ asked. AsksMend (options_of matches.now) asked) }
         ensures none { result ≡ None → part_named (text_given (options_of matches.now) (codes "part")) ≡ None }
     {
-        let (part, parts) = part_named(text_given(matches, "part"))?;
+        let (part, parts) = part_given(matches)?;
         Some(MendArgs {
             n: moves_of(matches),
             each: positions_given(matches, "each"),
@@ -104,30 +84,4 @@ impl MendArgs {
             parts,
         })
     }
-}
-
-/// The part that a text names, and of how many: `I/M`; the only one, if there is no text.
-fn part_named(text: Option<&str>) -> Option<(u32, u32)>
-    ensures value { result ≡ part_named (option_copied text.entry) }
-    ensures some { IfSome result (λ named. 1 ≤ named.0) }
-    ensures among { IfSome result (λ named. named.0 ≤ named.1) }
-    ensures few { IfSome result (λ named. named.1 ≤ 1_000_000) }
-{
-    match text {
-        Some(text) => part_in(text),
-        None => Some((FIRST_PART, FIRST_PART)),
-    }
-}
-
-/// The part that a text names, and of how many.
-fn part_in(text: &str) -> Option<(u32, u32)>
-    ensures value { result ≡ part_named (Some text.now) }
-    ensures some { IfSome result (λ named. 1 ≤ named.0) }
-    ensures among { IfSome result (λ named. named.0 ≤ named.1) }
-    ensures few { IfSome result (λ named. named.1 ≤ 1_000_000) }
-{
-    let (part, parts) = text.split_once('/')?;
-    let parts = number_within(parts, FIRST_PART, MOST_PARTS)?;
-    let part = number_within(part, FIRST_PART, parts)?;
-    Some((part, parts))
 }

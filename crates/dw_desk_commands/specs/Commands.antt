@@ -8,6 +8,7 @@ use Rattle.dw_desk_commands.specs.Chosen.{AreChosenOf}
 use Rattle.dw_desk_commands.specs.Ending.{ending_after}
 use Rattle.dw_desk_commands.specs.Finding.{IsFindOf}
 use Rattle.dw_desk_commands.specs.Mending.{IsMendOf}
+use Rattle.dw_desk_commands.specs.Moving.{IsMovesOf}
 use Rattle.dw_desk_commands.specs.Paging.{IsPageOf}
 use Rattle.dw_desk_commands.specs.ProblemText.{IsReportOnAll, IsReportOnOne}
 use Rattle.dw_desk_commands.specs.Solving.{IsGameOf}
@@ -41,6 +42,8 @@ Tells g portion (task.Page asked) games ending text =
     × (ending ≡ ending_after counts.shown counts.refused portion)
 Tells g portion (task.Certify asked) games ending text =
     IsReportOnOne (λ game. IsCertifyOf g asked.n (problem_of game)) portion.first games ending text
+Tells g portion (task.Moves asked) games ending text =
+    IsReportOnOne (λ game. IsMovesOf g asked.n asked.part asked.parts (problem_of game)) portion.first games ending text
 Tells g portion (task.Mend asked) games ending text =
     (expanded : ℕ) × IsReportOnOne (λ game. IsMendOf g asked.n asked.each asked.part asked.parts expanded
     (problem_of game)) portion.first games ending text

@@ -7,6 +7,7 @@ pub mod Finding
 pub mod FindingJson
 pub mod Json
 pub mod Mending
+pub mod Moving
 pub mod Paging
 pub mod ProblemText
 pub mod Solving

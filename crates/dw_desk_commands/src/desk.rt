@@ -256,6 +256,9 @@ fn do_with<'a, B: Board, W: DeskWatcher, S: Source, K: Sink>(
         Task::Certify(asked) => {
             return report_first::<&'a str, _, _, _, _, _>(&asked, desk, slices, chosen, sink);
         }
+        Task::Moves(asked) => {
+            return report_first::<&'a str, _, _, _, _, _>(&asked, desk, slices, chosen, sink);
+        }
         Task::Mend(asked) => {
             return report_first::<&'a str, _, _, _, _, _>(&asked, desk, slices, chosen, sink);
         }

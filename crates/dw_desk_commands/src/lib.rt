@@ -11,6 +11,7 @@ pub mod desk;
 mod finding;
 mod json_rows;
 mod mending;
+mod moving;
 mod page_rows;
 mod paging;
 mod reporting;

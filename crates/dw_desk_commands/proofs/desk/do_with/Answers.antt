@@ -3,6 +3,7 @@ use Rattle.std.specs.Io.KnownBytes.{Appends}
 use Rattle.dw_desk_commands.specs.Certifying.{IsCertifyOf}
 use Rattle.dw_desk_commands.specs.Commands.{DoesIt, Tells, form_for}
 use Rattle.dw_desk_commands.specs.Mending.{IsMendOf}
+use Rattle.dw_desk_commands.specs.Moving.{IsMovesOf}
 use Rattle.dw_desk_commands.specs.inner.NextGame.{IsNext, as_list}
 use Rattle.dw_desk_commands.specs.Paging.{IsPageOf}
 use Rattle.dw_desk_commands.specs.ProblemText.{IsReportOnOne}
@@ -53,6 +54,30 @@ returns-in-Certify-clause-does g c =
     fresh.all fresh.known told
     (λ games text one. subst (λ t. Tells geo words.portion t games ending text) (sym c.in-Certify.is) one))
     c.report_first.ensures.report
+
+pub returns-in-Moves-clause-does : goal.returns-in-Moves-clause-does
+returns-in-Moves-clause-does g c =
+    let geo = g.B.Board.geometry in
+    let source = g.S.Source in
+    let words = c.args.args.now in
+    let chosen = c.args.chosen.now in
+    let fresh = c.requires.fresh in
+    let after = c.report_first-in-Moves.new.chosen in
+    let before_text = g.K.Sink.taken c.args.sink.now in
+    let after_text = g.K.Sink.taken c.report_first-in-Moves.new.sink in
+    let One = λ (game : NumberedGame). IsMovesOf geo c.in-Moves.asked.n c.in-Moves.asked.part c.in-Moves.asked.parts
+    (problem_of game) in
+    ok_so (λ ending. (next : Option NumberedGame) × (text : List ℕ)
+    × IsNext geo source.coming source.has_ended chosen after next
+    × IsReportOnOne One chosen.portion.first (as_list next) ending text × Appends before_text after_text text)
+    (DoesIt geo words (source.coming (source_of chosen.text)) before_text after_text) c.report_first-in-Moves.result
+    (λ ending told. does_one {Known = IsKnown source.coming source.has_ended chosen} geo words (form_for words.task words.form)
+    (source.coming (source_of chosen.text)) before_text after_text One
+    (AreToCome geo source.coming source.has_ended chosen) (AreToCome geo source.coming source.has_ended after)
+    chosen.portion.first ending refl (ap (λ z. z.first) fresh.portion)
+    fresh.all fresh.known told
+    (λ games text one. subst (λ t. Tells geo words.portion t games ending text) (sym c.in-Moves.is) one))
+    c.report_first-in-Moves.ensures.report
 
 pub returns-in-Mend-clause-does : goal.returns-in-Mend-clause-does
 returns-in-Mend-clause-does g c =

@@ -1,0 +1,129 @@
+#!/usr/bin/env python3
+"""first_moves.py: compares what `dw-desk moves` says with a recursion over all moves on a generator of its own.
+
+    checks/first_moves.py [--count POSITIONS]
+
+For so many random small positions (150 on each board if not said), within 1, 2 or 3 moves, the recursion of judging.py
+tells of each legal move the least number of moves with which it wins, or all replies that refute it. The lines have to
+be the same, in the same order, with the same count, whatever memo is taken. So have those of each part; the parts put
+together are the whole, and the moves that win are the keys of `dw judge`. At last come the worked position, and the
+faults of the command.
+"""
+import pathlib
+import random
+import subprocess
+
+from draughts import Board, fen, other
+from judging import Problems, TooMany, count_asked
+from wins import drawn
+
+TOP = pathlib.Path(__file__).resolve().parent.parent
+DW, DESK = TOP / "dw", TOP / "dw-desk"
+SEED, MOST, MOST_PARTS = 61, 3, 4
+ROW = "W:W27,32:B18\n"
+MEMOS = [[], ["--memo", "none"], ["--memo", "lru", "--cache", "20"], ["--memo", "slots", "--cache", "50"]]
+
+
+def run(program, words, text, status=0, complaint=""):
+    ran = subprocess.run([program, *words], input=text, capture_output=True, text=True, timeout=600, check=False)
+    assert (ran.returncode, ran.stderr) == (status, complaint), (words, text, ran)
+    return ran.stdout
+
+
+def effects(problems, cells, turn, n):
+    """Each legal move with the number of moves in which it wins, or with the replies that refute it, as texts."""
+    found = []
+    for move, after in problems.after(cells, turn):
+        name = problems.text(cells, turn, move)
+        least = next((k for k in range(1, n + 1) if problems.loses(after, other(turn), k - 1)), None)
+        replies = [problems.text(after, other(turn), reply) for reply, then in problems.after(after, other(turn))
+                   if not problems.wins(then, turn, n - 1)]
+        assert (least is None) == bool(replies), (fen(cells, turn), n, name)
+        found.append((name, after, least, replies))
+    return found
+
+
+def lines_of(found):
+    return [f"{name} refuted by {', '.join(replies)}" if least is None else f"{name} wins in {least}"
+            for name, _, least, replies in found]
+
+
+def count_line(found):
+    return f"{sum(least is not None for _, _, least, _ in found)} of {len(found)} win"
+
+
+def part_of(all_of_them, part, parts):
+    return [one for place, one in enumerate(all_of_them, 1) if place % parts == part % parts]
+
+
+def report(first, found):
+    return "".join(line + "\n" for line in [first, *lines_of(found), count_line(found)])
+
+
+def check_random(rows, count):
+    source, board = random.Random(SEED + rows), Board(rows)
+    told = winning = 0
+    for place in range(count):
+        while True:
+            cells, turn, n = drawn(source, board), source.choice("WB"), source.randint(1, MOST)
+            problems = Problems(board)
+            try:
+                found = effects(problems, cells, turn, n)
+            except TooMany:
+                continue
+            break
+        words = ["-n", str(n), "--board", str(rows)]
+        position = fen(cells, turn)
+        text, first = position + "\n", f"problem 1: {position}"
+        wanted = report(first, found)
+        written = run(DESK, ["moves", *words, *MEMOS[place % len(MEMOS)]], text)
+        assert written == wanted, (position, n, written, wanted)
+        parts = source.randint(2, MOST_PARTS)
+        pieces = []
+        for part in range(1, parts + 1):
+            some = part_of(found, part, parts)
+            written = run(DESK, ["moves", *words, "--part", f"{part}/{parts}"], text)
+            assert written == report(first, some), (position, n, part, parts, written)
+            pieces.append(written.splitlines()[1:-1])
+        joined = [pieces[at % parts][at // parts] for at in range(len(found))]
+        assert joined == lines_of(found), (position, n, parts, joined)
+        verdict = run(DW, ["judge", *words], text).splitlines()[1]
+        keys = [name for name, _, least, _ in found if least is not None]
+        kind = verdict.split()[0]
+        assert (kind == "unsolvable") == (not keys), (position, n, verdict, keys)
+        if kind in ("cooked", "sound"):
+            assert verdict.split(": ")[1].split(", ") == keys, (position, n, verdict, keys)
+        told, winning = told + len(found), winning + len(keys)
+    print(f"{rows} rows: {told} first moves of {count} positions, {winning} of them winning, whole and in parts",
+          flush=True)
+
+
+def check_rows():
+    assert run(DESK, ["moves", "-n", "2"], ROW) == (
+        "problem 1: W:W27,32:B18\n27-21 refuted by 18-22, 18-23\n27-22 refuted by 18x38\n32-28 wins in 2\n1 of 3 win\n")
+    assert run(DESK, ["moves", "-n", "2", "--part", "2/2"], ROW) == (
+        "problem 1: W:W27,32:B18\n27-22 refuted by 18x38\n0 of 1 win\n")
+    assert run(DESK, ["moves", "-n", "1", "--part", "9/9"], ROW) == "problem 1: W:W27,32:B18\n0 of 0 win\n"
+    assert run(DESK, ["moves", "-n", "1"], "W:W:B18\n") == "problem 1: W:W:B18\n0 of 0 win\n"
+    assert run(DESK, ["moves", "-n", "2", "--problem", "2"], ROW + "W:W3:B20\n", 1) == (
+        "problem 2: refused: 1 fen: 7 last row at 4\n")
+    assert run(DESK, ["moves", "-n", "2", "--pdn"], '[FEN "W:W32:B28"]\n') == (
+        "problem 1: W:W32:B28\n32x23 wins in 1\n1 of 1 win\n")
+    run(DESK, ["moves", "-n", "2", "--problem", "3"], ROW, 1, "dw-desk: no problem 3\n")
+    for words in ([], ["-n", "0"], ["-n", "21"], ["-n", "2", "--part", "3/2"], ["-n", "2", "--part", "0/2"],
+                  ["-n", "2", "--part", "1"], ["-n", "2", "--part", "1/1000001"], ["-n", "2", "--problem", "1-2"],
+                  ["-n", "2", "--each", "5"], ["-n", "2", "--most", "3"]):
+        ran = subprocess.run([DESK, "moves", *words], input=ROW.encode(), capture_output=True, timeout=600, check=False)
+        assert (ran.returncode, ran.stdout) == (2, b"") and ran.stderr.startswith(b"error: "), (words, ran)
+    print("the worked position, and the faults of the command", flush=True)
+
+
+def main():
+    count = count_asked(150)
+    check_rows()
+    for rows in (10, 8):
+        check_random(rows, count)
+
+
+if __name__ == "__main__":
+    main()

@@ -1,0 +1,76 @@
+//! The arguments of the command `moves`.
+ghost use Rattle.std.specs.Prelude.{◌≡◌, ◌≤◌, IfSome, None, codes};
+ghost use Rattle.dw_arguments.specs.Numbers.{part_named};
+
+use crate::desk_options::{CACHE_HELP, moves_of, progress};
+use crate::options::{board, cache, file, memo, one_problem, pdn, within};
+use crate::part::{part, part_given};
+use clap::{ArgMatches, Command};
+use std::alloc::{AllocError, Global};
+
+/// What the command `moves` is asked for.
+/// Example: `-n 3 --part 1/4` asks for the first of four parts of the moves, in 3 moves.
+#[derive(Clone, Copy)]
+pub struct MovesArgs {
+    /// The number of moves within which the win is, `FEWEST_MOVES` to `MOST_MOVES`.
+    pub n: u8,
+    /// Which part of the moves is looked at, from 1 to `parts`.
+    pub part: u32,
+    /// How many parts there are, at most 1,000,000.
+    pub parts: u32,
+    pub ghost some_moves: { 1 ≤ n },
+    pub ghost few_moves: { n ≤ 20 },
+    pub ghost some_part: { 1 ≤ part },
+    pub ghost among_parts: { part ≤ parts },
+    pub ghost few_parts: { parts ≤ 1_000_000 },
+}
+
+const ABOUT: &str =
+    "Tells what each first move of a problem does: how soon it wins, or what refutes it.";
+
+const EXAMPLES: &str = "\
+Each legal move stands in a line: with the least number of moves up to N in which it wins, or with
+all replies after which it does not. The last line says how many of the moves win. With --part
+several runs share the work on a problem that takes long.
+
+Examples:
+  echo W:W27,32:B18 | dw-desk moves -n 2
+  dw-desk moves -n 2 --problem 3 --part 1/4 examples/problems.fen";
+
+/// The command with its arguments.
+pub(crate) fn moves_command<'a>(alloc: Global) -> Result<Command<'a>, AllocError> {
+    let help = "Look for a win in N moves of the side to move, 1 to 20";
+    let arguments = vec![in alloc;
+        board(alloc),
+        pdn(alloc),
+        one_problem(alloc, "Look at the problem I, 1 to 1000000 [default: 1]"),
+        file(alloc),
+        within(alloc, help).required(true),
+        part(alloc),
+        memo(alloc, "deep"),
+        cache(alloc, CACHE_HELP),
+        progress(alloc),
+    ]?;
+    Command::new(alloc, "moves")
+        .about(ABOUT)
+        .after_help(EXAMPLES)
+        .args(arguments)
+}
+
+impl MovesArgs {
+    ghost use Rattle.dw_arguments.specs.DeskCommands.{AsksMoves};
+    ghost use Rattle.dw_arguments.specs.Options.{options_of, text_given};
+
+    /// What the options ask for; none, if the part is none.
+    pub(crate) fn new(matches: &ArgMatches<'_>) -> Option<Self>
+        ensures asks { IfSome result (λ asked. AsksMoves (options_of matches.now) asked) }
+        ensures none { result ≡ None → part_named (text_given (options_of matches.now) (codes "part")) ≡ None }
+    {
+        let (part, parts) = part_given(matches)?;
+        Some(MovesArgs {
+            n: moves_of(matches),
+            part,
+            parts,
+        })
+    }
+}

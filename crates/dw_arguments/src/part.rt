@@ -1,0 +1,66 @@
+//! The option `--part`: which part of the work is done, and of how many.
+ghost use Rattle.std.specs.Prelude.{◌≡◌, ◌≤◌, IfSome, Some, None, codes};
+ghost use Rattle.std.specs.Option.{option_copied};
+ghost use Rattle.dw_arguments.specs.Numbers.{part_named};
+ghost use Rattle.dw_arguments.specs.Options.{options_of};
+ghost use Rattle.dw_arguments.specs.Options as of;
+
+use crate::options::{number_within, option, text_given};
+use clap::builder::ValueParser;
+use clap::{Arg, ArgMatches};
+use std::alloc::Global;
+
+/// The number of the first part.
+const FIRST_PART: u32 = 1;
+
+/// The most parts.
+const MOST_PARTS: u32 = 1_000_000;
+
+/// What is said of a part that is none.
+pub(crate) const NO_PART: &str = "\
+error: invalid value for '--part <I/M>': M is 1 to 1000000, and I is 1 to M
+
+For more information, try '--help'.
+";
+
+/// `--part`, the only one if it is not given.
+pub(crate) fn part<'a>(alloc: Global) -> Arg<'a> {
+    let help = "Look at the part I of M alone, I is 1 to M, M is 1 to 1000000 [default: 1/1]";
+    option(alloc, "part", "I/M", ValueParser::string(), help)
+}
+
+/// The part of `--part`, and of how many; none, if the text is no part.
+pub(crate) fn part_given(matches: &ArgMatches<'_>) -> Option<(u32, u32)>
+    ensures value { result ≡ part_named (of.text_given (options_of matches.now) (codes "part")) }
+    ensures some { IfSome result (λ named. 1 ≤ named.0) }
+    ensures among { IfSome result (λ named. named.0 ≤ named.1) }
+    ensures few { IfSome result (λ named. named.1 ≤ 1_000_000) }
+{
+    part_named(text_given(matches, "part"))
+}
+
+/// The part that a text names, and of how many: `I/M`; the only one, if there is no text.
+fn part_named(text: Option<&str>) -> Option<(u32, u32)>
+    ensures value { result ≡ part_named (option_copied text.entry) }
+    ensures some { IfSome result (λ named. 1 ≤ named.0) }
+    ensures among { IfSome result (λ named. named.0 ≤ named.1) }
+    ensures few { IfSome result (λ named. named.1 ≤ 1_000_000) }
+{
+    match text {
+        Some(text) => part_in(text),
+        None => Some((FIRST_PART, FIRST_PART)),
+    }
+}
+
+/// The part that a text names, and of how many.
+fn part_in(text: &str) -> Option<(u32, u32)>
+    ensures value { result ≡ part_named (Some text.now) }
+    ensures some { IfSome result (λ named. 1 ≤ named.0) }
+    ensures among { IfSome result (λ named. named.0 ≤ named.1) }
+    ensures few { IfSome result (λ named. named.1 ≤ 1_000_000) }
+{
+    let (part, parts) = text.split_once('/')?;
+    let parts = number_within(parts, FIRST_PART, MOST_PARTS)?;
+    let part = number_within(part, FIRST_PART, parts)?;
+    Some((part, parts))
+}

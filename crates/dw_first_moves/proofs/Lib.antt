@@ -1,0 +1,3 @@
+pub mod EffectLemmas
+pub mod TextLemmas
+pub mod LawLemmas

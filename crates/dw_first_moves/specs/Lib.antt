@@ -1,0 +1,4 @@
+pub mod FirstMoves
+pub mod FirstMovesText
+pub mod Telling
+pub mod Laws

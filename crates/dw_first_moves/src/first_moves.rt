@@ -1,0 +1,95 @@
+//! What each first move does, searched for in slices.
+ghost use Rattle.std.specs.Prelude.{◌≡◌, ◌≤◌, IfOk, IsErrOf, map};
+ghost use Rattle.dw_board.specs.Lists.{Member};
+ghost use Rattle.dw_memo.specs.Content.{IsMap};
+ghost use Rattle.dw_moves.specs.Moves.{Legal};
+ghost use Rattle.dw_moves.specs.Moves as of;
+ghost use Rattle.dw_moves.specs.Order.{IsListOf, Precedes};
+ghost use Rattle.dw_solve.specs.Facts.{AreTrue};
+ghost use Rattle.dw_solve.specs.Searching.{IsCounted};
+ghost use Rattle.dw_solve.specs.declared.stop.Stop.TheVariants.{Limit};
+ghost use Rattle.dw_first_moves.specs.FirstMoves.{AreEffects, AreFirstMoves};
+ghost use Rattle.dw_first_moves.specs.Telling.{told_by};
+
+use crate::effects::{effect_of, push};
+use crate::first_move::FirstMove;
+use dw_board::{Board, Position};
+use dw_memo::Memo;
+use dw_moves::Move;
+use dw_moves::listed::listed;
+use dw_parts::{Part, part_of};
+use dw_solve::{Guide, Solver, Stop};
+use dw_study::{Slices, Watcher};
+use std::alloc::{AllocError, Global};
+
+/// What each legal move of a part of them does within so many moves of the side to move, 1 to 20, in the order of
+/// moves: the least number of moves within which it wins, or all replies after which there is no win within the moves
+/// then left. The slices begin anew; no answer depends on them. After a stop all bounds in the memo are right, and the
+/// call can be made again.
+/// Example: at `W:W27,32:B18`, within 2 moves, `27-21` is refuted by `18-22` and `18-23`, `27-22` by `18x38`, and
+/// `32-28` wins in 2. The part 2 of 2 has `27-22` alone.
+pub fn first_moves<B: Board, M: Memo<B>, G: Guide<B>, W: Watcher>(
+    alloc: Global,
+    solver: &mut Solver<B, M, G>,
+    position: &Position<B>,
+    moves: u8,
+    part: Part,
+    slices: &mut Slices<W>,
+) -> Result<Vec<FirstMove<B>>, Stop>
+    requires some { 1 ≤ moves }
+    requires few { moves ≤ 20 }
+    ensures done { IfOk result (λ done. AreFirstMoves B.geometry position.now moves part.number part.parts
+        (map told_by done.items)) }
+    ensures count { IsCounted solver.old.expanded solver.old.limit solver.new.expanded solver.new.limit }
+    ensures stop { IsErrOf result Limit → solver.new.expanded ≡ solver.new.limit }
+    ensures right { AreTrue B.geometry (M.content solver.new.memo) }
+    ensures map { IsMap (M.content solver.new.memo) }
+{
+    solver.keeps_its_limit();
+    solver.keeps_its_facts();
+    slices.begin(solver.expanded());
+    let all = all_moves(alloc, position)?;
+    let some = part_of(alloc, all.as_slice(), part)?;
+    effects_of(alloc, solver, position, some.as_slice(), moves, slices)
+}
+
+/// All legal moves, in order.
+fn all_moves<B: Board>(alloc: Global, position: &Position<B>) -> Result<Vec<Move<B>>, AllocError>
+    ensures { IfOk result (λ moves. IsListOf (Precedes B.geometry position.now) (Legal B.geometry position.now)
+        moves.items) }
+{
+    let list = listed(alloc, position)?;
+    let mut moves = Vec::new(alloc);
+    'list: for item in list.as_slice() {
+        moves.push(item.step)?;
+    }
+    Ok(moves)
+}
+
+/// What each of some legal moves does, in their order.
+fn effects_of<B: Board, M: Memo<B>, G: Guide<B>, W: Watcher>(
+    alloc: Global,
+    solver: &mut Solver<B, M, G>,
+    position: &Position<B>,
+    some: &[Move<B>],
+    moves: u8,
+    slices: &mut Slices<W>,
+) -> Result<Vec<FirstMove<B>>, Stop>
+    requires legal { (m : of.Move) → Member m some.now → Legal B.geometry position.now m }
+    requires some { 1 ≤ moves }
+    requires few { moves ≤ 20 }
+    ensures done { IfOk result (λ done. AreEffects B.geometry position.now moves some.now (map told_by done.items)) }
+    ensures count { IsCounted solver.old.expanded solver.old.limit solver.new.expanded solver.new.limit }
+    ensures stop { IsErrOf result Limit → solver.new.expanded ≡ solver.new.limit }
+    ensures right { AreTrue B.geometry (M.content solver.new.memo) }
+    ensures map { IsMap (M.content solver.new.memo) }
+{
+    solver.keeps_its_limit();
+    solver.keeps_its_facts();
+    let mut done = Vec::new(alloc);
+    'some: for mv in some {
+        let effect = effect_of(alloc, solver, position, mv, moves, slices)?;
+        push(&mut done, FirstMove { mv: *mv, effect })?;
+    }
+    Ok(done)
+}
