@@ -1,0 +1,3 @@
+pub mod Arguments
+pub mod Room
+pub mod Answers
