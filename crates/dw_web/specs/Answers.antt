@@ -70,7 +70,7 @@ abbrev pub Desks : DeskArgs → (input : List ℕ) → (before after : Option (L
     → Ending (Bor (List ℕ)) → Type 0
 Desks args input before after full ending =
     RunsUnlessFile (Obeys (board_of args.board) args (Some input) before after ending × FailsForCause full ending)
-        args.file before after ending
+    args.file before after ending
 
 -- `dw-desk` with arguments that were read
 abbrev pub DoesDesk : (input : List ℕ) → (before after : Option (List ℕ)) → (full : Bool) → Ending (Bor (List ℕ))

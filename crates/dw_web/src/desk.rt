@@ -5,14 +5,13 @@ ghost use Rattle.dw_commands.specs.declared.ending.Ending.{Ending as AnyEnding};
 ghost use Rattle.dw_desk_commands.specs.Commands.{Obeys};
 ghost use Rattle.dw_desk_commands.specs.Ending.{FailsForCause};
 ghost use Rattle.dw_web.specs.Answers.{Desks, DoesDesk, IsTold, Refuses, RunsUnlessFile};
-ghost use Rattle.dw_web.specs.Room.{written_in};
 
 use crate::room::{Limit, Room};
-use crate::said::{Told, tell};
+use crate::said::{Told, refuse, tell};
 use crate::words::words_of;
 use dw_arguments::{BoardSize, DeskArgs};
 use dw_board::{Board, Eight, Ten};
-use dw_commands::{Ending, end_unread};
+use dw_commands::Ending;
 use dw_desk_commands::{DeskWatcher, run_on};
 use dw_notation::Reading;
 use dw_study::{Slices, Watcher};
@@ -22,6 +21,7 @@ use std::alloc::Global;
 const PROGRAM: &str = "dw-desk";
 
 /// Is told how far a search is, and shows it to nobody.
+#[derive(Drop)]
 struct Nobody;
 
 impl Watcher for Nobody {
@@ -44,24 +44,29 @@ pub(crate) fn run_words<L: Limit>(
 ) -> Told
     requires { room.old.has_failed ≡ false }
     ensures answers { (ending : AnyEnding (Bor (List ℕ)))
-        × (Refuses (Some (written_in room.old)) (Some (written_in room.new)) room.new.has_failed ending
-            ⊎ DoesDesk input.now (Some (written_in room.old)) (Some (written_in room.new)) room.new.has_failed ending)
+        × (Refuses (Some (room.old.bytes.items)) (Some (room.new.bytes.items)) room.new.has_failed ending
+        ⊎ DoesDesk input.now (Some (room.old.bytes.items)) (Some (room.new.bytes.items)) room.new.has_failed ending)
         × IsTold ending result.status result.message }
     ensures message { result.message ≤ length message.old }
 {
     match words_of(alloc, PROGRAM, arguments) {
         Ok(words) => match DeskArgs::parse(alloc, words.as_slice()) {
             Ok(args) => tell(PROGRAM, &run(alloc, &args, input, room), message),
-            Err(error) => tell(PROGRAM, &end_unread(&error, room), message),
+            Err(error) => refuse(PROGRAM, &error, room, message),
         },
-        Err(error) => tell(PROGRAM, &end_unread(&error, room), message),
+        Err(error) => refuse(PROGRAM, &error, room, message),
     }
 }
 
 /// Does what the arguments ask for, on the board that they name.
-fn run<'a, L: Limit>(alloc: Global, args: &DeskArgs<'a>, input: &[u8], room: &mut Room<L>) -> Ending<&'a str>
+fn run<'a, L: Limit>(
+    alloc: Global,
+    args: &DeskArgs<'a>,
+    input: &[u8],
+    room: &mut Room<L>,
+) -> Ending<&'a str>
     requires { room.old.has_failed ≡ false }
-    ensures { Desks args.now input.now (Some (written_in room.old)) (Some (written_in room.new)) room.new.has_failed
+    ensures { Desks args.now input.now (Some (room.old.bytes.items)) (Some (room.new.bytes.items)) room.new.has_failed
         result }
 {
     match args.board {
@@ -79,15 +84,14 @@ fn run_from<'a, B: Board, L: Limit>(
 ) -> Ending<&'a str>
     requires rows { (B.geometry.rows ≡ 10) ⊎ (B.geometry.rows ≡ 8) }
     requires room { room.old.has_failed ≡ false }
-    ensures { RunsUnlessFile (Obeys B.geometry args.now (Some input.now) (Some (written_in room.old))
-            (Some (written_in room.new)) result × FailsForCause room.new.has_failed result)
-        args.now.file (Some (written_in room.old)) (Some (written_in room.new)) result }
+    ensures { RunsUnlessFile (Obeys B.geometry args.now (Some input.now) (Some (room.old.bytes.items))
+        (Some (room.new.bytes.items)) result × FailsForCause room.new.has_failed result)
+        args.now.file (Some (room.old.bytes.items)) (Some (room.new.bytes.items)) result }
 {
-    match args.file {
-        Some(path) => Ending::NotOpened(path),
-        None => {
-            let mut slices = Slices::new(u64::MAX, Nobody);
-            run_on::<B, _, _, _>(alloc, &mut slices, args, &mut Reading::new(input), room)
-        }
+    if let Some(path) = args.file {
+        return Ending::NotOpened(path);
     }
+    let mut slices = Slices::new(u64::MAX, Nobody);
+    let mut source = Reading::new(input);
+    run_on::<B, _, _, _>(alloc, &mut slices, args, &mut source, room)
 }

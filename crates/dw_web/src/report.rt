@@ -5,14 +5,13 @@ ghost use Rattle.std.specs.Option.{option_copied};
 ghost use Rattle.dw_commands.specs.Reports.{EndsBefore};
 ghost use Rattle.dw_commands.specs.declared.ending.Ending.{Ending as AnyEnding};
 ghost use Rattle.dw_web.specs.Answers.{DoesReport, IsTold, Refuses, Reports, Runs, RunsUnlessFile};
-ghost use Rattle.dw_web.specs.Room.{written_in};
 
 use crate::room::{Limit, Room};
-use crate::said::{Told, tell};
+use crate::said::{Told, refuse, tell};
 use crate::words::words_of;
 use dw_arguments::{BoardSize, ReportArgs};
 use dw_board::{Board, Eight, Ten};
-use dw_commands::{Ending, Job, end_unread};
+use dw_commands::{Ending, Job};
 use dw_notation::Reading;
 use std::alloc::Global;
 
@@ -29,17 +28,17 @@ pub(crate) fn run_words<L: Limit>(
 ) -> Told
     requires { room.old.has_failed ≡ false }
     ensures answers { (ending : AnyEnding (Bor (List ℕ)))
-        × (Refuses (Some (written_in room.old)) (Some (written_in room.new)) room.new.has_failed ending
-            ⊎ DoesReport input.now (Some (written_in room.old)) (Some (written_in room.new)) room.new.has_failed ending)
+        × (Refuses (Some (room.old.bytes.items)) (Some (room.new.bytes.items)) room.new.has_failed ending
+        ⊎ DoesReport input.now (Some (room.old.bytes.items)) (Some (room.new.bytes.items)) room.new.has_failed ending)
         × IsTold ending result.status result.message }
     ensures message { result.message ≤ length message.old }
 {
     match words_of(alloc, PROGRAM, arguments) {
         Ok(words) => match ReportArgs::parse(alloc, words.as_slice()) {
             Ok(args) => tell(PROGRAM, &run(alloc, &args, input, room), message),
-            Err(error) => tell(PROGRAM, &end_unread(&error, room), message),
+            Err(error) => refuse(PROGRAM, &error, room, message),
         },
-        Err(error) => tell(PROGRAM, &end_unread(&error, room), message),
+        Err(error) => refuse(PROGRAM, &error, room, message),
     }
 }
 
@@ -51,7 +50,7 @@ fn run<'a, L: Limit>(
     room: &mut Room<L>,
 ) -> Ending<&'a str>
     requires { room.old.has_failed ≡ false }
-    ensures { Reports args.now input.now (Some (written_in room.old)) (Some (written_in room.new)) room.new.has_failed
+    ensures { Reports args.now input.now (Some (room.old.bytes.items)) (Some (room.new.bytes.items)) room.new.has_failed
         result }
 {
     match args.board {
@@ -69,16 +68,17 @@ fn run_on<'a, B: Board, L: Limit>(
 ) -> Ending<&'a str>
     requires { room.old.has_failed ≡ false }
     ensures { (EndsBefore B.geometry (option_copied args.now.after) result
-            × (Some (written_in room.new) ≡ Some (written_in room.old)))
-        ⊎ RunsUnlessFile (Runs B.geometry args.now input.now (Some (written_in room.old)) (Some (written_in room.new))
-            room.new.has_failed result) args.now.file (Some (written_in room.old)) (Some (written_in room.new)) result }
+        × (Some (room.new.bytes.items) ≡ Some (room.old.bytes.items)))
+        ⊎ RunsUnlessFile (Runs B.geometry args.now input.now (Some (room.old.bytes.items)) (Some (room.new.bytes.items))
+        room.new.has_failed result) args.now.file (Some (room.old.bytes.items)) (Some (room.new.bytes.items)) result }
 {
     let job = match Job::<B>::new(alloc, args) {
         Ok(job) => job,
         Err(ending) => return ending,
     };
-    match args.file {
-        Some(path) => Ending::NotOpened(path),
-        None => job.run(alloc, &mut Reading::new(input), room),
+    if let Some(path) = args.file {
+        return Ending::NotOpened(path);
     }
+    let mut source = Reading::new(input);
+    job.run(alloc, &mut source, room)
 }

@@ -30,12 +30,10 @@ pub(crate) struct Room<L: Limit> {
 }
 
 impl<L: Limit> Room<L> {
-    ghost use Rattle.dw_web.specs.Room.{written_in};
-
     /// Nothing is written; there is room for so many bytes.
     pub(crate) fn new(alloc: Global, limit: usize) -> Result<Room<L>, AllocError>
         requires { limit ≡ L.limit }
-        ensures written { IfOk result (λ room. written_in room ≡ []) }
+        ensures written { IfOk result (λ room. room.bytes.items ≡ []) }
         ensures failed { IfOk result (λ room. room.has_failed ≡ false) }
     {
         Ok(Room {
@@ -49,9 +47,9 @@ impl<L: Limit> Room<L> {
     /// Copies what is written to the front of a slice, and tells how many bytes it is.
     pub(crate) fn copy_to(&self, to: &mut [u8]) -> usize
         requires { length to.old ≡ L.limit }
-        ensures count { result ≡ length (written_in self.now) }
+        ensures count { result ≡ length (self.now.bytes.items) }
         ensures fits { result ≤ length to.old }
-        ensures copied { take result to.new ≡ written_in self.now }
+        ensures copied { take result to.new ≡ self.now.bytes.items }
         ensures rest { drop result to.new ≡ drop result to.old }
         ensures full { self.now.has_failed ≡ true → result ≡ length to.old }
     {
@@ -62,9 +60,7 @@ impl<L: Limit> Room<L> {
 }
 
 impl<L: Limit> Sink for Room<L> {
-    ghost use Rattle.dw_web.specs.Room.{written_in};
-
-    ghost taken = { λ room. Some (written_in room) };
+    ghost taken = { λ room. Some room.bytes.items };
 
     ghost is_failed = { λ room. room.has_failed };
 

@@ -1,9 +1,13 @@
 //! What a program says on standard error, written into a slice.
-ghost use Rattle.std.specs.Prelude.{◌≡◌, ◌≤◌, length};
-ghost use Rattle.dw_web.specs.Answers.{IsTold};
+ghost use Rattle.std.specs.Prelude.{◌≡◌, ◌≤◌, ℕ, List, Some, false, length};
+ghost use Rattle.std.specs.Borrow.{Bor};
+ghost use Rattle.dw_commands.specs.declared.ending.Ending.{Ending as AnyEnding};
+ghost use Rattle.dw_web.specs.Answers.{IsTold, Refuses};
 
-use crate::Ended;
-use dw_commands::{Ending, Message, outcome};
+use crate::ended::Ended;
+use crate::room::{Limit, Room};
+use dw_arguments::CliError;
+use dw_commands::{Ending, Message, end_unread, outcome};
 use std::fmt;
 use std::fmt::Write;
 
@@ -25,6 +29,22 @@ impl Told {
             message: self.message,
         }
     }
+}
+
+/// Ends a program whose words are not obeyed: writes the help that was asked for, or says why.
+pub(crate) fn refuse<L: Limit>(
+    program: &str,
+    error: &CliError,
+    room: &mut Room<L>,
+    message: &mut [u8],
+) -> Told
+    requires { room.old.has_failed ≡ false }
+    ensures refuses { (ending : AnyEnding (Bor (List ℕ)))
+        × Refuses (Some room.old.bytes.items) (Some room.new.bytes.items) room.new.has_failed ending
+        × IsTold ending result.status result.message }
+    ensures fits { result.message ≤ length message.old }
+{
+    tell(program, &end_unread(error, room), message)
 }
 
 /// Writes the message of an ending, as much as there is room for, and tells its exit status.
@@ -59,6 +79,7 @@ fn write_message(said: Message<'_, &str>, message: &mut [u8]) -> usize
 }
 
 /// The front of a slice that is written.
+#[derive(Drop)]
 struct Front<'a> {
     bytes: &'a mut [u8],
     used: usize,

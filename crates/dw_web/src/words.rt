@@ -1,6 +1,8 @@
 //! The words of a command line that are separated by line feeds.
-ghost use Rattle.std.specs.Prelude.{◌≡◌};
+ghost use Rattle.std.specs.Prelude.{◌≡◌, ◌==◌};
+ghost use Rattle.std.specs.List.{position};
 ghost use Rattle.dw_web.specs.Arguments.{program_in};
+ghost use Rattle.dw_web.specs.Arguments as of;
 
 use dw_arguments::CliError;
 use std::alloc::{AllocError, Global};
@@ -21,9 +23,9 @@ pub(crate) fn program_of(arguments: &[u8]) -> Option<Program>
     ensures { result ≡ program_in arguments.now }
 {
     let name = first_word(arguments);
-    if name == b"dw" {
+    if name == b"dw".as_slice() {
         Some(Program::Report)
-    } else if name == b"dw-desk" {
+    } else if name == b"dw-desk".as_slice() {
         Some(Program::Desk)
     } else {
         None
@@ -31,19 +33,28 @@ pub(crate) fn program_of(arguments: &[u8]) -> Option<Program>
 }
 
 /// The bytes up to the first line feed.
-fn first_word(arguments: &[u8]) -> &[u8] {
-    let mut end = 0;
-    for byte in arguments {
-        if *byte == LINE_FEED {
-            return &arguments[..end];
-        }
-        end += 1;
+fn first_word(arguments: &[u8]) -> &[u8]
+    ensures { result.now ≡ of.first_word arguments.now }
+{
+    match line_feed_in(arguments) {
+        Some(end) => &arguments[..end],
+        None => arguments,
     }
-    arguments
+}
+
+/// Where the first line feed stands.
+fn line_feed_in(bytes: &[u8]) -> Option<usize>
+    ensures { result ≡ position (λ byte. byte == 10) bytes.now }
+{
+    bytes.iter().position(|byte| *byte == LINE_FEED)
 }
 
 /// The words, as the arguments of this program.
-pub(crate) fn words_of(alloc: Global, program: &str, arguments: &[u8]) -> Result<Vec<String>, CliError> {
+pub(crate) fn words_of(
+    alloc: Global,
+    program: &str,
+    arguments: &[u8],
+) -> Result<Vec<String>, CliError> {
     match std::str::from_utf8(arguments) {
         Ok(text) => Ok(split(alloc, text)?),
         Err(_) => Err(CliError::unreadable(alloc, program, ErrorKind::InvalidData)),
