@@ -30,3 +30,29 @@ struct wide __multi3(unsigned long a_low, unsigned long a_high, unsigned long b_
     product.high = high + (left >> 32) + (right >> 32) + (middle >> 32) + a_low * b_high + a_high * b_low;
     return product;
 }
+
+/* A number of 128 bits, shifted up by less than 128. */
+struct wide __ashlti3(unsigned long low, unsigned long high, int by) {
+    struct wide shifted = {low, high};
+    if (by >= 64) {
+        shifted.high = low << (by - 64);
+        shifted.low = 0;
+    } else if (by > 0) {
+        shifted.high = (high << by) | (low >> (64 - by));
+        shifted.low = low << by;
+    }
+    return shifted;
+}
+
+/* A number of 128 bits, shifted down by less than 128. */
+struct wide __lshrti3(unsigned long low, unsigned long high, int by) {
+    struct wide shifted = {low, high};
+    if (by >= 64) {
+        shifted.low = high >> (by - 64);
+        shifted.high = 0;
+    } else if (by > 0) {
+        shifted.low = (low >> by) | (high << (64 - by));
+        shifted.high = high >> by;
+    }
+    return shifted;
+}

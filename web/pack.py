@@ -3,7 +3,7 @@
 
     web/pack.py MODULE VERSION OUTPUT
 
-MODULE is the WebAssembly module, VERSION the line at the foot of the page. The scripts stand one after another in one
+MODULE is the WebAssembly module, which is compressed, VERSION the line at the foot of the page. The scripts stand one after another in one
 block, those that others import first; the names at their top level have to differ. The page's policy names the
 checksums of its script and of its style, so that nothing else runs, and nothing is fetched.
 """
@@ -12,6 +12,7 @@ import hashlib
 import pathlib
 import re
 import sys
+import zlib
 
 HERE = pathlib.Path(__file__).resolve().parent
 IMPORT = re.compile(r"^import \{[^}]*\} from '\./(\w+)\.js';\n", re.MULTILINE)
@@ -54,7 +55,7 @@ def page(module, version):
         "policy": POLICY.format(script=checksum(script), style=checksum(style)),
         "style": style,
         "version": version,
-        "module": base64.b64encode(module).decode(),
+        "module": base64.b64encode(zlib.compress(module, 9)).decode(),
         "worker": bundle("worker", "work();"),
         "script": script,
     }

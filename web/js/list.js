@@ -218,7 +218,7 @@ export class ListView {
     saveJson() {
         const lines = this.items.map(({ number, fen, refused, row }) =>
             JSON.stringify(refused ? { problem: number, refused }
-                : { problem: number, ...(row ? { ...row, problem: number } : { fen }) }));
+                : Object.assign({ problem: number }, row ?? { fen }, { problem: number })));
         this.saveAs('problems.json', lines.map((line) => `${line}\n`).join(''), 'application/json');
     }
 

@@ -17,9 +17,11 @@ import { Workers } from './workers.js';
 const EXAMPLE = 'W:W27,32,38:B18';
 
 /** Makes workers that have the module. */
-function makerOfWorkers() {
+async function makerOfWorkers() {
     const text = (/** @type {string} */ id) => document.getElementById(id)?.textContent ?? '';
-    const module = Uint8Array.from(atob(text('module')), (letter) => letter.charCodeAt(0));
+    const packed = Uint8Array.from(atob(text('module')), (letter) => letter.charCodeAt(0));
+    const stream = new Blob([packed]).stream().pipeThrough(new DecompressionStream('deflate'));
+    const module = await new Response(stream).arrayBuffer();
     const address = URL.createObjectURL(new Blob([text('worker')], { type: 'text/javascript' }));
     return () => {
         const worker = new Worker(address);
@@ -79,7 +81,7 @@ function keepPosition(app, store) {
 
 /** Starts the page. */
 export async function start() {
-    const make = makerOfWorkers(), store = new Store(() => localStorage);
+    const make = await makerOfWorkers(), store = new Store(() => localStorage);
     const app = new App(new Workers(make, Math.max(1, navigator.hardwareConcurrency || 2)), new Workers(make, 1));
     document.querySelector('defs')?.append(...diagramParts());
     const settings = store.get('settings') ?? {};
