@@ -55,7 +55,7 @@ CHECKS = [
 ]
 # FEN texts that are refused: number, name and place.
 FAULTS = [
-    ("", "1 turn at 1"), ("W W31", "2 colon at 2"), ("W:31", "3 colour at 3"), ("W:W51:B1", "4 number at 4"),
+    ("", "1 turn at 1"), ("W W31", "2 colon at 3"), ("W:31", "3 colour at 3"), ("W:W51:B1", "4 number at 4"),
     ("W:W031:B1", "4 number at 4"), ("W:WK:B", "4 number at 5"), ("W:W28:B28", "5 twice at 8"),
     ("W:W31:W32", "6 same colour at 7"), ("W:W3:B20", "7 last row at 4"), ("W:W31-50,30:B", "8 too many at 10"),
     ("W:W31:B20.x", "9 rest at 11"), (" " * 1025, "10 too long at 1025"), ("W:W40-31:B", "11 range backwards at 7"),

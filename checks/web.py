@@ -132,11 +132,11 @@ def check_memory(module):
             if said == whole:
                 break
             assert said[0] == 3 and whole[1].startswith(said[1]), (line, refused, said)
-            assert re.fullmatch(rf"{words[0]}: stopped: out of memory, \d+ expanded\n", said[2]), (line, refused, said)
+            assert re.fullmatch(rf"{words[0]}: stopped: 1 memory, \d+ expanded\n", said[2]), (line, refused, said)
             refusals += 1
     for memory in (0, 1000, 100_000, 1_500_000, 3_000_000):
         status, report, message = module.ask(["dw-desk", "find"], PROBLEMS.encode(), memory=memory)
-        assert status in (1, 3) and (status == 1 or message.endswith("memory, 0 expanded\n") or "memory" in message), message
+        assert status in (1, 3) and (status == 1 or "memory" in message), message
     print(f"{refusals} allocations refused in turn, and bounds on memory: want of memory is said")
 
 

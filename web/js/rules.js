@@ -1,6 +1,7 @@
 /** What the page asks `dw` of positions: legal moves, faults. No rule of the game is known here. */
 import { textOf } from './engine.js';
 import { legalIn, linesOf, problemsIn } from './answers.js';
+import { tagLine } from './pdn.js';
 
 /**
  * @typedef {import('./answers.js').Legal} Legal
@@ -30,11 +31,10 @@ export class Rules {
      * @param {Rows} rows
      */
     async read(text, rows) {
-        const line = text.replace(/[\r\n]/g, ' ');
-        const { report } = await this.ask(['dw', 'moves', ...boardOf(rows)], `${line.trim() ? line : ':'}\n`);
+        const words = ['dw', 'moves', '--pdn', ...boardOf(rows)];
+        const { report } = await this.ask(words, `${tagLine(['FEN', text])}\n`);
         const [problem] = problemsIn(textOf(report));
-        if (!problem) return { fen: '', refused: '1 fen: 1 turn at 1' };
-        return line.trim() ? problem : { fen: '', refused: '1 fen: 1 turn at 1' };
+        return problem;
     }
 
     /**

@@ -8,7 +8,7 @@ ghost use Rattle.dw_web.specs.Arguments.{program_in};
 use crate::ended::Ended;
 use crate::room::{Limit, Room};
 use crate::said::{Told, refuse, tell};
-use crate::words::{Program, program_of};
+use crate::words::{Program, name_of, program_of};
 use crate::{desk, report};
 use dw_arguments::CliError;
 use dw_commands::Ending;
@@ -35,7 +35,7 @@ pub(crate) fn run_within<L: Limit>(
     ensures message { result.message ≤ length message.old }
 {
     let Ok(mut room) = Room::<L>::new(alloc, report.len()) else {
-        return tell("dw", &Ending::no_memory(), message).with(0);
+        return tell(name_of(arguments), &Ending::no_memory(), message).with(0);
     };
     let told = answer(alloc, arguments, input, &mut room, message);
     told.with(room.copy_to(report))
@@ -61,7 +61,7 @@ fn answer<L: Limit>(
         Some(Program::Desk) => desk::run_words(alloc, arguments, input, room, message),
         None => {
             let error = CliError::Refused(NO_PROGRAM);
-            refuse("dw", &error, room, message)
+            refuse(name_of(arguments), &error, room, message)
         }
     }
 }

@@ -32,6 +32,14 @@ pub(crate) fn program_of(arguments: &[u8]) -> Option<Program>
     }
 }
 
+/// The name that the program has in what it says of itself.
+pub(crate) fn name_of(arguments: &[u8]) -> &'static str {
+    match program_of(arguments) {
+        Some(Program::Desk) => "dw-desk",
+        _ => "dw",
+    }
+}
+
 /// The bytes up to the first line feed.
 fn first_word(arguments: &[u8]) -> &[u8]
     ensures { result.now ≡ of.first_word arguments.now }
