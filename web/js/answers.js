@@ -116,7 +116,7 @@ export const legalIn = (text) => sections(text).map(({ lines }) => lines.flatMap
 export function remarkIn(line) {
     const [kind, ...words] = line.split(' ');
     const rest = words.join(' ');
-    if (kind === 'fails') {
+    if (kind === 'fails' && rest.includes(' refuted by ')) {
         const [said, refutation] = rest.split(' refuted by ');
         const moves = movesOf(said);
         return { kind, line, beginning: moves.slice(0, -1), moves: moves.slice(-1), refutation };

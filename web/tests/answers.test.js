@@ -43,6 +43,7 @@ test('remarks', () => {
     assert.deepEqual(remarks.map(({ kind, beginning, moves }) => [kind, beginning, moves]), [
         ['open', ['32-28'], ['18-23']], ['also', ['32-28', '18-22'], ['28x17']]]);
     assert.deepEqual(remarkIn('fails 1. 27-22 refuted by 18x38')?.refutation, '18x38');
+    assert.equal(remarkIn('fails in 2: 1 fail, 0 end, 0 open, 0 also'), null);
     assert.deepEqual(remarkIn('also 1. 32-28')?.moves, ['32-28']);
     assert.deepEqual(remarkIn('also 1. 32-28 18-22 2. 28x17 / 27x18')?.moves, ['28x17', '27x18']);
     assert.deepEqual(remarkIn('ends 1. 32-28')?.beginning, ['32-28']);
