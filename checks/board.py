@@ -100,10 +100,12 @@ window.t = {
     t.at('#fen').focus();
     t.set('#fen', fen);
     await new Promise((resolve) => setTimeout(resolve, 140));
-    await t.until(() => t.steady());
-    t.at('#fen').blur();
+    t.leave();
   },
-  steady: () => true,
+  leave() {
+    t.at('#fen').blur();
+    t.at('#fen').dispatchEvent(new Event('blur'));
+  },
   pieces: () => Object.fromEntries(t.all('[data-square][data-piece]').map((e) => [e.dataset.square, e.dataset.piece])),
 };
 0
@@ -216,7 +218,7 @@ def check_texts(browser):
     for text, wanted in READ:
         browser.run(call("read", text))
         browser.wait(f"t.at('#fault').hidden && JSON.stringify(t.pieces()) === {json.dumps(json.dumps(shown(sorted(of_fen(wanted))), separators=(',', ':')))}", 10)
-        browser.run("t.at('#fen').blur()")
+        browser.run("t.leave()")
         browser.wait(f"t.at('#fen').value === {json.dumps(wanted)}", 10)
     browser.run(call("place", 10, "W", [(3, "w")]))
     browser.wait("!t.at('#fault').hidden && t.at('#fault strong').textContent === '7 last row at 4'", 10)
@@ -309,7 +311,7 @@ def check_play(browser, source):
     for text in ("W:W27,32:B18", "W:WK46:B28", "W:W31-35,36-40,41-45,46-50:B1-5,6-10,11-15,16-20"):
         browser.run("t.at('#mode-setup').click()")
         browser.run(call("read", text))
-        browser.run("t.at('#fen').blur()")
+        browser.run("t.leave()")
         browser.run("t.at('#mode-play').click()")
         start = browser.run("t.at('#fen').value")
         for _ in range(12):

@@ -244,6 +244,16 @@ class Chromium(Browser):
         pathlib.Path(file).write_bytes(base64.b64decode(said["data"]))
 
 
+def value_of(said):
+    """The value that BiDi tells of."""
+    kind, value = said["type"], said.get("value")
+    if kind == "array":
+        return [value_of(item) for item in value]
+    if kind == "object":
+        return {name: value_of(item) for name, item in value}
+    return value
+
+
 class Firefox(Browser):
     name = "firefox"
 
@@ -252,7 +262,8 @@ class Firefox(Browser):
                           "about:blank"], r"WebDriver BiDi listening on (ws://\S+)")
         self.ask("session.new", capabilities={"alwaysMatch": {"acceptInsecureCerts": False}})
         self.ask("session.subscribe", events=["log.entryAdded", "network.beforeRequestSent"])
-        self.context = self.ask("browsingContext.getTree")["contexts"][0]["context"]
+        # The first window has no focus, but one that is made later has.
+        self.context = self.ask("browsingContext.create", type="window")["context"]
         self.resize(1200, 900)
 
     def address(self, found):
@@ -272,10 +283,10 @@ class Firefox(Browser):
         self.ask("browsingContext.navigate", context=self.context, url=url, wait="complete")
 
     def run(self, script):
-        said = self.ask("script.evaluate", expression=f"(async () => JSON.stringify((await ({script})) ?? null))()",
-                        awaitPromise=True, target={"context": self.context}, userActivation=True)
+        said = self.ask("script.evaluate", expression=script, awaitPromise=True, userActivation=True,
+                        target={"context": self.context}, serializationOptions={"maxObjectDepth": 20})
         assert said["type"] == "success", (script[:300], said)
-        return json.loads(said["result"]["value"])
+        return value_of(said["result"])
 
     def resize(self, width, height, is_phone=False):
         del is_phone

@@ -86,7 +86,6 @@ const TEXTS = {
     copy: ['Copy as PDN', 'Kopieer als PDN', 'Copier en PDN', 'Копировать PDN'],
     copied: ['Copied.', 'Gekopieerd.', 'Copié.', 'Скопировано.'],
     certificate: ['Certificate', 'Certificaat', 'Certificat', 'Сертификат'],
-    askHere: ['Take this position', 'Neem deze stand', 'Prendre cette position', 'Взять эту позицию'],
     firsts: ['What each first move does', 'Wat elke eerste zet doet', 'Effet de chaque premier coup', 'Что даёт каждый первый ход'],
     compareLead: ['Paste the author’s solution of the position on the board.', 'Plak de auteursoplossing van de stand op het bord.', 'Collez la solution d’auteur de la position du damier.', 'Вставьте авторское решение позиции на доске.'],
     authorsSolution: ['The author’s solution', 'De auteursoplossing', 'La solution d’auteur', 'Авторское решение'],

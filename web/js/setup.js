@@ -99,28 +99,32 @@ export function setUp(app, play) {
  */
 function followText(app) {
     const field = control('fen', HTMLInputElement);
-    let asked = 0, isTyping = false;
+    let asked = 0, isTyping = false, isPending = false;
+
+    /** Writes the text of the position as the program does, once nobody types. */
+    function tidy() {
+        if (!isPending && byId('fault').hidden && document.activeElement !== field) field.value = app.fen;
+    }
 
     /** Asks what `dw` reads a text as, and shows the fault, or the position. */
     async function read(/** @type {string} */ text) {
         const number = ++asked, { rows } = app.position;
         const { fen, refused } = await app.rules.read(text, rows);
         if (number !== asked) return;
+        if (text === field.value) isPending = false;
         showFault(app, text, refused);
         const position = refused || !isTyping ? app.position : positionOf(fen, rows);
-        if (isSame(position, app.position)) return;
-        app.edit(position);
+        if (!isSame(position, app.position)) app.edit(position);
+        tidy();
     }
 
     let timer = 0;
     field.addEventListener('input', () => {
-        isTyping = true;
+        isTyping = isPending = true;
         clearTimeout(timer);
         timer = window.setTimeout(() => void read(field.value), PATIENCE);
     });
-    field.addEventListener('blur', () => {
-        if (byId('fault').hidden) field.value = app.fen;
-    });
+    field.addEventListener('blur', tidy);
     app.on(['edited', 'looked'], () => {
         if (isTyping && document.activeElement === field) {
             isTyping = false;
