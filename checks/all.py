@@ -49,6 +49,8 @@ CHECKS = [
     Check("certificates", slow=("--count", "1000")),
     Check("mends", slow=("--count", "100")),
     Check("first_moves", slow=("--count", "2000")),
+    Check("board", slow=("--count", "400")),
+    Check("web", slow=("--count", "1500")),
     Check("refused_memory"),
     Check("long_list"),
     Check("random_moves", slow=("--count", "1000000")),
@@ -80,7 +82,7 @@ SLOW = [
 # What is no check of this repository, but for whom reads what the programs write.
 READERS = ["certificate"]
 # What is a part of a check.
-PARTS = ["draughts", "man_pages", "reading_order"]
+PARTS = ["browsers", "draughts", "man_pages", "reading_order"]
 
 
 def purpose(check):
@@ -136,6 +138,8 @@ def build(checks):
     subprocess.run([TOP / "dw", "--help"], stdout=subprocess.DEVNULL, check=True)
     if any(check.name == "refused_search" for check in checks):
         refused_search.build()
+    if any(check.name in ("board", "web") for check in checks):
+        subprocess.run([TOP / "board", os.devnull], stderr=subprocess.DEVNULL, check=True)
 
 
 def main():

@@ -1,0 +1,566 @@
+#!/usr/bin/env python3
+"""board.py: uses board.html as a composer does, in Chromium and in Firefox, and compares its answers with the programs'.
+
+    checks/board.py [--page FILE] [--browser NAME] [--count POSITIONS] [--pictures FOLDER]
+
+Random positions (100 on each board if not said, fewer in the second browser) are set up by clicks, and answered as
+`dw-desk find` does. Worked rows go through the page's controls. Pieces are dragged, taps and keys do what clicks do.
+FEN texts and the board follow each other, and faults are those of `dw`. Whole lines are played; a long search is
+stopped; an author's solution is compared; neighbours, a file of problems, four languages, a telephone's width. Nothing
+is asked of the network, and the console has no error.
+"""
+import argparse
+import json
+import pathlib
+import random
+import re
+import subprocess
+import tempfile
+import time
+
+import browsers
+from draughts import Board, fen
+from wins import drawn
+
+TOP = pathlib.Path(__file__).resolve().parent.parent
+DESK = TOP / "dw-desk"
+SEED, MOST, PHONE = 123, 3, 360
+LONG = "W:W26,28,32,33,34,37,38,39,40,43,48:B8,9,12,13,14,16,18,19,20,24,25"
+LARGEST, USABLE_WITHIN, LISTED_WITHIN, LONGEST_TASK = 1_500_000, 5, 10, 400
+# Positions with the number of moves that is asked for, and the answer's lines.
+FINDS = [
+    ("W:W10,16,48:B13", 6, "dual in 3: 1. 10-5 13-18 2. 5-28 18-22 3. 28x6 / 28x11 / 28x17", [("10-4", "13-19")]),
+    ("W:W10,16,48:B13", 2, "unsolvable in 2", [("10-4", "13-19"), ("10-5", "13-18")]),
+    ("W:W27,32:B18", 20, "dual in 2: 1. 32-28 18-22 2. 27x18 / 28x17", [("27-22", "18x38")]),
+    ("W:W27,45:B16", 20, "sound in 2: 45-40", [("27-21", "16x27"), ("27-22", "16-21")]),
+    ("W:W27,32,38:B18", 20, "cooked in 2, shortest 2: 27-22, 32-28", [("38-33", "18-23")]),
+    ("W:W27:B16", 3, "unsolvable in 3", [("27-21", "16x27"), ("27-22", "16-21")]),
+    ("B:W43:B24,29", 20, "sound in 2: 29-33", None),
+]
+# Positions with the moves of their solutions, each with its depth.
+SOLUTIONS = [
+    ("W:W27,32:B18", [(1, "32-28"), (2, "18-22"), (3, "27x18"), (3, "28x17"), (2, "18-23"), (3, "28x19")]),
+    ("B:W43:B24,29", [(1, "29-33"), (2, "43-38"), (3, "33x42"), (2, "43-39"), (3, "33x44")]),
+]
+# Positions, movetexts, and the lines that are said of them.
+CHECKS = [
+    ("W:W27,45:B16", "1. 45-40 16-21 2. 27x16 *", [], "holds in 2: 0 fail, 0 end, 0 open, 0 also"),
+    ("W:W27,32:B18", "1. 32-28 18-22 2. 27x18 2-0", ["open 1. 32-28: 18-23", "also 1. 32-28 18-22 2. 28x17"],
+     "holds in 2: 0 fail, 0 end, 1 open, 1 also"),
+    ("W:W27,32:B18", "1. 27-22! {why not} 18x38 *", ["fails 1. 27-22 refuted by 18x38"],
+     "fails in 1: 1 fail, 0 end, 0 open, 0 also"),
+    ("W:W27,32:B18", "1. 32-28 (1. 27-22 18x38) 1... 18-22 (1... 18-23 2. 28x19) 2. 27x18 (2. 28x17) 2-0",
+     ["fails 1. 27-22 refuted by 18x38"], "fails in 2: 1 fail, 0 end, 0 open, 0 also"),
+    ("W:W27,32:B18", "1. 32-27", [], "solution refused: 2 no such move at 6"),
+]
+# FEN texts that are refused: number, name and place.
+FAULTS = [
+    ("", "1 turn at 1"), ("W W31", "2 colon at 3"), ("W:31", "3 colour at 3"), ("W:W51:B1", "4 number at 4"),
+    ("W:W031:B1", "4 number at 4"), ("W:WK:B", "4 number at 5"), ("W:W28:B28", "5 twice at 8"),
+    ("W:W31:W32", "6 same colour at 7"), ("W:W3:B20", "7 last row at 4"), ("W:W31-50,30:B", "8 too many at 10"),
+    ("W:W31:B20.x", "9 rest at 11"), (" " * 1025, "10 too long at 1025"), ("W:W40-31:B", "11 range backwards at 7"),
+]
+READ = [("W:W31:B20:H0", "W:W31:B20"), ("W:WK3:B20", "W:WK3:B20"), (" w : w k 07 , 31 ", "W:WK7,31:B"),
+        ("B:B1-3:W40", "B:W40:B1,2,3")]
+# What stands in the page for the tests alone.
+HELPERS = """
+window.t = {
+  at: (selector) => document.querySelector(selector),
+  all: (selector) => [...document.querySelectorAll(selector)],
+  set(selector, value) {
+    const field = t.at(selector);
+    field.value = value;
+    field.dispatchEvent(new Event('input', { bubbles: true }));
+    field.dispatchEvent(new Event('change', { bubbles: true }));
+  },
+  async until(test) {
+    for (let i = 0; i < 20000; i++) {
+      const value = test();
+      if (value) return value;
+      await new Promise((resolve) => setTimeout(resolve, 3));
+    }
+    throw new Error('not in time: ' + test);
+  },
+  place(rows, turn, pieces) {
+    if (t.at('#rows').value !== String(rows)) t.set('#rows', String(rows));
+    t.at('#clear').click();
+    if (t.at('#turn').value !== turn) t.set('#turn', turn);
+    for (const [square, piece] of pieces) {
+      t.at(`[data-piece-choice="${piece}"]`).click();
+      t.at(`[data-square="${square}"]`).click();
+    }
+  },
+  async solve(most) {
+    t.set('#most', String(most));
+    t.at('#solve').click();
+    await t.until(() => ['done', 'stopped'].includes(t.at('#state').dataset.state));
+    return t.at('#state').dataset.state === 'done' ? t.at('#verdict').dataset.line : t.at('#state').textContent;
+  },
+  async read(fen) {
+    t.at('#fen').focus();
+    t.set('#fen', fen);
+    await new Promise((resolve) => setTimeout(resolve, 140));
+    t.leave();
+  },
+  leave() {
+    t.at('#fen').blur();
+    t.at('#fen').dispatchEvent(new Event('blur'));
+  },
+  pieces: () => Object.fromEntries(t.all('[data-square][data-piece]').map((e) => [e.dataset.square, e.dataset.piece])),
+};
+0
+"""
+
+
+def of_fen(text):
+    """The pieces of a FEN text as the program writes it: a list of squares and pieces."""
+    pieces = []
+    for part in text.split(":")[1:]:
+        man = part[0].lower()
+        for item in filter(None, part[1:].split(",")):
+            pieces.append((int(item.lstrip("K")), man.upper() if item[0] == "K" else man))
+    return pieces
+
+
+def shown(pieces):
+    return {str(square): piece for square, piece in pieces}
+
+
+def call(name, *values):
+    return f"t.{name}({', '.join(json.dumps(value) for value in values)})"
+
+
+def open_page(browser, page, more=""):
+    browser.goto("about:blank")
+    browser.goto(page.as_uri() + more)
+    browser.wait("document.documentElement && document.documentElement.dataset.ready", 30)
+    browser.run(HELPERS)
+
+
+def check_start(browser, page):
+    """The page is small, and usable at once."""
+    assert page.stat().st_size <= LARGEST, page.stat().st_size
+    begun = time.monotonic()
+    open_page(browser, page, "#fen=W:W27,45:B16&n=5")
+    took = time.monotonic() - begun
+    assert took < USABLE_WITHIN, took
+    assert browser.run("t.pieces()") == shown(of_fen("W:W27,45:B16")), browser.run("t.pieces()")
+    assert browser.run("[t.at('#fen').value, t.at('#most').value, t.at('#state').dataset.state]") \
+        == ["W:W27,45:B16", "5", "idle"]
+    print(f"{browser.name}: {page.stat().st_size / 1e6:.2f} MB, usable after {took:.2f} s")
+
+
+def check_random(browser, rows, count, source):
+    """Random positions that are set up by clicks."""
+    board, positions = Board(rows), []
+    while len(positions) < count:
+        cells, turn = drawn(source, board), source.choice("WB")
+        positions.append((fen(cells, turn), turn))
+    text = "".join(f"{text}\n" for text, _ in positions)
+    ran = subprocess.run([DESK, "find", "--board", str(rows), "--most", str(MOST)], input=text, capture_output=True,
+                         text=True, check=True)
+    wanted = [re.split("\n", part)[1] for part in re.split(r"(?m)^problem \d+: ", ran.stdout)[1:]]
+    asked = [[rows, turn, of_fen(text)] for text, turn in positions]
+    said = browser.run(f"""(async () => {{
+        const said = [];
+        for (const [rows, turn, pieces] of {json.dumps(asked)}) {{
+            t.place(rows, turn, pieces);
+            said.push([t.at('#fen').value, t.pieces(), await t.solve({MOST})]);
+        }}
+        return said;
+    }})()""")
+    for (text, _), (written, pieces, line), wants in zip(positions, said, wanted, strict=True):
+        assert (written, pieces, line) == (text, shown(of_fen(text)), wants), (text, written, pieces, line, wants)
+    kinds = {kind: sum(line.startswith(kind) for line in wanted) for kind in ("sound", "dual", "cooked", "unsolvable")}
+    print(f"{browser.name}: {rows} rows: {count} positions set up by clicks: {kinds}")
+
+
+def check_rows(browser):
+    """Worked rows: verdicts, tries, solutions with the positions after their moves."""
+    for text, most, line, tries in FINDS:
+        browser.run(call("place", 10, text[0], of_fen(text)))
+        assert browser.run(call("solve", most)) == line, (text, most, line)
+        if tries is not None:
+            said = browser.run("t.all('#tries li').map((e) => [...e.querySelectorAll('.move')].map((m) => m.textContent))")
+            assert said == [list(pair) for pair in tries], (text, said)
+    for text, moves in SOLUTIONS:
+        browser.run(call("place", 10, text[0], of_fen(text)))
+        browser.run(call("solve", 20))
+        said = browser.run("t.all('#solution .move').map((e) => e.dataset.move)")
+        assert sorted(said) == sorted(move for _, move in moves), (text, said)
+        fens = browser.run("""(async () => {
+            const said = [];
+            for (const move of t.all('#solution .move')) {
+                move.click();
+                await t.until(() => t.at('#fen').value === move.dataset.fen);
+                said.push([move.dataset.fen, t.pieces()]);
+            }
+            return said;
+        })()""")
+        for after, pieces in fens:
+            assert pieces == shown(of_fen(after)), (after, pieces)
+    browser.run(call("place", 10, "W", of_fen("W:W27,32:B18")))
+    browser.run("t.at('#exact').click()")
+    assert browser.run(call("solve", 3)).startswith("cooked in 3, shortest 2"), browser.run("t.at('#state').textContent")
+    browser.run("t.at('#exact').click()")
+    print(f"{browser.name}: {len(FINDS)} verdicts with their tries, {len(SOLUTIONS)} solutions, as worked")
+
+
+def check_texts(browser):
+    """FEN texts to the board and back, and faults."""
+    for text, fault in FAULTS:
+        browser.run(call("read", text))
+        browser.wait("!t.at('#fault').hidden && t.at('#fault strong')", 10)
+        assert browser.run("t.at('#fault strong').textContent") == fault, (text, browser.run("t.at('#fault').textContent"))
+        place = int(fault.rsplit(" ", 1)[1])
+        marked = browser.run("t.at('#fault mark').textContent")
+        assert marked == (text[place - 1:place] or "␣"), (text, marked)
+    for text, wanted in READ:
+        browser.run(call("read", text))
+        browser.wait(f"t.at('#fault').hidden && JSON.stringify(t.pieces()) === {json.dumps(json.dumps(shown(sorted(of_fen(wanted))), separators=(',', ':')))}", 10)
+        browser.run("t.leave()")
+        browser.wait(f"t.at('#fen').value === {json.dumps(wanted)}", 10)
+    browser.run(call("place", 10, "W", [(3, "w")]))
+    browser.wait("!t.at('#fault').hidden && t.at('#fault strong').textContent === '7 last row at 4'", 10)
+    print(f"{browser.name}: {len(FAULTS)} FEN texts with a fault, {len(READ)} without")
+
+
+def check_hands(browser):
+    """Mouse and finger: dragging, dragging off, right clicks; undo and redo; the tools of the board."""
+    browser.run(call("place", 10, "W", of_fen("W:W27,32:B18")))
+    browser.click("[data-piece-choice=b]")
+    browser.click('[data-square="12"]')
+    browser.wait("t.at('#fen').value === 'W:W27,32:B12,18'")
+    browser.click('[data-square="12"]', "right")
+    browser.wait("t.at('#fen').value === 'W:W27,32:B18'")
+    browser.drag(browser.middle('[data-square="27"]'), browser.middle('[data-square="21"]'))
+    browser.wait("t.at('#fen').value === 'W:W21,32:B18'")
+    x, y = browser.middle('[data-square="32"]')
+    browser.drag((x, y), (x, 3))
+    browser.wait("t.at('#fen').value === 'W:W21:B18'")
+    for _ in range(2):
+        browser.click("#undo")
+    browser.wait("t.at('#fen').value === 'W:W27,32:B18'")
+    browser.click("#redo")
+    browser.wait("t.at('#fen').value === 'W:W21,32:B18'")
+    browser.click("#undo")
+    browser.tap('[data-square="13"]')
+    browser.wait("t.at('#fen').value === 'W:W27,32:B13,18'")
+    browser.click("#undo")
+    for tool, wanted in (("mirror", "W:W19,24:B33"), ("mirror", "W:W27,32:B18"), ("exchange", "B:W33:B19,24"),
+                         ("exchange", "W:W27,32:B18"), ("opening", None), ("undo", "W:W27,32:B18")):
+        browser.click(f"#{tool}")
+        if wanted:
+            browser.wait(f"t.at('#fen').value === {json.dumps(wanted)}", 10)
+    first = "t.at('#board [data-square]').dataset.square"
+    assert browser.run(first) == "1"
+    browser.click("#flip")
+    assert browser.run(first) == "50" and browser.run("t.at('#fen').value") == "W:W27,32:B18"
+    browser.click("#flip")
+    browser.run("t.set('#rows', '8')")
+    assert browser.run("t.all('[data-square]').length") == 32
+    browser.run("t.set('#rows', '10')")
+    print(f"{browser.name}: dragged, dragged off, erased, undone, mirrored, turned")
+
+
+def check_keys(browser):
+    """Keys alone: a position is set up, asked and gone through."""
+    browser.run("t.at('#clear').click()")
+    browser.run("t.at('[data-square=\"1\"]').focus()")
+
+    def go_to(square):
+        for _ in range(60):
+            here = int(browser.run("document.activeElement.dataset.square"))
+            if here == square:
+                return
+            (row, column), (below, beside) = divmod(here - 1, 5), divmod(square - 1, 5)
+            browser.press("ArrowDown" if row < below else "ArrowUp" if row > below
+                          else "ArrowRight" if column < beside else "ArrowLeft")
+        raise AssertionError(square)
+    for square, key in ((27, "w"), (32, "w"), (38, "W"), (18, "b"), (12, "B")):
+        go_to(square)
+        browser.press(key)
+    browser.wait("t.at('#fen').value === 'W:W27,32,K38:BK12,18'", 10)
+    for square in (38, 12):
+        go_to(square)
+        browser.press("Delete")
+    browser.wait("t.at('#fen').value === 'W:W27,32:B18'", 10)
+    for _ in range(60):
+        browser.press("Tab")
+        if browser.run("document.activeElement.id") == "solve":
+            break
+    browser.press("Enter")
+    browser.wait("t.at('#state').dataset.state === 'done'", 30)
+    assert browser.run("t.at('#verdict').dataset.line").startswith("dual in 2")
+    for _ in range(60):
+        browser.press("Tab")
+        if browser.run("document.activeElement.closest('#solution') !== null"):
+            break
+    browser.press("Enter")
+    browser.wait("t.at('#fen').value === 'B:W27,28:B18'", 10)
+    browser.press("ArrowRight", "ArrowDown")
+    browser.wait("t.at('#fen').value === 'W:W27,28:B23'", 10)
+    browser.press("ArrowLeft", "ArrowLeft")
+    browser.wait("t.at('#fen').value === 'W:W27,32:B18'", 10)
+    print(f"{browser.name}: set up, asked and gone through by keys alone")
+
+
+def check_play(browser, source):
+    """Whole lines are played by clicks, and taken back; captures that share their ends are chosen."""
+    played = 0
+    for text in ("W:W27,32:B18", "W:WK46:B28", "W:W31-35,36-40,41-45,46-50:B1-5,6-10,11-15,16-20"):
+        browser.run("t.at('#mode-setup').click()")
+        browser.run(call("read", text))
+        browser.run("t.leave()")
+        browser.run("t.at('#mode-play').click()")
+        start = browser.run("t.at('#fen').value")
+        for _ in range(12):
+            sources = browser.run("t.until(() => t.at('#played').textContent !== 'x').then(() => "
+                                  "t.all('.dark.source').map((e) => e.dataset.square))")
+            if not sources:
+                break
+            browser.run(f"t.at('[data-square=\"{source.choice(sources)}\"]').click()")
+            targets = browser.run("t.all('.dark.target').map((e) => e.dataset.square)")
+            before = browser.run("t.at('#fen').value")
+            browser.run(f"t.at('[data-square=\"{source.choice(targets)}\"]').click()")
+            if browser.run("!t.at('#choice').hidden"):
+                browser.run("t.at('#choice button').click()")
+            browser.wait(f"t.at('#fen').value !== {json.dumps(before)}", 10)
+            time.sleep(0.02)
+            played += 1
+        browser.run("t.at('#play-start').click()")
+        browser.wait(f"t.at('#fen').value === {json.dumps(start)}", 10)
+    browser.run("t.at('#mode-setup').click()")
+    print(f"{browser.name}: {played} moves played by clicks")
+
+
+def check_stop(browser):
+    """A long search shows how far it is, is stopped at once, and says what is known; the page never waits."""
+    browser.run(call("read", LONG))
+    longest = browser.run("""(async () => {
+        let longest = 0, before = performance.now(), isOn = true;
+        const beat = () => {
+            const now = performance.now();
+            longest = Math.max(longest, now - before);
+            before = now;
+            if (isOn) setTimeout(beat);
+        };
+        beat();
+        t.set('#most', '20');
+        t.at('#solve').click();
+        await t.until(() => /\\d/.test(t.at('#state').textContent) && t.at('#state').dataset.state === 'searching');
+        await new Promise((resolve) => setTimeout(resolve, 3000));
+        isOn = false;
+        return longest;
+    })()""")
+    said = browser.run("t.at('#state').textContent")
+    begun = time.monotonic()
+    browser.click("#stop")
+    browser.wait("t.at('#state').dataset.state === 'stopped'", 5)
+    took = time.monotonic() - begun
+    assert longest < LONGEST_TASK and took < 2, (longest, took)
+    told = browser.run("t.at('#state').textContent")
+    assert browser.run("!t.at('#solve').disabled && t.at('#stop').disabled")
+    browser.run(call("read", "W:W27,45:B16"))
+    assert browser.run(call("solve", 5)) == "sound in 2: 45-40"
+    print(f"{browser.name}: '{said}', '{told}', stopped within {took:.2f} s; longest pause {longest:.0f} ms")
+
+
+def check_compare(browser):
+    browser.run("t.at('#tab-compare').click()")
+    for text, movetext, lines, last in CHECKS:
+        browser.run(call("read", text))
+        browser.run(f"t.set('#movetext', {json.dumps(movetext)})")
+        browser.run("t.at('#compare').click()")
+        browser.wait("!t.at('#compare').disabled", 30)
+        said = browser.run("[t.all('#remarks .remark').map((e) => e.dataset.line), t.at('#compared').dataset.line]")
+        assert said == [lines, last], (text, movetext, said)
+    browser.run("t.set('#movetext', '[FEN \"W:W27,32:B18\"]\\n1. 32-28 18-22 2. 27x18 2-0')")
+    browser.run("t.at('#compare').click()")
+    browser.wait("t.all('#remarks .remark').length === 2", 30)
+    browser.run("t.all('#remarks .remark')[1].click()")
+    browser.wait("t.at('#fen').value === 'W:W27,28:B22'", 10)
+    browser.run("t.at('#tab-solve').click()")
+    print(f"{browser.name}: {len(CHECKS) + 1} printed solutions compared")
+
+
+def check_mend(browser):
+    browser.run("t.at('#tab-improve').click()")
+    browser.run(call("read", "W:W27,32:B18"))
+    browser.run("t.set('#mend-n', '2')")
+    browser.run("t.at('#mend-go').click()")
+    browser.wait("t.at('#mend').dataset.state === 'done'", 60)
+    said = browser.run("t.all('#mend .card').map((e) => [e.dataset.change, e.dataset.fen])")
+    ran = subprocess.run([DESK, "mend", "-n", "2"], input="W:W27,32:B18\n", capture_output=True, text=True, check=True)
+    wanted = re.findall(r"^(.*?): ([WB]:\S+), sound in 2: ", ran.stdout, re.MULTILINE)
+    assert [tuple(pair) for pair in said] == wanted, (said, wanted)
+    browser.run("t.at('#mend .card').click()")
+    browser.wait(f"t.at('#fen').value === {json.dumps(wanted[0][1])}", 10)
+    browser.run("t.at('#tab-solve').click()")
+    print(f"{browser.name}: {len(said)} sound neighbours, as dw-desk mend has them")
+
+
+def check_collection(browser, folder, page):
+    """A file of problems, judged, filtered, saved; hostile files; a thousand problems."""
+    browser.run("t.at('#forget').click()")
+    file = folder / "games.pdn"
+    file.write_bytes(b'[Event "<b>x</b><script>alert(1)</script>"] [White "A. Composer"] [FEN "W:W27,32:B18"] 1. 32-28 *\n\n'
+                     b'[FEN "W:W3:B20"] *\n\n[Event "G\xe9rard"] [FEN "W:W27,45:B16"] *\n')
+    browser.upload("#file", file)
+    browser.wait("t.all('#list .card').length === 3", 20)
+    texts = browser.run("t.all('#list .card').map((e) => e.textContent)")
+    assert "1. <b>x</b><script>alert(1)</script>, A. Composer" in texts[0] and "7 last row at 4" in texts[1], texts
+    assert "Gérard" in texts[2], texts
+    browser.run("t.at('#judge-all').click()")
+    browser.wait("t.at('#list').dataset.state === 'done' && !t.at('#judge-all').disabled", 30)
+    assert browser.run("t.all('#list .card').map((e) => e.dataset.state)") == ["dual", "refused", "sound"]
+    browser.run("t.set('#sort', 'verdict')")
+    browser.wait("t.all('#list .card').map((e) => e.dataset.state).join() === 'sound,dual,refused'", 10)
+    browser.run("t.set('#sort', 'number'); t.set('#filter', 'sound')")
+    browser.wait("t.all('#list .card').length === 1", 10)
+    browser.run("t.at('#list .card').click()")
+    browser.wait("t.at('#fen').value === 'W:W27,45:B16'", 10)
+    browser.run("t.set('#filter', '')")
+    browser.run("t.set('#add-title', 'Mine'); t.set('#add-author', 'Me'); t.at('#add-go').click()")
+    browser.wait("t.all('#list .card').length === 4", 10)
+    for name, button in (("problems.pdn", "save-pdn"), ("problems.html", "save-page"), ("problems.json", "save-json")):
+        browser.run(f"t.at('#{button}').click()")
+        browser.wait(f"t.at('#list').dataset.saved === '{name}'", 60)
+    if browser.name == "chromium":
+        for name in ("problems.pdn", "problems.html", "problems.json"):
+            saved = browser.downloads / name
+            for _ in range(100):
+                if saved.exists() and saved.stat().st_size:
+                    break
+                time.sleep(0.05)
+            text = saved.read_text()
+            assert "W:W27,45:B16" in text, (name, text[:200])
+            assert "<script>alert(1)" not in text or not name.endswith("html"), name
+        pdn = (browser.downloads / "problems.pdn").read_text()
+        assert '[Event "Mine"]' in pdn and "{sound in 2} 1. 45-40" in pdn and "{dual in 2} 1. 32-28" in pdn, pdn
+    open_page(browser, page)
+    assert browser.run("t.at('#list').dataset.count") in ("4", None) or browser.name == "firefox"
+    browser.run("t.at('#forget').click()")
+    for name, content in (("brackets.pdn", b"[" * 1_000_000), ("random.fen", b"".join(
+            random.Random(1).randbytes(40) + b"\n" for _ in range(300))), ("markup.pdn",
+            b'[Event "<img src=x onerror=alert(1)>"] [FEN "W:W27:B18"] *')):
+        hostile = folder / name
+        hostile.write_bytes(content)
+        browser.upload("#file", hostile)
+        browser.wait("t.at('#list').dataset.state === 'done' && t.at('#list').dataset.count !== '0'", 60)
+        assert browser.run("t.all('#list img, #list script').length") == 0
+        browser.run("t.at('#forget').click()")
+        browser.wait("t.at('#list').dataset.count === '0'", 10)
+    source, board = random.Random(3), Board(10)
+    many = folder / "many.fen"
+    many.write_text("".join(f"{fen(drawn(source, board), 'W')}\n" for _ in range(1000)))
+    browser.run("""(() => {
+        window.longest = 0;
+        let before = performance.now();
+        const beat = () => {
+            const now = performance.now();
+            window.longest = Math.max(window.longest, now - before);
+            before = now;
+            setTimeout(beat);
+        };
+        beat();
+    })()""")
+    begun = time.monotonic()
+    browser.upload("#file", many)
+    browser.wait("t.at('#list').dataset.count === '1000' && t.all('#list .card').length >= 200 && "
+                 "t.at('#list').dataset.state === 'done'", 60)
+    took, longest = time.monotonic() - begun, browser.run("window.longest")
+    assert took < LISTED_WITHIN and longest < LONGEST_TASK, (took, longest)
+    browser.run("t.at('#forget').click()")
+    print(f"{browser.name}: files of problems, also hostile ones; 1,000 problems after {took:.1f} s, longest pause "
+          f"{longest:.0f} ms")
+
+
+def check_languages(browser):
+    browser.run("t.at('#tab-solve').click()")
+    browser.run(call("read", "W:W27,45:B16"))
+    browser.run(call("solve", 5))
+    sentences = set()
+    for language, word in (("nl", "Los op"), ("fr", "Résoudre"), ("ru", "Решить"), ("en", "Solve")):
+        browser.run(f"t.set('#language', '{language}')")
+        assert browser.run("[document.documentElement.lang, t.at('#solve').textContent]") == [language, word]
+        sentences.add(browser.run("t.at('#verdict').textContent"))
+        for width in (PHONE, 800):
+            browser.resize(width, 740, width == PHONE)
+            wide = browser.run("[document.documentElement.scrollWidth, innerWidth]")
+            assert wide[0] <= wide[1], (language, width, wide)
+        unnamed = browser.run("""t.all('button, input, select, textarea').filter((e) => !e.closest('[hidden]')
+            && !(e.textContent.trim() || e.getAttribute('aria-label') || e.labels?.length)).map((e) => e.outerHTML)""")
+        assert not unnamed, (language, unnamed)
+    browser.resize(1200, 900)
+    assert len(sentences) == 4, sentences
+    print(f"{browser.name}: four languages, from {PHONE} pixels of width on; every control has a name")
+
+
+def check_share(browser, page):
+    """A link shares a position; a second tab answers too."""
+    browser.run(call("read", "B:W43:B24,29"))
+    browser.run("t.set('#most', '4')")
+    browser.wait("location.hash === '#fen=B:W43:B24,29&n=4'", 10)
+    address = browser.run("location.hash")
+    browser.tab()
+    open_page(browser, page, address)
+    assert browser.run("[t.at('#fen').value, t.at('#turn').value, t.at('#most').value]") == ["B:W43:B24,29", "B", "4"]
+    assert browser.run(call("solve", 4)) == "sound in 2: 29-33"
+    open_page(browser, page, "#fen=W:W3:B20&n=2")
+    browser.wait("!t.at('#fault').hidden && t.at('#fault strong').textContent === '7 last row at 4'", 10)
+    print(f"{browser.name}: an address shares a position with a second tab")
+
+
+def take_pictures(browser, page, folder):
+    folder.mkdir(parents=True, exist_ok=True)
+    open_page(browser, page, "#fen=W:W27,32:B18&n=8")
+    browser.run(call("solve", 8))
+    for scheme in ("light", "dark") if browser.name == "chromium" else ("light",):
+        if browser.name == "chromium":
+            browser.colours(scheme)
+        for width in (360, 800, 1400):
+            browser.resize(width, 900)
+            browser.picture(folder / f"{browser.name}-{scheme}-{width}.png", whole=True)
+
+
+def main():
+    words = argparse.ArgumentParser()
+    words.add_argument("--page", help="a page that is there; without it one is made")
+    words.add_argument("--browser", choices=("chromium", "firefox"))
+    words.add_argument("--count", type=int, default=100)
+    words.add_argument("--pictures", type=pathlib.Path)
+    given = words.parse_args()
+    with tempfile.TemporaryDirectory() as name:
+        folder = pathlib.Path(name)
+        page = pathlib.Path(given.page).resolve() if given.page else folder / "board.html"
+        if not given.page:
+            subprocess.run([TOP / "board", page], check=True, stderr=subprocess.DEVNULL)
+        for kind in (browsers.Chromium, browsers.Firefox):
+            if given.browser not in (None, kind.name):
+                continue
+            source = random.Random(SEED)
+            with kind() as browser:
+                check_start(browser, page)
+                for rows in (10, 8):
+                    check_random(browser, rows, given.count if kind is browsers.Chromium else given.count // 4, source)
+                check_rows(browser)
+                check_texts(browser)
+                check_hands(browser)
+                check_keys(browser)
+                check_play(browser, source)
+                check_stop(browser)
+                check_compare(browser)
+                check_mend(browser)
+                check_collection(browser, folder, page)
+                check_languages(browser)
+                check_share(browser, page)
+                if given.pictures:
+                    take_pictures(browser, page, given.pictures)
+                assert not browser.fetched(), browser.fetched()
+                assert not browser.errors, browser.errors
+                print(f"{browser.name}: nothing fetched, no error on the console", flush=True)
+
+
+if __name__ == "__main__":
+    main()

@@ -1,0 +1,333 @@
+#!/usr/bin/env python3
+"""browsers.py: drives Chromium by its DevTools protocol, and Firefox by WebDriver BiDi, without a window.
+
+Both offer the same calls. What a page asks of the network and what it says on the console as an error is kept.
+"""
+import base64
+import json
+import os
+import pathlib
+import re
+import secrets
+import socket
+import struct
+import subprocess
+import tempfile
+import time
+
+STARTS_WITHIN, ANSWERS_WITHIN = 60, 300
+# What lies in the page's own file or memory.
+OWN = ("file:", "blob:", "data:", "about:", "chrome:", "resource:", "moz-extension:")
+KEYS = {"Enter": ("\ue006", 13), "Tab": ("\ue004", 9), "ArrowLeft": ("\ue012", 37), "ArrowUp": ("\ue013", 38),
+        "ArrowRight": ("\ue014", 39), "ArrowDown": ("\ue015", 40), "Delete": ("\ue017", 46), " ": (" ", 32),
+        "Home": ("\ue011", 36)}
+
+
+class WebSocket:
+    """The client's side of a connection over which texts go both ways."""
+
+    def __init__(self, url):
+        host, port, path = re.fullmatch(r"ws://([^:/]+):(\d+)(/.*)", url).groups()
+        self.socket = socket.create_connection((host, int(port)), timeout=ANSWERS_WITHIN)
+        key = base64.b64encode(secrets.token_bytes(16)).decode()
+        self.socket.sendall(f"GET {path} HTTP/1.1\r\nHost: {host}:{port}\r\nUpgrade: websocket\r\nConnection: Upgrade\r\n"
+                            f"Sec-WebSocket-Key: {key}\r\nSec-WebSocket-Version: 13\r\n\r\n".encode())
+        self.buffer = b""
+        while b"\r\n\r\n" not in self.buffer:
+            self.buffer += self.socket.recv(4096)
+        head, self.buffer = self.buffer.split(b"\r\n\r\n", 1)
+        assert b" 101 " in head.split(b"\r\n")[0], head
+
+    def send(self, text):
+        payload, mask = text.encode(), secrets.token_bytes(4)
+        size = len(payload)
+        if size < 126:
+            head = struct.pack("!BB", 0x81, 0x80 | size)
+        elif size < 65536:
+            head = struct.pack("!BBH", 0x81, 0xFE, size)
+        else:
+            head = struct.pack("!BBQ", 0x81, 0xFF, size)
+        masks = (mask * (size // 4 + 1))[:size]
+        masked = (int.from_bytes(payload, "big") ^ int.from_bytes(masks, "big")).to_bytes(size, "big")
+        self.socket.sendall(head + mask + masked)
+
+    def take(self, count):
+        while len(self.buffer) < count:
+            piece = self.socket.recv(1 << 20)
+            assert piece, "the browser has closed the connection"
+            self.buffer += piece
+        taken, self.buffer = self.buffer[:count], self.buffer[count:]
+        return taken
+
+    def receive(self):
+        """The next text."""
+        text = b""
+        while True:
+            first, second = self.take(2)
+            size = second & 0x7F
+            if size == 126:
+                size, = struct.unpack("!H", self.take(2))
+            elif size == 127:
+                size, = struct.unpack("!Q", self.take(8))
+            payload = self.take(size)
+            if first & 0x0F in (0, 1, 2):
+                text += payload
+                if first & 0x80:
+                    return text.decode()
+
+
+class Browser:
+    """What both have in common: a process, and questions with numbers over a connection."""
+    name = ""
+
+    def __init__(self, words, mark):
+        self.folder = tempfile.TemporaryDirectory(prefix="browser", ignore_cleanup_errors=True)
+        home = pathlib.Path(self.folder.name)
+        self.downloads = home / "downloads"
+        self.downloads.mkdir()
+        log = home / "log"
+        with log.open("w", encoding="utf-8") as out:
+            self.process = subprocess.Popen([word.replace("{home}", str(home)) for word in words], stdout=out, stderr=out,
+                                            stdin=subprocess.DEVNULL, env={**os.environ, "HOME": str(home)})
+        until = time.monotonic() + STARTS_WITHIN
+        while not (found := re.search(mark, log.read_text(errors="replace"))):
+            assert self.process.poll() is None and time.monotonic() < until, log.read_text(errors="replace")
+            time.sleep(0.05)
+        self.socket, self.number = WebSocket(self.address(found[1])), 0
+        self.errors, self.requests = [], []
+
+    def address(self, found):
+        return found
+
+    def ask(self, method, more=None, **params):
+        self.number += 1
+        number = self.number
+        self.socket.send(json.dumps({"id": number, "method": method, "params": params, **(more or {})}))
+        while True:
+            said = json.loads(self.socket.receive())
+            if said.get("id") == number:
+                assert "error" not in said, (self.name, method, said)
+                return said.get("result", {})
+            self.note(said.get("method", ""), said.get("params", {}))
+
+    def note(self, method, params):
+        raise NotImplementedError
+
+    def run(self, script):
+        """The value of a script, which may be a promise."""
+        raise NotImplementedError
+
+    def wait(self, condition, seconds=ANSWERS_WITHIN):
+        """Waits until a condition holds in the page."""
+        said = self.run(f"""new Promise((resolve) => {{
+            const end = Date.now() + {seconds * 1000};
+            const look = () => {{
+                const value = {condition};
+                if (value || Date.now() > end) resolve(Boolean(value)); else setTimeout(look, 15);
+            }};
+            look();
+        }})""")
+        assert said, (self.name, "not within", seconds, "s:", condition)
+
+    def middle(self, selector):
+        """Where the middle of an element is."""
+        place = self.run(f"""(() => {{
+            const found = document.querySelector({json.dumps(selector)});
+            found.scrollIntoView({{block: 'center'}});
+            const box = found.getBoundingClientRect();
+            return [box.left + box.width / 2, box.top + box.height / 2];
+        }})()""")
+        return tuple(round(number) for number in place)
+
+    def fetched(self):
+        """What was asked of the network."""
+        return [url for url in self.requests if not url.startswith(OWN)]
+
+    def close(self):
+        self.process.terminate()
+        try:
+            self.process.wait(timeout=20)
+        except subprocess.TimeoutExpired:
+            self.process.kill()
+            self.process.wait()
+        self.folder.cleanup()
+
+    def __enter__(self):
+        return self
+
+    def __exit__(self, *_):
+        self.close()
+
+
+class Chromium(Browser):
+    name = "chromium"
+
+    def __init__(self):
+        super().__init__(["chromium", "--headless", "--no-sandbox", "--disable-gpu", "--hide-scrollbars",
+                          "--disable-background-networking", "--no-first-run", "--remote-debugging-port=0",
+                          "--user-data-dir={home}/profile", "--lang=en-US", "about:blank"], r"DevTools listening on (ws://\S+)")
+        self.session = {}
+        self.ask("Browser.setDownloadBehavior", behavior="allow", downloadPath=str(self.downloads))
+        self.tab()
+
+    def tab(self):
+        target = self.ask("Target.createTarget", url="about:blank")["targetId"]
+        session = self.ask("Target.attachToTarget", targetId=target, flatten=True)["sessionId"]
+        self.session = {"sessionId": session}
+        for domain in ("Page", "Runtime", "Log", "Network", "DOM"):
+            self.ask(f"{domain}.enable", self.session)
+        self.resize(1200, 900)
+
+    def note(self, method, params):
+        if method == "Runtime.exceptionThrown":
+            self.errors.append(json.dumps(params["exceptionDetails"])[:600])
+        elif method == "Log.entryAdded" and params["entry"]["level"] == "error":
+            self.errors.append(json.dumps(params["entry"])[:600])
+        elif method == "Runtime.consoleAPICalled" and params["type"] in ("error", "assert"):
+            self.errors.append(json.dumps(params["args"])[:600])
+        elif method == "Network.requestWillBeSent":
+            self.requests.append(params["request"]["url"])
+
+    def goto(self, url):
+        self.ask("Page.navigate", self.session, url=url)
+
+    def run(self, script):
+        said = self.ask("Runtime.evaluate", self.session, expression=script, awaitPromise=True, returnByValue=True,
+                        timeout=ANSWERS_WITHIN * 1000)
+        assert "exceptionDetails" not in said, (script[:300], said["exceptionDetails"])
+        return said["result"].get("value")
+
+    def resize(self, width, height, is_phone=False):
+        self.ask("Emulation.setDeviceMetricsOverride", self.session, width=width, height=height, deviceScaleFactor=1,
+                 mobile=is_phone)
+        self.ask("Emulation.setTouchEmulationEnabled", self.session, enabled=is_phone)
+
+    def colours(self, scheme):
+        self.ask("Emulation.setEmulatedMedia", self.session,
+                 features=[{"name": "prefers-color-scheme", "value": scheme}])
+
+    def mouse(self, kind, place, button="left", count=1):
+        self.ask("Input.dispatchMouseEvent", self.session, type=kind, x=place[0], y=place[1], button=button,
+                 buttons={"left": 1, "right": 2, "none": 0}[button], clickCount=count)
+
+    def click(self, selector, button="left"):
+        place = self.middle(selector)
+        self.mouse("mousePressed", place, button)
+        self.mouse("mouseReleased", place, button)
+
+    def drag(self, start, end):
+        self.mouse("mousePressed", start)
+        for part in (0.2, 0.6, 1):
+            self.mouse("mouseMoved", [round(a + (b - a) * part) for a, b in zip(start, end)])
+        self.mouse("mouseReleased", end)
+
+    def tap(self, selector):
+        x, y = self.middle(selector)
+        self.ask("Input.dispatchTouchEvent", self.session, type="touchStart", touchPoints=[{"x": x, "y": y}])
+        self.ask("Input.dispatchTouchEvent", self.session, type="touchEnd", touchPoints=[])
+
+    def press(self, *keys):
+        for key in keys:
+            code = KEYS.get(key, ("", 0))[1] or ord(key.upper()[0])
+            text = {"Enter": "\r"}.get(key, key if len(key) == 1 else "")
+            more = {"key": key, "windowsVirtualKeyCode": code, "modifiers": 8 if key.isupper() and len(key) == 1 else 0}
+            self.ask("Input.dispatchKeyEvent", self.session, type="keyDown" if text else "rawKeyDown", text=text, **more)
+            self.ask("Input.dispatchKeyEvent", self.session, type="keyUp", **more)
+
+    def upload(self, selector, file):
+        root = self.ask("DOM.getDocument", self.session)["root"]["nodeId"]
+        node = self.ask("DOM.querySelector", self.session, nodeId=root, selector=selector)["nodeId"]
+        self.ask("DOM.setFileInputFiles", self.session, nodeId=node, files=[str(file)])
+
+    def picture(self, file, whole=False):
+        said = self.ask("Page.captureScreenshot", self.session, format="png", captureBeyondViewport=whole)
+        pathlib.Path(file).write_bytes(base64.b64decode(said["data"]))
+
+
+def value_of(said):
+    """The value that BiDi tells of."""
+    kind, value = said["type"], said.get("value")
+    if kind == "array":
+        return [value_of(item) for item in value]
+    if kind == "object":
+        return {name: value_of(item) for name, item in value}
+    return value
+
+
+class Firefox(Browser):
+    name = "firefox"
+
+    def __init__(self):
+        super().__init__(["firefox-esr", "--headless", "--no-remote", "--remote-debugging-port=0", "--profile", "{home}",
+                          "about:blank"], r"WebDriver BiDi listening on (ws://\S+)")
+        self.ask("session.new", capabilities={"alwaysMatch": {"acceptInsecureCerts": False}})
+        self.ask("session.subscribe", events=["log.entryAdded", "network.beforeRequestSent"])
+        # The first window has no focus, but one that is made later has.
+        self.context = self.ask("browsingContext.create", type="window")["context"]
+        self.resize(1200, 900)
+
+    def address(self, found):
+        return f"{found}/session"
+
+    def tab(self):
+        self.context = self.ask("browsingContext.create", type="tab")["context"]
+        self.resize(1200, 900)
+
+    def note(self, method, params):
+        if method == "log.entryAdded" and params["level"] == "error":
+            self.errors.append(json.dumps(params)[:600])
+        elif method == "network.beforeRequestSent" and params.get("context") == self.context:
+            self.requests.append(params["request"]["url"])
+
+    def goto(self, url):
+        self.ask("browsingContext.navigate", context=self.context, url=url, wait="complete")
+
+    def run(self, script):
+        said = self.ask("script.evaluate", expression=script, awaitPromise=True, userActivation=True,
+                        target={"context": self.context}, serializationOptions={"maxObjectDepth": 20})
+        assert said["type"] == "success", (script[:300], said)
+        return value_of(said["result"])
+
+    def resize(self, width, height, is_phone=False):
+        del is_phone
+        self.ask("browsingContext.setViewport", context=self.context, viewport={"width": width, "height": height},
+                 devicePixelRatio=1)
+
+    def pointer(self, actions, kind="mouse"):
+        self.ask("input.performActions", context=self.context, actions=[
+            {"type": "pointer", "id": kind, "parameters": {"pointerType": kind}, "actions": actions}])
+        self.ask("input.releaseActions", context=self.context)
+
+    def click(self, selector, button="left"):
+        x, y = self.middle(selector)
+        number = {"left": 0, "right": 2}[button]
+        self.pointer([{"type": "pointerMove", "x": x, "y": y}, {"type": "pointerDown", "button": number},
+                      {"type": "pointerUp", "button": number}])
+
+    def tap(self, selector):
+        x, y = self.middle(selector)
+        self.pointer([{"type": "pointerMove", "x": x, "y": y}, {"type": "pointerDown", "button": 0},
+                      {"type": "pointerUp", "button": 0}], "touch")
+
+    def drag(self, start, end):
+        moves = [{"type": "pointerMove", "x": round(start[0] + (end[0] - start[0]) * part),
+                  "y": round(start[1] + (end[1] - start[1]) * part), "duration": 20} for part in (0.2, 0.6, 1)]
+        self.pointer([{"type": "pointerMove", "x": start[0], "y": start[1]}, {"type": "pointerDown", "button": 0}, *moves,
+                      {"type": "pointerUp", "button": 0}])
+
+    def press(self, *keys):
+        actions = []
+        for key in keys:
+            value = KEYS.get(key, (key, 0))[0]
+            actions += [{"type": "keyDown", "value": value}, {"type": "keyUp", "value": value}]
+        self.ask("input.performActions", context=self.context, actions=[{"type": "key", "id": "keys", "actions": actions}])
+
+    def upload(self, selector, file):
+        found = self.ask("browsingContext.locateNodes", context=self.context, locator={"type": "css", "value": selector})
+        element = {"sharedId": found["nodes"][0]["sharedId"]}
+        self.ask("input.setFiles", context=self.context, element=element, files=[str(file)])
+
+    def picture(self, file, whole=False):
+        said = self.ask("browsingContext.captureScreenshot", context=self.context,
+                        origin="document" if whole else "viewport")
+        pathlib.Path(file).write_bytes(base64.b64decode(said["data"]))

@@ -1,0 +1,101 @@
+-- What a program writes and how it ends, by its arguments and its input. `before` is what stood in the report before it,
+-- `after` what stands there after it; `full` says that there was no room for more.
+use Rattle.std.specs.Prelude.{◌≡◌, ◌⊎◌, ℕ, Bool, true, false, List, Option, Some, None, Result, Ok, Err}
+use Rattle.std.specs.Borrow.{Bor}
+use Rattle.std.specs.Option.{option_copied}
+use Rattle.clap.specs.Words.{subcommand_rows_of}
+use Rattle.clap.specs.declared.parser.matches.ArgMatches.{ArgMatches}
+use Rattle.dw_arguments.specs.DeskCommands as desk
+use Rattle.dw_arguments.specs.ReportCommands as reports
+use Rattle.dw_arguments.specs.declared.choices.BoardSize.{BoardSize}
+use Rattle.dw_arguments.specs.declared.choices.BoardSize.TheVariants.{Ten, Eight}
+use Rattle.dw_arguments.specs.declared.desk.DeskArgs.{DeskArgs}
+use Rattle.dw_arguments.specs.declared.error.CliError.{CliError}
+use Rattle.dw_arguments.specs.declared.report.ReportArgs.{ReportArgs}
+use Rattle.dw_board.specs.Boards.{ten, eight}
+use Rattle.dw_board.specs.Geometry.{Geometry}
+use Rattle.dw_commands.specs.Ending.{EndsUnread, ending_of, outcome_of}
+use Rattle.dw_commands.specs.Reports.{EndsBefore, IsLineOf, command_for, request_for}
+use Rattle.dw_commands.specs.declared.ending.Ending.{Ending}
+use Rattle.dw_commands.specs.declared.ending.Ending.TheVariants.{NotOpened}
+use Rattle.dw_desk_commands.specs.Commands.{Obeys}
+use Rattle.dw_desk_commands.specs.Ending.{FailsForCause}
+use Rattle.dw_moves.specs.Moves.{Move}
+use Rattle.dw_report.specs.Running.{RunEnds, StopsRightly}
+use Rattle.dw_report.specs.declared.settings.RunFault.{RunFault}
+use Rattle.dw_report.specs.declared.settings.RunFault.TheVariants.{Write}
+use Rattle.dw_report.specs.declared.settings.Summary.{Summary}
+use Rattle.dw_web.specs.declared.words.Program.{Program}
+use Rattle.dw_web.specs.declared.words.Program.TheVariants.{Report, Desk}
+
+-- the board that arguments name
+abbrev pub board_of : BoardSize → Geometry
+board_of Ten = ten
+board_of Eight = eight
+
+-- `dw` runs: the report on the input is written, or a beginning of it if the run was stopped or there is no more room
+pub record Runs (g : Geometry) (args : ReportArgs) (input : List ℕ) (before after : Option (List ℕ)) (full : Bool)
+    (ending : Ending (Bor (List ℕ))) : Type 0 where
+  pub line : Option (List Move)
+  pub is_line : IsLineOf g (option_copied args.after) line
+  pub left : Option (List ℕ)
+  pub met_end : Bool
+  pub ran : Result Summary RunFault
+  pub runs : RunEnds g (request_for args line) (Some input) left met_end before after ran
+  pub stops : StopsRightly (command_for args.command) args.positions ran
+  pub cause : ran ≡ Err Write → full ≡ true
+  pub ends : ending ≡ ending_of ran args.only
+
+-- a FILE cannot be opened; without one the program runs
+abbrev pub RunsUnlessFile : (Runs : Type 0) → (file : Option (Bor (List ℕ))) → (before after : Option (List ℕ))
+    → Ending (Bor (List ℕ)) → Type 0
+RunsUnlessFile Runs (Some file) before after ending = (ending ≡ NotOpened file) × (after ≡ before)
+RunsUnlessFile Runs None before after ending = Runs
+
+-- `dw` with these arguments: it ends before its run if the token of --after has a fault, or memory was refused
+abbrev pub Reports : ReportArgs → (input : List ℕ) → (before after : Option (List ℕ)) → (full : Bool)
+    → Ending (Bor (List ℕ)) → Type 0
+Reports args input before after full ending =
+    (EndsBefore (board_of args.board) (option_copied args.after) ending × (after ≡ before))
+    ⊎ RunsUnlessFile (Runs (board_of args.board) args input before after full ending) args.file before after ending
+
+-- `dw` with arguments that were read
+abbrev pub DoesReport : (input : List ℕ) → (before after : Option (List ℕ)) → (full : Bool) → Ending (Bor (List ℕ))
+    → Type 0
+DoesReport input before after full ending = (matches : ArgMatches) × (args : ReportArgs)
+    × reports.IsAsked (subcommand_rows_of matches) (Some args) × Reports args input before after full ending
+
+-- `dw-desk` with these arguments
+abbrev pub Desks : DeskArgs → (input : List ℕ) → (before after : Option (List ℕ)) → (full : Bool)
+    → Ending (Bor (List ℕ)) → Type 0
+Desks args input before after full ending =
+    RunsUnlessFile (Obeys (board_of args.board) args (Some input) before after ending × FailsForCause full ending)
+    args.file before after ending
+
+-- `dw-desk` with arguments that were read
+abbrev pub DoesDesk : (input : List ℕ) → (before after : Option (List ℕ)) → (full : Bool) → Ending (Bor (List ℕ))
+    → Type 0
+DoesDesk input before after full ending = (matches : ArgMatches) × (args : DeskArgs)
+    × desk.IsAsked (subcommand_rows_of matches) (Ok args) × Desks args input before after full ending
+
+-- arguments are not obeyed: help was asked for, they are no command, or memory was refused
+abbrev pub Refuses : (before after : Option (List ℕ)) → (full : Bool) → Ending (Bor (List ℕ)) → Type 0
+Refuses before after full ending = (error : CliError) × EndsUnread before after full error ending
+
+-- what the program that was asked for does; with no program nothing is done
+abbrev pub DoesIt : Option Program → (input : List ℕ) → (before after : Option (List ℕ)) → (full : Bool)
+    → Ending (Bor (List ℕ)) → Type 0
+DoesIt (Some Report) input before after full ending = DoesReport input before after full ending
+DoesIt (Some Desk) input before after full ending = DoesDesk input before after full ending
+DoesIt None input before after full ending = ⊥
+
+-- the arguments are not obeyed, or the program does what they ask for
+abbrev pub Answers : Option Program → (input : List ℕ) → (before after : Option (List ℕ)) → (full : Bool)
+    → Ending (Bor (List ℕ)) → Type 0
+Answers program input before after full ending =
+    Refuses before after full ending ⊎ DoesIt program input before after full ending
+
+-- the exit status of an ending, and that no message is written where it has none
+abbrev pub IsTold : Ending (Bor (List ℕ)) → (status message : ℕ) → Type 0
+IsTold ending status message =
+    (status ≡ (outcome_of ending).status) × ((outcome_of ending).is_told ≡ false → message ≡ 0)

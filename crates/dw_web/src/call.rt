@@ -1,0 +1,36 @@
+//! The one call.
+ghost use Rattle.std.specs.Prelude.{◌≡◌, ◌≤◌, ℕ, Bool, true, Some, List, [], length, take, drop};
+ghost use Rattle.std.specs.Borrow.{Bor};
+ghost use Rattle.dw_commands.specs.declared.ending.Ending.{Ending};
+ghost use Rattle.dw_web.specs.Answers.{Answers, IsTold};
+ghost use Rattle.dw_web.specs.Arguments.{program_in};
+
+use crate::ended::Ended;
+use crate::programs::run_within;
+use std::alloc::Global;
+use std::marker::Brand;
+
+/// Runs a program.
+///
+/// The arguments are separated by line feeds; the first is `dw` or `dw-desk`. The input stands for standard input, the
+/// report for standard output and the message for standard error, of which as much is written as there is room for. A
+/// FILE cannot be opened. A report for which there is no room is a failed write.
+#[unsafe(no_mangle)]
+pub extern "C" fn dw_web_run(
+    alloc: Global,
+    arguments: &[u8],
+    input: &[u8],
+    report: &mut [u8],
+    message: &mut [u8],
+    ended: &mut Ended,
+)
+    ensures answers { (full : Bool) × (ending : Ending (Bor (List ℕ)))
+        × Answers (program_in arguments.now) input.now (Some []) (Some (take ended.new.report report.new)) full ending
+        × IsTold ending ended.new.status ended.new.message
+        × (full ≡ true → ended.new.report ≡ length report.old) }
+    ensures report { ended.new.report ≤ length report.old }
+    ensures rest { drop ended.new.report report.new ≡ drop ended.new.report report.old }
+    ensures message { ended.new.message ≤ length message.old }
+{
+    *ended = run_within::<Brand>(alloc, arguments, input, report, message);
+}

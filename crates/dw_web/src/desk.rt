@@ -1,0 +1,97 @@
+//! `dw-desk`, over bytes.
+ghost use Rattle.std.specs.Prelude.{◌≡◌, ◌⊎◌, ◌≤◌, ℕ, List, Some, false, length};
+ghost use Rattle.std.specs.Borrow.{Bor};
+ghost use Rattle.dw_commands.specs.declared.ending.Ending.{Ending as AnyEnding};
+ghost use Rattle.dw_desk_commands.specs.Commands.{Obeys};
+ghost use Rattle.dw_desk_commands.specs.Ending.{FailsForCause};
+ghost use Rattle.dw_web.specs.Answers.{Desks, DoesDesk, IsTold, Refuses, RunsUnlessFile};
+
+use crate::room::{Limit, Room};
+use crate::said::{Told, refuse, tell};
+use crate::words::words_of;
+use dw_arguments::{BoardSize, DeskArgs};
+use dw_board::{Board, Eight, Ten};
+use dw_commands::Ending;
+use dw_desk_commands::{DeskWatcher, run_on};
+use dw_notation::Reading;
+use dw_study::{Slices, Watcher};
+use std::alloc::Global;
+
+/// The program's name, in what it says of itself.
+const PROGRAM: &str = "dw-desk";
+
+/// Is told how far a search is, and shows it to nobody.
+#[derive(Drop)]
+struct Nobody;
+
+impl Watcher for Nobody {
+    fn watch(&mut self, _moves: u8, _expanded: u64) {}
+}
+
+impl DeskWatcher for Nobody {
+    fn begin(&mut self, _problem: u32) {}
+
+    fn end(&mut self) {}
+}
+
+/// Runs `dw-desk` with the words of a command line.
+pub(crate) fn run_words<L: Limit>(
+    alloc: Global,
+    arguments: &[u8],
+    input: &[u8],
+    room: &mut Room<L>,
+    message: &mut [u8],
+) -> Told
+    requires { room.old.has_failed ≡ false }
+    ensures answers { (ending : AnyEnding (Bor (List ℕ)))
+        × (Refuses (Some (room.old.bytes.items)) (Some (room.new.bytes.items)) room.new.has_failed ending
+        ⊎ DoesDesk input.now (Some (room.old.bytes.items)) (Some (room.new.bytes.items)) room.new.has_failed ending)
+        × IsTold ending result.status result.message }
+    ensures message { result.message ≤ length message.old }
+{
+    match words_of(alloc, PROGRAM, arguments) {
+        Ok(words) => match DeskArgs::parse(alloc, words.as_slice()) {
+            Ok(args) => tell(PROGRAM, &run(alloc, &args, input, room), message),
+            Err(error) => refuse(PROGRAM, &error, room, message),
+        },
+        Err(error) => refuse(PROGRAM, &error, room, message),
+    }
+}
+
+/// Does what the arguments ask for, on the board that they name.
+fn run<'a, L: Limit>(
+    alloc: Global,
+    args: &DeskArgs<'a>,
+    input: &[u8],
+    room: &mut Room<L>,
+) -> Ending<&'a str>
+    requires { room.old.has_failed ≡ false }
+    ensures { Desks args.now input.now (Some (room.old.bytes.items)) (Some (room.new.bytes.items)) room.new.has_failed
+        result }
+{
+    match args.board {
+        BoardSize::Ten => run_from::<Ten, L>(alloc, args, input, room),
+        BoardSize::Eight => run_from::<Eight, L>(alloc, args, input, room),
+    }
+}
+
+/// Does what was asked for, with the problems of the input. There are no files here.
+fn run_from<'a, B: Board, L: Limit>(
+    alloc: Global,
+    args: &DeskArgs<'a>,
+    input: &[u8],
+    room: &mut Room<L>,
+) -> Ending<&'a str>
+    requires rows { (B.geometry.rows ≡ 10) ⊎ (B.geometry.rows ≡ 8) }
+    requires room { room.old.has_failed ≡ false }
+    ensures { RunsUnlessFile (Obeys B.geometry args.now (Some input.now) (Some (room.old.bytes.items))
+        (Some (room.new.bytes.items)) result × FailsForCause room.new.has_failed result)
+        args.now.file (Some (room.old.bytes.items)) (Some (room.new.bytes.items)) result }
+{
+    if let Some(path) = args.file {
+        return Ending::NotOpened(path);
+    }
+    let mut slices = Slices::new(u64::MAX, Nobody);
+    let mut source = Reading::new(input);
+    run_on::<B, _, _, _>(alloc, &mut slices, args, &mut source, room)
+}

@@ -1,0 +1,13 @@
+//! How a program ended, as the page is told.
+
+/// How a program ended, and how much it wrote.
+#[repr(C)]
+#[derive(Clone, Copy)]
+pub struct Ended {
+    /// The exit status, 0 to 3.
+    pub status: u8,
+    /// How many bytes of the report were written.
+    pub report: usize,
+    /// How many bytes of the message were written.
+    pub message: usize,
+}

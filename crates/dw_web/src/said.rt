@@ -1,0 +1,101 @@
+//! What a program says on standard error, written into a slice.
+ghost use Rattle.std.specs.Prelude.{◌≡◌, ◌≤◌, ℕ, List, Some, false, length};
+ghost use Rattle.std.specs.Borrow.{Bor};
+ghost use Rattle.dw_commands.specs.declared.ending.Ending.{Ending as AnyEnding};
+ghost use Rattle.dw_web.specs.Answers.{IsTold, Refuses};
+
+use crate::ended::Ended;
+use crate::room::{Limit, Room};
+use dw_arguments::CliError;
+use dw_commands::{Ending, Message, end_unread, outcome};
+use std::fmt;
+use std::fmt::Write;
+
+/// The exit status of a program, and how many bytes of its message were written.
+#[derive(Clone, Copy)]
+pub(crate) struct Told {
+    pub(crate) status: u8,
+    pub(crate) message: usize,
+}
+
+impl Told {
+    /// The same, with a report of so many bytes.
+    pub(crate) fn with(self, report: usize) -> Ended
+        ensures { result ≡ record { status = self.status; report = report; message = self.message } }
+    {
+        Ended {
+            status: self.status,
+            report,
+            message: self.message,
+        }
+    }
+}
+
+/// Ends a program whose words are not obeyed: writes the help that was asked for, or says why.
+pub(crate) fn refuse<L: Limit>(
+    program: &str,
+    error: &CliError,
+    room: &mut Room<L>,
+    message: &mut [u8],
+) -> Told
+    requires { room.old.has_failed ≡ false }
+    ensures refuses { (ending : AnyEnding (Bor (List ℕ)))
+        × Refuses (Some room.old.bytes.items) (Some room.new.bytes.items) room.new.has_failed ending
+        × IsTold ending result.status result.message }
+    ensures fits { result.message ≤ length message.old }
+{
+    tell(program, &end_unread(error, room), message)
+}
+
+/// Writes the message of an ending, as much as there is room for, and tells its exit status.
+pub(crate) fn tell(program: &str, ending: &Ending<&str>, message: &mut [u8]) -> Told
+    ensures told { IsTold ending.now result.status result.message }
+    ensures fits { result.message ≤ length message.old }
+{
+    let exit = outcome(ending);
+    if !exit.is_told {
+        return Told {
+            status: exit.status,
+            message: 0,
+        };
+    }
+    Told {
+        status: exit.status,
+        message: write_message(Message { program, ending }, message),
+    }
+}
+
+/// Writes a message into a slice, as much as there is room for, and tells how many bytes it is.
+fn write_message(said: Message<'_, &str>, message: &mut [u8]) -> usize
+    ensures { result ≤ length message.old }
+{
+    let room = message.len();
+    let mut front = Front {
+        bytes: message,
+        used: 0,
+    };
+    let _ = write!(front, "{said}");
+    front.used.min(room)
+}
+
+/// The front of a slice that is written.
+#[derive(Drop)]
+struct Front<'a> {
+    bytes: &'a mut [u8],
+    used: usize,
+}
+
+impl Write for Front<'_> {
+    fn write_str(&mut self, text: &str) -> fmt::Result {
+        for byte in text.as_bytes() {
+            match self.bytes.get_mut(self.used) {
+                None => return Err(fmt::Error),
+                Some(cell) => {
+                    *cell = *byte;
+                    self.used += 1;
+                }
+            }
+        }
+        Ok(())
+    }
+}

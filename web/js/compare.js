@@ -1,0 +1,95 @@
+/** Comparing an author's solution with the truth. */
+import { byId, control, make } from './dom.js';
+import { checkIn } from './answers.js';
+import { textOf } from './engine.js';
+import { positionOf } from './position.js';
+import { boardOf } from './rules.js';
+import { reportOf } from './search.js';
+import { Stopped } from './workers.js';
+
+/**
+ * @typedef {import('./app.js').App} App
+ * @typedef {import('./answers.js').Remark} Remark
+ */
+
+/**
+ * Brings the comparison to life.
+ * @param {App} app
+ */
+export function comparing(app) {
+    /** @type {AbortController | null} */
+    let running = null;
+    /** @type {ReturnType<typeof checkIn> | null} */
+    let checked = null;
+    let fen = '', failed = '';
+    const field = control('movetext', HTMLTextAreaElement);
+    const stop = control('stop-compare', HTMLButtonElement), go = control('compare', HTMLButtonElement);
+
+    /** Compares what stands in the field; a whole game brings its own position. */
+    async function compare() {
+        running?.abort();
+        running = new AbortController();
+        const { signal } = running, isGame = /^\s*\[/.test(field.value), { rows } = app.position;
+        checked = null;
+        failed = '';
+        stop.disabled = false;
+        go.disabled = true;
+        show();
+        const game = isGame ? field.value : `[FEN "${app.fen}"]\n\n${field.value}\n`;
+        try {
+            const words = ['dw-desk', 'check', ...boardOf(rows), '--problem', '1'];
+            const text = reportOf(await app.searches.ask(words, game, signal));
+            checked = checkIn(text);
+            fen = checked.fen;
+            if (isGame && fen) app.edit(positionOf(fen, rows));
+        } catch (error) {
+            failed = error instanceof Stopped ? app.say('stoppedEarly') : app.say('failed', String(error));
+        }
+        stop.disabled = true;
+        go.disabled = false;
+        show();
+    }
+
+    /** @param {string[]} moves */
+    async function playOut(moves) {
+        const played = await app.rules.follow(fen, moves, app.position.rows);
+        app.look(played[played.length - 1]?.fen ?? null);
+    }
+
+    /** A remark as a sentence. */
+    function sentence(/** @type {Remark} */ { kind, beginning, moves, refutation }) {
+        const where = beginning.length ? beginning.join(' ') : app.say('start');
+        if (kind === 'fails') return app.say('remarkFails', [...beginning, ...moves].join(' '), refutation);
+        if (kind === 'also') return app.say('remarkAlso', where, moves.join(', '));
+        if (kind === 'open') return app.say('remarkOpen', where, moves.join(', '));
+        return app.say('remarkEnds', where);
+    }
+
+    /** A remark; its button shows the position that it speaks of. */
+    function item(/** @type {Remark} */ remark) {
+        const { beginning, moves, kind, line } = remark;
+        const path = kind === 'fails' ? [...beginning, ...moves] : beginning;
+        const button = make('button', { type: 'button', class: `remark ${kind}`, 'data-line': line },
+            make('span', { class: 'sign', 'aria-hidden': 'true' }, kind === 'fails' || kind === 'ends' ? '✗' : '!'),
+            ` ${sentence(remark)}`);
+        button.addEventListener('click', () => void playOut(path));
+        return make('li', {}, button);
+    }
+
+    function show() {
+        const said = checked ? [checked.refused, ...checked.summary].filter(Boolean).join('. ') : failed;
+        byId('compared').textContent = running && !checked && !failed ? app.say('searching') : said;
+        byId('compared').dataset.line = checked?.summary.at(-1) ?? '';
+        byId('remarks').replaceChildren(...(checked?.remarks ?? []).map(item));
+    }
+
+    go.addEventListener('click', () => void compare());
+    stop.addEventListener('click', () => running?.abort());
+    byId('movetext-file').addEventListener('change', async () => {
+        const file = control('movetext-file', HTMLInputElement).files?.[0];
+        if (!file) return;
+        field.value = textOf(new Uint8Array(await file.arrayBuffer()));
+        void compare();
+    });
+    app.on(['spoken'], show);
+}

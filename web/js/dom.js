@@ -1,0 +1,104 @@
+/** Making elements. Text from outside comes into the page as text nodes alone. */
+
+const SVG = 'http://www.w3.org/2000/svg';
+
+/**
+ * The element of this id and kind, which has to be there.
+ * @template {HTMLElement} T
+ * @param {string} id
+ * @param {new () => T} kind
+ * @returns {T}
+ */
+export function control(id, kind) {
+    const found = document.getElementById(id);
+    if (!(found instanceof kind)) throw new Error(`no element ${id}`);
+    return found;
+}
+
+/**
+ * The element of this id, which has to be there.
+ * @param {string} id
+ */
+export const byId = (id) => control(id, HTMLElement);
+
+/**
+ * An element with attributes and children.
+ * @template {keyof HTMLElementTagNameMap} T
+ * @param {T} tag
+ * @param {Record<string, string>} attributes
+ * @param {(Node | string)[]} children
+ */
+export function make(tag, attributes = {}, ...children) {
+    const made = document.createElement(tag);
+    for (const [name, value] of Object.entries(attributes)) made.setAttribute(name, value);
+    made.append(...children);
+    return made;
+}
+
+/**
+ * An element of a picture.
+ * @template {keyof SVGElementTagNameMap} T
+ * @param {T} tag
+ * @param {Record<string, string>} attributes
+ * @param {Node[]} children
+ */
+export function draw(tag, attributes = {}, ...children) {
+    const made = document.createElementNS(SVG, tag);
+    for (const [name, value] of Object.entries(attributes)) made.setAttribute(name, value);
+    made.append(...children);
+    return made;
+}
+
+/**
+ * Shows an element or hides it.
+ * @param {string} id
+ * @param {boolean} isShown
+ */
+export function reveal(id, isShown) {
+    byId(id).hidden = !isShown;
+}
+
+/** Waits until the page has drawn itself, so that long work does not hold it up. */
+export const breathe = () => new Promise((resolve) => setTimeout(resolve, 0));
+
+/**
+ * Lets the browser save a file.
+ * @param {string} name
+ * @param {string | Uint8Array} content
+ * @param {string} type
+ */
+export function save(name, content, type) {
+    const link = make('a', { download: name, href: URL.createObjectURL(new Blob([content], { type })) });
+    link.click();
+    setTimeout(() => URL.revokeObjectURL(link.href), 60_000);
+}
+
+/**
+ * Lets one of several buttons be chosen, as radio buttons are.
+ * @param {HTMLElement[]} buttons
+ * @param {(button: HTMLElement) => void} choose
+ * @param {string} mark The attribute that says which one is chosen.
+ */
+export function chooseOne(buttons, choose, mark = 'aria-checked') {
+    const show = (/** @type {HTMLElement} */ chosen) => buttons.forEach((button) => {
+        button.setAttribute(mark, String(button === chosen));
+        button.tabIndex = button === chosen ? 0 : -1;
+    });
+    const pick = (/** @type {HTMLElement} */ button) => {
+        show(button);
+        choose(button);
+    };
+    buttons.forEach((button, i) => {
+        button.addEventListener('click', () => pick(button));
+        button.addEventListener('keydown', (event) => {
+            const step = { ArrowRight: 1, ArrowDown: 1, ArrowLeft: -1, ArrowUp: -1 }[event.key];
+            if (!step) return;
+            event.preventDefault();
+            const next = buttons[(i + step + buttons.length) % buttons.length];
+            next.focus();
+            pick(next);
+        });
+    });
+    show(buttons.find((button) => button.getAttribute(mark) === 'true') ?? buttons[0]);
+    return pick;
+}

@@ -1,0 +1,76 @@
+/** What is kept: the position in the address, the list and the settings in the browser. */
+
+/**
+ * @typedef {import('./squares.js').Rows} Rows
+ * @typedef {{fen: string, n: number, rows: Rows}} Address
+ */
+
+/**
+ * What an address says after its `#`.
+ * @param {string} hash
+ * @returns {Partial<Address>}
+ */
+export function addressIn(hash) {
+    /** @type {Partial<Address>} */
+    const said = {};
+    for (const part of hash.replace(/^#/, '').split('&')) {
+        const at = part.indexOf('='), value = decoded(part.slice(at + 1));
+        if (part.startsWith('fen=')) said.fen = value;
+        if (part.startsWith('n=') && Number(value) >= 1 && Number(value) <= 20) said.n = Math.round(Number(value));
+        if (part.startsWith('rows=')) said.rows = value === '8' ? 8 : 10;
+    }
+    return said;
+}
+
+/** @param {string} text */
+function decoded(text) {
+    try {
+        return decodeURIComponent(text.replaceAll('+', ' '));
+    } catch {
+        return text;
+    }
+}
+
+/**
+ * The part of an address after its `#`.
+ * @param {Address} address
+ */
+export const addressOf = ({ fen, n, rows }) => `#fen=${fen}&n=${n}${rows === 8 ? '&rows=8' : ''}`;
+
+/** What a browser lets the page keep. */
+export class Store {
+    /** @param {() => Storage} storage */
+    constructor(storage) {
+        this.storage = storage;
+        this.isKept = true;
+    }
+
+    /**
+     * What was kept under a name.
+     * @param {string} name
+     */
+    get(name) {
+        try {
+            const text = this.storage().getItem(`dw-board ${name}`);
+            return text === null ? null : JSON.parse(text);
+        } catch {
+            this.isKept = false;
+            return null;
+        }
+    }
+
+    /**
+     * Keeps a value under a name, if the browser allows it.
+     * @param {string} name
+     * @param {unknown} value
+     */
+    put(name, value) {
+        try {
+            this.storage().setItem(`dw-board ${name}`, JSON.stringify(value));
+            this.isKept = true;
+        } catch {
+            this.isKept = false;
+        }
+        return this.isKept;
+    }
+}

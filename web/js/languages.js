@@ -1,0 +1,170 @@
+/** The words of the page in four languages. */
+
+/** @typedef {'en' | 'nl' | 'fr' | 'ru'} Language */
+
+/** @type {readonly Language[]} */
+export const LANGUAGES = ['en', 'nl', 'fr', 'ru'];
+
+/** Each text in English, Dutch, French and Russian. A number or a text stands for `#`. */
+const TEXTS = {
+    title: ['Draughts problems', 'Damproblemen', 'Problèmes de dames', 'Шашечные задачи'],
+    lead: ['Place the pieces, ask, and get the proved answer.', 'Zet de stukken neer, vraag, en krijg het bewezen antwoord.', 'Placez les pièces, demandez, et obtenez la réponse prouvée.', 'Расставьте шашки, спросите и получите доказанный ответ.'],
+    toBoard: ['To the board', 'Naar het bord', 'Vers le damier', 'К доске'],
+    language: ['Language', 'Taal', 'Langue', 'Язык'],
+    board: ['Board', 'Bord', 'Damier', 'Доска'],
+    mode: ['What a click does', 'Wat een klik doet', 'Effet d’un clic', 'Что делает щелчок'],
+    setUp: ['Set up', 'Opzetten', 'Placer', 'Расстановка'],
+    play: ['Play', 'Spelen', 'Jouer', 'Игра'],
+    palette: ['Piece to place', 'Stuk om te zetten', 'Pièce à placer', 'Какую шашку ставить'],
+    whiteMan: ['White man', 'Witte schijf', 'Pion blanc', 'Белая шашка'],
+    whiteKing: ['White king', 'Witte dam', 'Dame blanche', 'Белая дамка'],
+    blackMan: ['Black man', 'Zwarte schijf', 'Pion noir', 'Чёрная шашка'],
+    blackKing: ['Black king', 'Zwarte dam', 'Dame noire', 'Чёрная дамка'],
+    eraser: ['Eraser', 'Gum', 'Gomme', 'Ластик'],
+    emptySquare: ['empty', 'leeg', 'vide', 'пусто'],
+    square: ['Square #', 'Veld #', 'Case #', 'Поле #'],
+    takeBack: ['Take back', 'Terugnemen', 'Reprendre', 'Вернуть ход'],
+    toStart: ['Back to the start', 'Terug naar het begin', 'Retour au début', 'К началу'],
+    previousMove: ['Previous move', 'Vorige zet', 'Coup précédent', 'Предыдущий ход'],
+    nextMove: ['Next move', 'Volgende zet', 'Coup suivant', 'Следующий ход'],
+    noMoves: ['# has no move left and has lost.', '# heeft geen zet meer en heeft verloren.', '# n’ont plus de coup et ont perdu.', '# не имеют ходов и проиграли.'],
+    choice: ['Which of these captures?', 'Welke van deze slagen?', 'Laquelle de ces prises ?', 'Какое из этих взятий?'],
+    boardHint: ['Click to place, drag to move, right click to erase. Keys: arrows, w W b B, Delete.', 'Klik om te zetten, sleep om te verplaatsen, rechts klikken wist. Toetsen: pijlen, w W b B, Delete.', 'Cliquer pour placer, glisser pour déplacer, clic droit pour effacer. Clavier : flèches, w W b B, Suppr.', 'Щелчок ставит, перетаскивание передвигает, правый щелчок стирает. Клавиши: стрелки, w W b B, Delete.'],
+    playHint: ['Click a piece of the side to move, then the square it goes to.', 'Klik een stuk van de partij aan zet, dan het veld waar het heen gaat.', 'Cliquez une pièce du camp au trait, puis sa case d’arrivée.', 'Щёлкните шашку стороны, чей ход, затем поле, куда она идёт.'],
+    turn: ['To move', 'Aan zet', 'Trait', 'Ход'],
+    white: ['White', 'Wit', 'Les blancs', 'Белые'],
+    black: ['Black', 'Zwart', 'Les noirs', 'Чёрные'],
+    rows: ['Board', 'Bord', 'Damier', 'Доска'],
+    rows10: ['10 × 10', '10 × 10', '10 × 10', '10 × 10'],
+    rows8: ['8 × 8', '8 × 8', '8 × 8', '8 × 8'],
+    numbers: ['Numbers', 'Nummers', 'Numéros', 'Номера'],
+    undo: ['Undo', 'Ongedaan maken', 'Annuler', 'Отменить'],
+    redo: ['Redo', 'Opnieuw', 'Rétablir', 'Повторить'],
+    clear: ['Clear', 'Leegmaken', 'Vider', 'Очистить'],
+    opening: ['Opening', 'Beginstand', 'Position initiale', 'Начальная'],
+    flip: ['Turn the board', 'Bord draaien', 'Tourner le damier', 'Повернуть доску'],
+    mirror: ['Mirror', 'Spiegelen', 'Miroir', 'Отразить'],
+    exchange: ['Exchange colours', 'Kleuren verwisselen', 'Inverser les couleurs', 'Сменить цвета'],
+    fault: ['Fault # at byte #: #', 'Fout # bij byte #: #', 'Faute # à l’octet # : #', 'Ошибка # в байте #: #'],
+    panels: ['What to do', 'Wat te doen', 'Que faire', 'Что делать'],
+    tabSolve: ['Solve', 'Oplossen', 'Résoudre', 'Решить'],
+    tabCompare: ['Compare', 'Vergelijken', 'Comparer', 'Сравнить'],
+    tabImprove: ['Improve', 'Verbeteren', 'Améliorer', 'Улучшить'],
+    tabCollection: ['Collection', 'Verzameling', 'Recueil', 'Сборник'],
+    most: ['Up to', 'Tot', 'Jusqu’à', 'До'],
+    moves: ['moves', 'zetten', 'coups', 'ходов'],
+    exact: ['exactly', 'precies', 'exactement', 'ровно'],
+    solve: ['Solve', 'Los op', 'Résoudre', 'Решить'],
+    stop: ['Stop', 'Stop', 'Arrêter', 'Стоп'],
+    searching: ['Searching', 'Zoekt', 'Recherche', 'Поиск'],
+    searchingSolution: ['The verdict stands; its solution is being written', 'Het oordeel staat vast; de oplossing wordt geschreven', 'Le verdict est rendu ; la solution s’écrit', 'Оценка готова; записывается решение'],
+    noWinYet: ['no win in #', 'geen winst in #', 'pas de gain en #', 'нет выигрыша в #'],
+    expanded: ['# positions', '# standen', '# positions', '# позиций'],
+    seconds: ['# s', '# s', '# s', '# с'],
+    done: ['Done in # s.', 'Klaar in # s.', 'Terminé en # s.', 'Готово за # с.'],
+    stopped: ['Stopped: no win in #.', 'Gestopt: geen winst in #.', 'Arrêté : pas de gain en #.', 'Остановлено: нет выигрыша в #.'],
+    stoppedEarly: ['Stopped.', 'Gestopt.', 'Arrêté.', 'Остановлено.'],
+    failed: ['It failed: #', 'Het mislukte: #', 'Échec : #', 'Ошибка: #'],
+    sound: ['Sound', 'Correct', 'Correct', 'Корректно'],
+    dualWord: ['Dual', 'Dual', 'Dual', 'Дуаль'],
+    cooked: ['Cooked', 'Bijoplossing', 'Démoli', 'Побочное решение'],
+    unsolvable: ['No win', 'Geen winst', 'Pas de gain', 'Нет выигрыша'],
+    undecided: ['Undecided', 'Onbeslist', 'Indécis', 'Не решено'],
+    refused: ['Refused', 'Geweigerd', 'Refusé', 'Отклонено'],
+    saySound: ['Sound: # to play and win in #. The only key is #.', 'Correct: # aan zet en wint in #. De enige sleutelzet is #.', 'Correct : # jouent et gagnent en #. La seule clé est #.', 'Корректно: # начинают и выигрывают в #. Единственный ключ — #.'],
+    sayDual: ['Dual: # to play and win in # by #, but later there is a choice.', 'Dual: # aan zet en wint in # met #, maar later is er een keus.', 'Dual : # jouent et gagnent en # par #, mais il y a un choix plus tard.', 'Дуаль: # начинают и выигрывают в # ходом #, но позже есть выбор.'],
+    sayCooked: ['Cooked: # to play win in # by each of #.', 'Bijoplossing: # aan zet wint in # met elk van #.', 'Démoli : # jouent et gagnent en # par chacun de #.', 'Побочное решение: # выигрывают в # каждым из ходов #.'],
+    sayShorter: ['Cooked: # to play win sooner than in #, in #, by #.', 'Bijoplossing: # aan zet wint eerder dan in #, in #, met #.', 'Démoli : # gagnent plus vite qu’en #, en #, par #.', 'Побочное решение: # выигрывают быстрее чем в #, в #, ходом #.'],
+    sayUnsolvable: ['No win: # to play cannot win in #.', 'Geen winst: # aan zet wint niet in #.', 'Pas de gain : # au trait ne gagnent pas en #.', 'Нет выигрыша: # не выигрывают в #.'],
+    sayChoice: ['The choice stands after #:', 'De keus komt na #:', 'Le choix vient après # :', 'Выбор возникает после #:'],
+    tries: ['Tries', 'Schijnoplossingen', 'Essais', 'Ложные следы'],
+    refutedBy: ['refuted by', 'weerlegd door', 'réfuté par', 'опровергается'],
+    winsIn: ['wins in #', 'wint in #', 'gagne en #', 'выигрывает в #'],
+    solution: ['Solution', 'Oplossing', 'Solution', 'Решение'],
+    moreLines: ['There are more lines than are shown.', 'Er zijn meer varianten dan getoond.', 'Il y a d’autres variantes.', 'Показаны не все варианты.'],
+    unfold: ['# more moves', 'nog # zetten', 'encore # coups', 'ещё # ходов'],
+    copy: ['Copy as PDN', 'Kopieer als PDN', 'Copier en PDN', 'Копировать PDN'],
+    copied: ['Copied.', 'Gekopieerd.', 'Copié.', 'Скопировано.'],
+    certificate: ['Certificate', 'Certificaat', 'Certificat', 'Сертификат'],
+    firsts: ['What each first move does', 'Wat elke eerste zet doet', 'Effet de chaque premier coup', 'Что даёт каждый первый ход'],
+    compareLead: ['Paste the author’s solution of the position on the board.', 'Plak de auteursoplossing van de stand op het bord.', 'Collez la solution d’auteur de la position du damier.', 'Вставьте авторское решение позиции на доске.'],
+    authorsSolution: ['The author’s solution', 'De auteursoplossing', 'La solution d’auteur', 'Авторское решение'],
+    compare: ['Compare', 'Vergelijk', 'Comparer', 'Сравнить'],
+    openFile: ['Open a file', 'Open een bestand', 'Ouvrir un fichier', 'Открыть файл'],
+    remarkFails: ['# does not win: # refutes it.', '# wint niet: # weerlegt het.', '# ne gagne pas : # le réfute.', '# не выигрывает: # опровергает.'],
+    remarkAlso: ['After # this wins too: #', 'Na # wint ook: #', 'Après # gagne aussi : #', 'После # выигрывает и #'],
+    remarkOpen: ['After # no answer is given to #', 'Na # ontbreekt het antwoord op #', 'Après # il manque la réponse à #', 'После # нет ответа на #'],
+    remarkEnds: ['The solution ends too soon after #', 'De oplossing eindigt te vroeg na #', 'La solution s’arrête trop tôt après #', 'Решение обрывается после #'],
+    start: ['the start', 'het begin', 'le début', 'начала'],
+    improveLead: ['Sound problems that are one change away from the position on the board.', 'Correcte problemen, één verandering verwijderd van de stand op het bord.', 'Problèmes corrects à un changement près de la position du damier.', 'Корректные задачи, отличающиеся от позиции на доске одним изменением.'],
+    winIn: ['Win in', 'Winst in', 'Gain en', 'Выигрыш в'],
+    improve: ['Improve', 'Verbeter', 'Améliorer', 'Улучшить'],
+    mendState: ['# sound of # tried', '# correct van # geprobeerd', '# corrects sur # essayés', '# корректных из # проверенных'],
+    openProblems: ['Open FEN or PDN', 'Open FEN of PDN', 'Ouvrir FEN ou PDN', 'Открыть FEN или PDN'],
+    dropHint: ['or drop a file here', 'of sleep een bestand hierheen', 'ou déposez un fichier ici', 'или перетащите файл сюда'],
+    tooLarge: ['The file has more than 10 MB.', 'Het bestand is groter dan 10 MB.', 'Le fichier dépasse 10 Mo.', 'Файл больше 10 МБ.'],
+    addThis: ['Add the position on the board', 'Voeg de stand op het bord toe', 'Ajouter la position du damier', 'Добавить позицию с доски'],
+    problemTitle: ['Title', 'Titel', 'Titre', 'Название'],
+    author: ['Author', 'Auteur', 'Auteur', 'Автор'],
+    add: ['Add', 'Voeg toe', 'Ajouter', 'Добавить'],
+    judgeAll: ['Judge all', 'Beoordeel alle', 'Tout juger', 'Оценить все'],
+    show: ['Show', 'Toon', 'Montrer', 'Показать'],
+    allVerdicts: ['all', 'alle', 'tous', 'все'],
+    notJudged: ['Not judged', 'Niet beoordeeld', 'Non jugé', 'Не оценено'],
+    sort: ['Sort by', 'Sorteer op', 'Trier par', 'Сортировать'],
+    byNumber: ['number', 'nummer', 'numéro', 'по номеру'],
+    byVerdict: ['verdict', 'oordeel', 'verdict', 'по оценке'],
+    byMoves: ['moves', 'zetten', 'coups', 'по числу ходов'],
+    listState: ['# problems, # judged', '# problemen, # beoordeeld', '# problèmes, # jugés', '# задач, # оценено'],
+    shownOf: ['# of # shown', '# van # getoond', '# sur # montrés', 'показано # из #'],
+    showMore: ['Show more', 'Toon meer', 'Montrer plus', 'Показать ещё'],
+    savePdn: ['Save as PDN with solutions', 'Bewaar als PDN met oplossingen', 'Enregistrer en PDN avec solutions', 'Сохранить PDN с решениями'],
+    savePage: ['Save a page to print', 'Bewaar een pagina om af te drukken', 'Enregistrer une page à imprimer', 'Сохранить страницу для печати'],
+    saveJson: ['Save as JSON', 'Bewaar als JSON', 'Enregistrer en JSON', 'Сохранить JSON'],
+    forget: ['Empty the list', 'Leeg de lijst', 'Vider la liste', 'Очистить список'],
+    saving: ['Writing', 'Schrijft', 'Écriture', 'Запись'],
+    saved: ['Written: #', 'Geschreven: #', 'Écrit : #', 'Записано: #'],
+    kept: ['The list is kept in this browser.', 'De lijst blijft in deze browser bewaard.', 'La liste est conservée dans ce navigateur.', 'Список хранится в этом браузере.'],
+    notKept: ['This browser does not let the page keep the list: save it as a file.', 'Deze browser laat de lijst niet bewaren: bewaar haar als bestand.', 'Ce navigateur ne conserve pas la liste : enregistrez-la.', 'Этот браузер не даёт хранить список: сохраните его в файл.'],
+    problem: ['Problem #', 'Probleem #', 'Problème #', 'Задача #'],
+    whiteToMove: ['White to play', 'Wit aan zet', 'Trait aux blancs', 'Ход белых'],
+    blackToMove: ['Black to play', 'Zwart aan zet', 'Trait aux noirs', 'Ход чёрных'],
+    remove: ['Remove', 'Verwijder', 'Retirer', 'Убрать'],
+    foot: ['All answers come from programs that are proved correct, compiled into this page. Nothing is sent anywhere.', 'Alle antwoorden komen van programma’s waarvan de juistheid bewezen is, in deze pagina ingebouwd. Er wordt niets verstuurd.', 'Toutes les réponses viennent de programmes prouvés corrects, compilés dans cette page. Rien n’est envoyé.', 'Все ответы дают доказанно верные программы, встроенные в эту страницу. Ничего никуда не отправляется.'],
+};
+
+/** @typedef {keyof typeof TEXTS} Key */
+
+/**
+ * The language of the browser, if it is one of the four, else English.
+ * @param {readonly string[]} wanted
+ * @returns {Language}
+ */
+export function languageOf(wanted) {
+    for (const tag of wanted) {
+        const found = LANGUAGES.find((language) => tag.toLowerCase().split('-')[0] === language);
+        if (found) return found;
+    }
+    return 'en';
+}
+
+/**
+ * A text, with its marks `#` filled in order.
+ * @param {Language} language
+ * @param {Key} key
+ * @param {(string | number)[]} values
+ */
+export function textIn(language, key, ...values) {
+    let at = 0;
+    return TEXTS[key][LANGUAGES.indexOf(language)].replace(/#/g, () => String(values[at++] ?? ''));
+}
+
+/**
+ * The name of a text, if there is one with it.
+ * @param {string | undefined} name
+ * @returns {Key | null}
+ */
+export const keyOf = (name) => (name !== undefined && name in TEXTS ? /** @type {Key} */ (name) : null);
+
+/** All names of texts. */
+export const KEYS = /** @type {Key[]} */ (Object.keys(TEXTS));

@@ -1,0 +1,326 @@
+/** The collection on the page: opened, judged, shown, saved. */
+import { breathe, byId, control, make, reveal, save } from './dom.js';
+import { rowsOf } from './answers.js';
+import { chosen, joined, stateOf, titleOf } from './collection.js';
+import { diagramOf } from './diagram.js';
+import { textOf } from './engine.js';
+import { gameOf, gamesIn } from './pdn.js';
+import { positionOf } from './position.js';
+import { boardOf } from './rules.js';
+import { reportOf } from './search.js';
+import { Stopped } from './workers.js';
+
+/**
+ * @typedef {import('./app.js').App} App
+ * @typedef {import('./collection.js').Item} Item
+ * @typedef {import('./squares.js').Rows} Rows
+ */
+
+/** The largest file, in bytes. */
+const LARGEST = 10_000_000;
+
+/** How many problems are shown at first and with each further call, and how many at a stroke. */
+const PAGE = 200, STROKE = 20;
+
+/** How many positions a problem may take when all are judged: first few, then more for those that stay open. */
+const EACH = [300_000, 10_000_000];
+
+/** The word for what a problem counts as. */
+const STATES = /** @type {const} */ ({
+    sound: 'sound', dual: 'dualWord', cooked: 'cooked', unsolvable: 'unsolvable', undecided: 'undecided', refused: 'refused',
+    open: 'notJudged',
+});
+
+/** The list. */
+export class ListView {
+    /**
+     * @param {App} app
+     * @param {import('./keep.js').Store} store
+     */
+    constructor(app, store) {
+        this.app = app;
+        this.store = store;
+        /** @type {Item[]} */
+        this.items = store.get('list') ?? [];
+        /** @type {AbortController | null} */
+        this.running = null;
+        this.shown = PAGE;
+        this.drawing = 0;
+        this.said = '';
+        /** @type {Map<number, HTMLElement>} */
+        this.cards = new Map();
+        this.listen();
+        this.show();
+    }
+
+    listen() {
+        const on = (/** @type {string} */ id, /** @type {() => void} */ act) => byId(id).addEventListener('click', act);
+        const file = control('file', HTMLInputElement);
+        file.addEventListener('change', () => {
+            if (file.files?.[0]) void this.open(file.files[0]);
+            file.value = '';
+        });
+        for (const kind of ['dragenter', 'dragover']) document.addEventListener(kind, (event) => event.preventDefault());
+        document.addEventListener('drop', (event) => {
+            event.preventDefault();
+            const dropped = event.dataTransfer?.files[0];
+            if (dropped) void this.open(dropped);
+        });
+        byId('add-form').addEventListener('submit', (event) => {
+            event.preventDefault();
+            this.add();
+        });
+        on('judge-all', () => void this.judgeAll());
+        on('judge-stop', () => this.running?.abort());
+        on('save-pdn', () => void this.savePdn());
+        on('save-page', () => void this.savePage());
+        on('save-json', () => this.saveJson());
+        on('forget', () => this.put([]));
+        for (const id of ['filter', 'sort']) byId(id).addEventListener('change', () => this.show());
+        this.app.on(['spoken'], () => this.show());
+    }
+
+    /**
+     * Takes the problems of a file to the list. The program reads them; what it refuses is shown at its place.
+     * @param {File} file
+     */
+    async open(file) {
+        const { app } = this;
+        if (file.size > LARGEST) {
+            this.tell(app.say('tooLarge'));
+            return;
+        }
+        byId('tab-collection').click();
+        const bytes = new Uint8Array(await file.arrayBuffer());
+        await this.take(bytes, /\.pdn$/i.test(file.name) || textOf(bytes.slice(0, 4096)).trimStart().startsWith('['));
+    }
+
+    /**
+     * @param {Uint8Array} bytes
+     * @param {boolean} isPdn
+     */
+    async take(bytes, isPdn) {
+        const { app } = this, { rows } = app.position;
+        const form = isPdn ? ['--pdn'] : [];
+        this.tell(app.say('searching'));
+        byId('list').dataset.state = 'reading';
+        try {
+            const words = (/** @type {string} */ command) => ['dw-desk', command, ...boardOf(rows), ...form];
+            const [games, found] = await Promise.all([
+                app.searches.ask([...words('solution'), '-n', '1', '--lines', '1'], bytes),
+                app.searches.ask([...words('find'), '--json', '--most', '1'], bytes),
+            ]);
+            const sections = gamesIn(reportOf(games)), problems = rowsOf(reportOf(found));
+            const more = problems.map((row, i) => ({
+                rows, fen: row.fen ?? '', tags: row.refused ? [] : sections[i]?.tags ?? [], refused: row.refused ?? '', row: null,
+            }));
+            this.tell('');
+            this.put(joined(this.items, more));
+        } catch (error) {
+            this.tell(app.say('failed', String(error)));
+        }
+    }
+
+    /** Adds the position on the board, with a title and an author. */
+    add() {
+        const { app } = this;
+        /** @type {import('./pdn.js').Tag[]} */
+        const tags = [];
+        const title = control('add-title', HTMLInputElement).value.trim(), author = control('add-author', HTMLInputElement).value.trim();
+        if (title) tags.push(['Event', title]);
+        if (author) tags.push(['White', author]);
+        const { rows } = app.position, refused = byId('fault').hidden ? '' : byId('fault').textContent ?? '';
+        if (!refused) this.put(joined(this.items, [{ rows, fen: app.fen, tags, refused, row: null }]));
+    }
+
+    /** @param {string} text */
+    tell(text) {
+        this.said = text;
+        this.showState();
+    }
+
+    /**
+     * Takes another list.
+     * @param {Item[]} items
+     */
+    put(items) {
+        this.running?.abort();
+        this.items = items;
+        this.shown = PAGE;
+        this.keep();
+        this.show();
+    }
+
+    keep() {
+        const { app } = this;
+        byId('kept').textContent = app.say(this.store.put('list', this.items) ? 'kept' : 'notKept');
+    }
+
+    /** Judges all problems, in the background, over all processors; those that take long come again at the end. */
+    async judgeAll() {
+        const { app } = this;
+        this.running?.abort();
+        const running = new AbortController();
+        this.running = running;
+        const most = control('most', HTMLInputElement).value;
+        control('judge-all', HTMLButtonElement).disabled = true;
+        control('judge-stop', HTMLButtonElement).disabled = false;
+        reveal('list-progress', true);
+        byId('list').dataset.state = 'judging';
+        const judge = async (/** @type {Item} */ item, /** @type {number} */ each) => {
+            const words = ['dw-desk', 'find', '--json', ...boardOf(item.rows), '--most', most, '--each', String(each)];
+            const [row] = rowsOf(reportOf(await app.searches.ask(words, `${item.fen}\n`, running.signal)));
+            item.row = row;
+            this.showCard(item);
+            this.showState();
+        };
+        try {
+            for (const each of EACH) {
+                const open = this.items.filter((item) => !item.refused && (!item.row || item.row.verdict === 'undecided'));
+                await Promise.all(open.map((item) => judge(item, each)));
+            }
+            this.tell('');
+        } catch (error) {
+            running.abort();
+            this.tell(error instanceof Stopped ? app.say('stoppedEarly') : app.say('failed', String(error)));
+        }
+        control('judge-all', HTMLButtonElement).disabled = false;
+        control('judge-stop', HTMLButtonElement).disabled = true;
+        reveal('list-progress', false);
+        this.keep();
+        this.show();
+        byId('list').dataset.state = 'done';
+    }
+
+    /** Saves all problems as games; those that were judged have their solutions. */
+    async savePdn() {
+        const games = await this.batch((item) => {
+            const game = gameOf(item.tags, item.fen), n = item.row?.n;
+            if (!n) return Promise.resolve(game);
+            const words = ['dw-desk', 'solution', '--pdn', ...boardOf(item.rows), '-n', String(n)];
+            return this.app.searches.ask(words, game, this.running?.signal).then(reportOf);
+        });
+        if (games) this.saveAs('problems.pdn', games.join(''), 'text/plain');
+    }
+
+    /** Saves a page to be printed, as the program writes it. */
+    async savePage() {
+        const { app } = this, { rows } = app.position;
+        const games = this.items.filter((item) => !item.refused && item.rows === rows).map((item) => gameOf(item.tags, item.fen));
+        const found = this.items.map((item) => item.row?.n ?? 1);
+        const words = ['dw-desk', 'page', '--pdn', ...boardOf(rows), '--most', String(Math.max(1, ...found)),
+            '--lang', app.language, '--title', app.say('title'), '--numbers'];
+        const pages = await this.batch(() => app.searches.ask(words, games.join(''), this.running?.signal).then(reportOf), true);
+        if (pages) this.saveAs('problems.html', pages[0], 'text/html');
+    }
+
+    /** Saves what is known of each problem, one line of JSON each. */
+    saveJson() {
+        const lines = this.items.map(({ number, fen, refused, row }) =>
+            JSON.stringify(refused ? { problem: number, refused }
+                : Object.assign({ problem: number }, row ?? { fen }, { problem: number })));
+        this.saveAs('problems.json', lines.map((line) => `${line}\n`).join(''), 'application/json');
+    }
+
+    /**
+     * @param {string} name
+     * @param {string} content
+     * @param {string} type
+     */
+    saveAs(name, content, type) {
+        byId('list').dataset.saved = name;
+        save(name, content, type);
+        this.tell(this.app.say('saved', name));
+    }
+
+    /**
+     * Writes a text for each problem that is not refused, or one for all.
+     * @param {(item: Item) => Promise<string>} write
+     * @param {boolean} isOne
+     */
+    async batch(write, isOne = false) {
+        this.running?.abort();
+        this.running = new AbortController();
+        control('judge-stop', HTMLButtonElement).disabled = false;
+        this.tell(this.app.say('saving'));
+        try {
+            const items = this.items.filter((item) => !item.refused);
+            return await Promise.all((isOne ? items.slice(0, 1) : items).map(write));
+        } catch (error) {
+            this.tell(error instanceof Stopped ? this.app.say('stoppedEarly') : this.app.say('failed', String(error)));
+            return null;
+        } finally {
+            control('judge-stop', HTMLButtonElement).disabled = true;
+        }
+    }
+
+    /** Shows the list, some cards at a stroke. */
+    async show() {
+        const drawing = ++this.drawing, host = byId('list');
+        const filter = control('filter', HTMLSelectElement).value, sort = control('sort', HTMLSelectElement).value;
+        const items = chosen(this.items, filter, sort), shown = items.slice(0, this.shown);
+        this.cards.clear();
+        host.replaceChildren();
+        host.dataset.count = String(this.items.length);
+        this.showState();
+        for (let at = 0; at < shown.length; at += STROKE) {
+            host.append(...shown.slice(at, at + STROKE).map((item) => this.card(item)));
+            await breathe();
+            if (drawing !== this.drawing) return;
+        }
+        if (items.length > shown.length) host.append(this.moreButton(shown.length, items.length));
+        host.dataset.state = 'done';
+    }
+
+    /**
+     * @param {number} shown
+     * @param {number} all
+     */
+    moreButton(shown, all) {
+        const { app } = this;
+        const more = make('button', { type: 'button', class: 'more' }, `${app.say('showMore')} (${app.say('shownOf', shown, all)})`);
+        more.addEventListener('click', () => {
+            this.shown += PAGE;
+            void this.show();
+        });
+        return more;
+    }
+
+    /** @param {Item} item */
+    card(item) {
+        const { app } = this;
+        const body = make('button', { type: 'button', class: 'card', 'data-number': String(item.number), 'data-fen': item.fen });
+        if (item.refused) body.disabled = true;
+        else body.append(diagramOf(positionOf(item.fen, item.rows), item.fen));
+        body.append(make('span', { class: 'card-title' }, `${item.number}. ${titleOf(item)}`), make('span', { class: 'card-state' }));
+        body.addEventListener('click', () => {
+            app.edit(positionOf(item.fen, item.rows));
+            if (item.row?.n) control('mend-n', HTMLInputElement).value = String(item.row.n);
+            byId('board').scrollIntoView({ block: 'nearest' });
+        });
+        this.cards.set(item.number, body);
+        this.showCard(item);
+        return body;
+    }
+
+    /**
+     * Shows what is known of a problem.
+     * @param {Item} item
+     */
+    showCard(item) {
+        const { app } = this, card = this.cards.get(item.number), place = card?.querySelector('.card-state');
+        if (!card || !place) return;
+        const state = stateOf(item), n = item.row?.n;
+        card.dataset.state = state;
+        const word = app.say(STATES[state]);
+        const turn = app.say(item.fen.startsWith('B') ? 'blackToMove' : 'whiteToMove');
+        place.textContent = item.refused ? `${word}: ${item.refused}` : `${turn}. ${word}${n ? ` (${n})` : ''}`;
+    }
+
+    showState() {
+        const { app } = this, judged = this.items.filter((item) => item.row || item.refused).length;
+        control('list-progress', HTMLProgressElement).value = this.items.length ? judged / this.items.length : 0;
+        const counts = this.items.length ? app.say('listState', this.items.length, judged) : '';
+        byId('list-state').textContent = [this.said, counts].filter(Boolean).join(' ');
+    }
+}

@@ -1,0 +1,88 @@
+/** The workers that run the programs, so that the page never waits. */
+
+/**
+ * @typedef {import('./engine.js').Answer} Answer
+ * @typedef {{
+ *   words: string[],
+ *   input: string | Uint8Array,
+ *   signal: AbortSignal | undefined,
+ *   resolve: (answer: Answer) => void,
+ *   reject: (reason: unknown) => void,
+ * }} Question
+ */
+
+/** Why a question has no answer: it was stopped. */
+export class Stopped extends Error {}
+
+/** Asks as many questions at a time as there may be workers; the others wait in order. */
+export class Workers {
+    /**
+     * @param {() => Worker} make Makes a worker that has the module.
+     * @param {number} most How many there may be.
+     */
+    constructor(make, most) {
+        this.make = make;
+        this.most = most;
+        this.busy = 0;
+        this.number = 0;
+        /** @type {Worker[]} */
+        this.idle = [];
+        /** @type {Question[]} */
+        this.waiting = [];
+    }
+
+    /**
+     * Runs a program. When the signal aborts, its worker is ended at once.
+     * @param {string[]} words
+     * @param {string | Uint8Array} input
+     * @param {AbortSignal} [signal]
+     * @returns {Promise<Answer>}
+     */
+    ask(words, input, signal) {
+        return new Promise((resolve, reject) => {
+            this.waiting.push({ words, input, signal, resolve, reject });
+            this.next();
+        });
+    }
+
+    /** Begins what waits, as far as there are workers for it. */
+    next() {
+        while (this.busy < this.most) {
+            const question = this.waiting.shift();
+            if (!question) return;
+            if (question.signal?.aborted) question.reject(new Stopped());
+            else this.begin(question);
+        }
+    }
+
+    /** @param {Question} question */
+    begin({ words, input, signal, resolve, reject }) {
+        const worker = this.idle.pop() ?? this.make();
+        const number = ++this.number;
+        this.busy += 1;
+        const end = (/** @type {boolean} */ isKept) => {
+            worker.onmessage = worker.onerror = null;
+            signal?.removeEventListener('abort', stop);
+            if (isKept) this.idle.push(worker);
+            else worker.terminate();
+            this.busy -= 1;
+            this.next();
+        };
+        const stop = () => {
+            reject(new Stopped());
+            end(false);
+        };
+        signal?.addEventListener('abort', stop);
+        worker.onmessage = ({ data }) => {
+            if (data.number !== number) return;
+            if (data.answer) resolve(data.answer);
+            else reject(new Error(data.failed));
+            end(Boolean(data.answer));
+        };
+        worker.onerror = (event) => {
+            reject(new Error(event.message));
+            end(false);
+        };
+        worker.postMessage({ number, words, input });
+    }
+}

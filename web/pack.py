@@ -1,0 +1,72 @@
+#!/usr/bin/env python3
+"""pack.py: packs the page into one file.
+
+    web/pack.py MODULE VERSION OUTPUT
+
+MODULE is the WebAssembly module, which is compressed, VERSION the line at the foot of the page. The scripts stand one after another in one
+block, those that others import first; the names at their top level have to differ. The page's policy names the
+checksums of its script and of its style, so that nothing else runs, and nothing is fetched.
+"""
+import base64
+import hashlib
+import pathlib
+import re
+import sys
+import zlib
+
+HERE = pathlib.Path(__file__).resolve().parent
+IMPORT = re.compile(r"^import \{[^}]*\} from '\./(\w+)\.js';\n", re.MULTILINE)
+POLICY = "default-src 'none'; script-src '{script}' 'wasm-unsafe-eval'; style-src '{style}'; worker-src blob:; " \
+    "img-src data:; base-uri 'none'; form-action 'none'"
+
+
+def in_order(name, seen):
+    """The names of a script and of those that it imports, these first."""
+    if name in seen:
+        return []
+    seen.add(name)
+    text = (HERE / "js" / f"{name}.js").read_text()
+    return [other for needed in IMPORT.findall(text) for other in in_order(needed, seen)] + [name]
+
+
+def bundle(name, call):
+    """One script of all that are needed, which calls one of their functions."""
+    parts, names = [], {}
+    for part in in_order(name, set()):
+        text = (HERE / "js" / f"{part}.js").read_text()
+        for declared in re.findall(r"^(?:export )?(?:async )?(?:function|class|const|let) (\w+)", text, re.MULTILINE):
+            assert declared not in names, f"{declared} stands in {names[declared]}.js and in {part}.js"
+            names[declared] = part
+        text = IMPORT.sub("", text)
+        assert not re.search(r"^import ", text, re.MULTILINE), f"{part}.js: an import of another form"
+        parts.append(re.sub(r"^export ", "", text, flags=re.MULTILINE).strip())
+    script = "'use strict';\n{\n" + "\n".join(parts) + f"\n{call}\n}}\n"
+    assert "</script" not in script and "<!--" not in script
+    return script
+
+
+def checksum(text):
+    return "sha256-" + base64.b64encode(hashlib.sha256(text.encode()).digest()).decode()
+
+
+def page(module, version):
+    style, script = (HERE / "style.css").read_text(), bundle("main", "void start();")
+    parts = {
+        "policy": POLICY.format(script=checksum(script), style=checksum(style)),
+        "style": style,
+        "version": version,
+        "module": base64.b64encode(zlib.compress(module, 9)).decode(),
+        "worker": bundle("worker", "work();"),
+        "script": script,
+    }
+    text = (HERE / "index.html").read_text()
+    return re.sub(r"\{(\w+)\}", lambda found: parts[found[1]], text)
+
+
+def main():
+    module, version, output = sys.argv[1:]
+    pathlib.Path(output).write_text(page(pathlib.Path(module).read_bytes(), version))
+
+
+if __name__ == "__main__":
+    main()

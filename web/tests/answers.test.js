@@ -1,0 +1,65 @@
+import assert from 'node:assert/strict';
+import test from 'node:test';
+import { checkIn, fenFault, foundIn, legalIn, mendedIn, movesOf, problemsIn, remarkIn, rowsOf } from '../js/answers.js';
+
+test('verdicts', () => {
+    const [dual] = problemsIn('problem 1: W:W10,16,48:B13\ndual in 3: 1. 10-5 13-18 2. 5-28 18-22 3. 28x6 / 28x11 / 28x17\n'
+        + 'try 10-4 refuted by 13-19\n');
+    assert.equal(dual.fen, 'W:W10,16,48:B13');
+    assert.deepEqual(dual.found, {
+        line: 'dual in 3: 1. 10-5 13-18 2. 5-28 18-22 3. 28x6 / 28x11 / 28x17', verdict: 'dual', n: 3, shortest: 3,
+        keys: ['10-5'], at: ['10-5', '13-18', '5-28', '18-22'], choices: ['28x6', '28x11', '28x17'],
+        tries: [['10-4', '13-19']],
+    });
+    assert.deepEqual(foundIn(['cooked in 2, shortest 1: 41-37, 45-40'])?.keys, ['41-37', '45-40']);
+    assert.equal(foundIn(['cooked in 2, shortest 1: 41-37, 45-40'])?.shortest, 1);
+    assert.deepEqual(foundIn(['sound in 2: 45-40'])?.keys, ['45-40']);
+    assert.deepEqual(foundIn(['unsolvable in 2', 'try 10-4 refuted by 13-19'])?.tries, [['10-4', '13-19']]);
+    assert.equal(foundIn(['undecided, no win in 7'])?.n, 7);
+    assert.equal(foundIn(['something else']), null);
+    assert.equal(foundIn([]), null);
+});
+
+test('refusals', () => {
+    const [problem] = problemsIn('problem 1: refused: 1 fen: 5 twice at 8\n');
+    assert.equal(problem.refused, '1 fen: 5 twice at 8');
+    assert.deepEqual(fenFault(problem.refused), { number: 5, name: 'twice', place: 8 });
+    assert.deepEqual(fenFault('1 fen: 7 last row at 4'), { number: 7, name: 'last row', place: 4 });
+    assert.equal(fenFault('5 line too long'), null);
+});
+
+test('legal moves', () => {
+    const text = 'problem 1: W:W32:B28\n32x23 B:W23:B\nmoves 1 taking 1\nproblem 2: W:W:B\nmoves 0 taking 0\n';
+    assert.deepEqual(legalIn(text), [[{ move: '32x23', fen: 'B:W23:B' }], []]);
+});
+
+test('remarks', () => {
+    const text = 'problem 1: W:W27,32:B18\nopen 1. 32-28: 18-23\nalso 1. 32-28 18-22 2. 28x17\n'
+        + 'holds in 2: 0 fail, 0 end, 1 open, 1 also\n';
+    const { remarks, summary, refused, fen } = checkIn(text);
+    assert.equal(refused, '');
+    assert.equal(fen, 'W:W27,32:B18');
+    assert.deepEqual(summary, ['holds in 2: 0 fail, 0 end, 1 open, 1 also']);
+    assert.deepEqual(remarks.map(({ kind, beginning, moves }) => [kind, beginning, moves]), [
+        ['open', ['32-28'], ['18-23']], ['also', ['32-28', '18-22'], ['28x17']]]);
+    assert.deepEqual(remarkIn('fails 1. 27-22 refuted by 18x38')?.refutation, '18x38');
+    assert.equal(remarkIn('fails in 2: 1 fail, 0 end, 0 open, 0 also'), null);
+    assert.deepEqual(remarkIn('also 1. 32-28')?.moves, ['32-28']);
+    assert.deepEqual(remarkIn('also 1. 32-28 18-22 2. 28x17 / 27x18')?.moves, ['28x17', '27x18']);
+    assert.deepEqual(remarkIn('ends 1. 32-28')?.beginning, ['32-28']);
+    assert.deepEqual(checkIn('problem 1: W:W27,32:B18\nsolution refused: 2 no such move at 5\n').summary,
+        ['solution refused: 2 no such move at 5']);
+    assert.equal(checkIn('problem 1: refused: 2 no fen\n').refused, 'refused: 2 no fen');
+});
+
+test('neighbours', () => {
+    const { neighbours, sound, all, undecided } = mendedIn('problem 1: W:W27,32:B18\nwithout 27: W:W32:B18, sound in 2: 32-28\n'
+        + 'sound 1 of 310, 2 undecided\n');
+    assert.deepEqual(neighbours, [{ change: 'without 27', fen: 'W:W32:B18', n: 2, key: '32-28' }]);
+    assert.deepEqual([sound, all, undecided], [1, 310, 2]);
+});
+
+test('lines of play and rows of JSON', () => {
+    assert.deepEqual(movesOf('1... 29-33 2. 43-38 33x42'), ['29-33', '43-38', '33x42']);
+    assert.deepEqual(rowsOf('{"a":1}\n{"a":2}\n'), [{ a: 1 }, { a: 2 }]);
+});
