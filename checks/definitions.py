@@ -197,9 +197,9 @@ def skip(lines, line, end, ends=str.__eq__):
 # Ghost items that are proofs, which nobody has to believe, and those that say how a public type is kept.
 PROOF = r"\s*ghost (laws|total|matches_\w+|respects_eq|inverse|inverse_ok|numbers|shifts|word_is) ="
 KEPT = PROOF.replace("(", "(view|invariant|")
-NAMES = """board moves memo solve notation list games verdict report study solution page certificate mend arguments commands
-desk_commands desk""".split()
-LAYERS = [f"dw_{layer}" for layer in NAMES] + ["dw"]
+NO_LAYER = r"dw_(tests_\w+|bench|example)"
+NAMES = re.findall(r"^\w+", (TOP / "crates.txt").read_text(), re.M)
+LAYERS = [name for name in NAMES if not re.fullmatch(NO_LAYER, name)]
 SOURCES = [path for layer in LAYERS for path in sorted((CRATES / layer).glob("src/**/*.rt"))]
 PRIVATE_TRAITS = {name for path in SOURCES for name in re.findall(r"^pub\(crate\) trait (\w+)", source_text(path), re.M)}
 

@@ -2,22 +2,20 @@
 #![tactic(auto)]
 
 ghost use Rattle.std.specs.Prelude.{◌≡◌, ◌⊎◌};
-ghost use Rattle.std.specs.Process.{exit_status};
-ghost use Rattle.dw_commands.specs.Ending.{outcome_of};
 
 mod progress;
 
-use dw_arguments::{BoardSize, CliError, DeskArgs};
+use dw_arguments::{BoardSize, DeskArgs};
 use dw_board::{Board, Eight, Ten};
-use dw_commands::{Ending, Message, end_unread, outcome};
+use dw_commands::Ending;
 use dw_desk_commands::run_on;
 use dw_notation::{Reading, Writing};
+use dw_shell::{arguments, end_refused, end_with};
 use dw_study::Slices;
 use progress::Progress;
 use std::fs::File;
 use std::io::{IsTerminal, Read};
 use std::process::ExitCode;
-use std::{env, io};
 
 /// The program's name, in what it says of itself.
 const PROGRAM: &str = "dw-desk";
@@ -26,27 +24,14 @@ const PROGRAM: &str = "dw-desk";
 const FIRST_SLICE: u64 = 50_000;
 
 fn main(rt: HostRuntime) -> ExitCode {
-    match words_of(&rt) {
-        Ok(words) => match DeskArgs::parse(rt.alloc(), words.as_slice()) {
-            Ok(args) => end_with(&rt, &run(&rt, &args)),
-            Err(error) => end_refused(&rt, &error),
-        },
-        Err(error) => {
-            let error = CliError::unreadable(rt.alloc(), PROGRAM, error.kind());
-            end_refused(&rt, &error)
-        }
+    let words = match arguments(&rt, PROGRAM) {
+        Ok(words) => words,
+        Err(error) => return end_refused(&rt, PROGRAM, &error),
+    };
+    match DeskArgs::parse(rt.alloc(), words.as_slice()) {
+        Ok(args) => end_with(&rt, PROGRAM, &run(&rt, &args)),
+        Err(error) => end_refused(&rt, PROGRAM, &error),
     }
-}
-
-/// The words of the command line, the program's name first.
-fn words_of(rt: &HostRuntime) -> io::Result<Vec<String>> {
-    Ok(env::args(rt)?.collect::<Vec<String>>(rt.alloc())?)
-}
-
-/// Writes the help, if that was asked for, and ends.
-fn end_refused(rt: &HostRuntime, error: &CliError) -> ExitCode {
-    let mut sink = Writing::new(rt.stdout());
-    end_with(rt, &end_unread(error, &mut sink))
 }
 
 /// Does what the arguments ask for, on the board that they name.
@@ -90,20 +75,4 @@ fn slices_of<'a>(rt: &'a HostRuntime, args: &DeskArgs<'_>) -> Slices<Progress<'a
     let is_shown = args.progress || rt.stderr().is_terminal();
     let first = if is_shown { FIRST_SLICE } else { u64::MAX };
     Slices::new(first, Progress::new(rt, is_shown))
-}
-
-/// Says on standard error how the program ended, and gives its exit status. If that cannot be written, there is nobody
-/// left to tell.
-fn end_with(rt: &HostRuntime, ending: &Ending<&str>) -> ExitCode
-    ensures { exit_status result ≡ (outcome_of ending.now).status }
-{
-    let exit = outcome(ending);
-    if exit.is_told {
-        let message = Message {
-            program: PROGRAM,
-            ending,
-        };
-        let _ = eprint!(rt; "{message}");
-    }
-    ExitCode::from(exit.status)
 }

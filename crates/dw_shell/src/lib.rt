@@ -1,0 +1,59 @@
+//! What both programs do with the operating system: they fetch their arguments, and end with a line on standard error
+//! and an exit status.
+//!
+//! Begin with `arguments`, and end with `end_with` or `end_refused`.
+#![tactic(auto)]
+
+ghost use Rattle.std.specs.Prelude.{◌≡◌, ℕ, Bool, List, Option};
+ghost use Rattle.std.specs.Borrow.{Bor};
+ghost use Rattle.std.specs.Process.{exit_status};
+ghost use Rattle.dw_commands.specs.Ending.{EndsUnread, outcome_of};
+ghost use Rattle.dw_commands.specs.declared.ending.Ending.{Ending as AnyEnding};
+
+use dw_arguments::CliError;
+use dw_commands::{Ending, Message, end_unread, outcome};
+use dw_notation::Writing;
+use std::process::ExitCode;
+use std::{env, io};
+
+/// Fetches the arguments of the command line, the program's name first.
+///
+/// # Errors
+///
+/// An argument is no UTF-8, or memory was refused.
+/// Example: of `dw show` they are `dw` and `show`.
+pub fn arguments(rt: &HostRuntime, program: &str) -> Result<Vec<String>, CliError> {
+    match words_of(rt) {
+        Ok(words) => Ok(words),
+        Err(error) => Err(CliError::unreadable(rt.alloc(), program, error.kind())),
+    }
+}
+
+fn words_of(rt: &HostRuntime) -> io::Result<Vec<String>> {
+    Ok(env::args(rt)?.collect::<Vec<String>>(rt.alloc())?)
+}
+
+/// Ends a program whose arguments are not obeyed. Writes the help to standard output if that was asked for.
+/// Example: of `CliError::Memory` the exit status is 3.
+pub fn end_refused(rt: &HostRuntime, program: &str, error: &CliError) -> ExitCode
+    ensures { (ending : AnyEnding (Bor (List ℕ))) × (before : Option (List ℕ)) × (after : Option (List ℕ))
+        × (is_failed : Bool) × EndsUnread before after is_failed error.now ending
+        × (exit_status result ≡ (outcome_of ending).status) }
+{
+    let mut sink = Writing::new(rt.stdout());
+    end_with(rt, program, &end_unread(error, &mut sink))
+}
+
+/// Says on standard error how a program ended, and returns its exit status. If that cannot be written, there is nobody
+/// left to tell.
+/// Example: of `Ending::Done` nothing is written, and the exit status is 0.
+pub fn end_with(rt: &HostRuntime, program: &str, ending: &Ending<&str>) -> ExitCode
+    ensures { exit_status result ≡ (outcome_of ending.now).status }
+{
+    let exit = outcome(ending);
+    if exit.is_told {
+        let message = Message { program, ending };
+        let _ = eprint!(rt; "{message}");
+    }
+    ExitCode::from(exit.status)
+}
