@@ -1,5 +1,5 @@
 #!/usr/bin/env python3
-"""board.py: uses board.html as a composer does, in Chromium and in Firefox, and compares its answers with the programs'.
+"""board.py: uses board.html as a composer does, in Chromium and in Firefox, and compares its answers with `dw-desk`.
 
     checks/board.py [--page FILE] [--browser NAME] [--count POSITIONS] [--pictures FOLDER]
 
@@ -181,7 +181,8 @@ def check_rows(browser):
         browser.run(call("place", 10, text[0], of_fen(text)))
         assert browser.run(call("solve", most)) == line, (text, most, line)
         if tries is not None:
-            said = browser.run("t.all('#tries li').map((e) => [...e.querySelectorAll('.move')].map((m) => m.textContent))")
+            said = browser.run("t.all('#tries li').map((e) => "
+                               "[...e.querySelectorAll('.move')].map((m) => m.textContent))")
             assert said == [list(pair) for pair in tries], (text, said)
     for text, moves in SOLUTIONS:
         browser.run(call("place", 10, text[0], of_fen(text)))
@@ -201,7 +202,7 @@ def check_rows(browser):
             assert pieces == shown(of_fen(after)), (after, pieces)
     browser.run(call("place", 10, "W", of_fen("W:W27,32:B18")))
     browser.run("t.at('#exact').click()")
-    assert browser.run(call("solve", 3)).startswith("cooked in 3, shortest 2"), browser.run("t.at('#state').textContent")
+    assert browser.run(call("solve", 3)).startswith("cooked in 3, shortest 2")
     browser.run("t.at('#exact').click()")
     print(f"{browser.name}: {len(FINDS)} verdicts with their tries, {len(SOLUTIONS)} solutions, as worked")
 
@@ -211,13 +212,15 @@ def check_texts(browser):
     for text, fault in FAULTS:
         browser.run(call("read", text))
         browser.wait("!t.at('#fault').hidden && t.at('#fault strong')", 10)
-        assert browser.run("t.at('#fault strong').textContent") == fault, (text, browser.run("t.at('#fault').textContent"))
+        said = browser.run("t.at('#fault strong').textContent")
+        assert said == fault, (text, said)
         place = int(fault.rsplit(" ", 1)[1])
         marked = browser.run("t.at('#fault mark').textContent")
         assert marked == (text[place - 1:place] or "␣"), (text, marked)
     for text, wanted in READ:
         browser.run(call("read", text))
-        browser.wait(f"t.at('#fault').hidden && JSON.stringify(t.pieces()) === {json.dumps(json.dumps(shown(sorted(of_fen(wanted))), separators=(',', ':')))}", 10)
+        pieces = json.dumps(shown(sorted(of_fen(wanted))), separators=(",", ":"))
+        browser.wait(f"t.at('#fault').hidden && JSON.stringify(t.pieces()) === {json.dumps(pieces)}", 10)
         browser.run("t.leave()")
         browser.wait(f"t.at('#fen').value === {json.dumps(wanted)}", 10)
     browser.run(call("place", 10, "W", [(3, "w")]))
@@ -404,7 +407,8 @@ def check_collection(browser, folder, page):
     """A file of problems, judged, filtered, saved; hostile files; a thousand problems."""
     browser.run("t.at('#forget').click()")
     file = folder / "games.pdn"
-    file.write_bytes(b'[Event "<b>x</b><script>alert(1)</script>"] [White "A. Composer"] [FEN "W:W27,32:B18"] 1. 32-28 *\n\n'
+    file.write_bytes(b'[Event "<b>x</b><script>alert(1)</script>"] [White "A. Composer"] [FEN "W:W27,32:B18"]\n'
+                     b'1. 32-28 *\n\n'
                      b'[FEN "W:W3:B20"] *\n\n[Event "G\xe9rard"] [FEN "W:W27,45:B16"] *\n')
     browser.upload("#file", file)
     browser.wait("t.all('#list .card').length === 3", 20)

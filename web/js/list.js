@@ -27,8 +27,8 @@ const EACH = [300_000, 10_000_000];
 
 /** The word for what a problem counts as. */
 const STATES = /** @type {const} */ ({
-    sound: 'sound', dual: 'dualWord', cooked: 'cooked', unsolvable: 'unsolvable', undecided: 'undecided', refused: 'refused',
-    open: 'notJudged',
+    sound: 'sound', dual: 'dualWord', cooked: 'cooked', unsolvable: 'unsolvable', undecided: 'undecided',
+    refused: 'refused', open: 'notJudged',
 });
 
 /** The list. */
@@ -60,7 +60,8 @@ export class ListView {
             if (file.files?.[0]) void this.open(file.files[0]);
             file.value = '';
         });
-        for (const kind of ['dragenter', 'dragover']) document.addEventListener(kind, (event) => event.preventDefault());
+        document.addEventListener('dragenter', (event) => event.preventDefault());
+        document.addEventListener('dragover', (event) => event.preventDefault());
         document.addEventListener('drop', (event) => {
             event.preventDefault();
             const dropped = event.dataTransfer?.files[0];
@@ -112,7 +113,8 @@ export class ListView {
             ]);
             const sections = gamesIn(reportOf(games)), problems = rowsOf(reportOf(found));
             const more = problems.map((row, i) => ({
-                rows, fen: row.fen ?? '', tags: row.refused ? [] : sections[i]?.tags ?? [], refused: row.refused ?? '', row: null,
+                rows, fen: row.fen ?? '', tags: row.refused ? [] : sections[i]?.tags ?? [],
+                refused: row.refused ?? '', row: null,
             }));
             this.tell('');
             this.put(joined(this.items, more));
@@ -126,7 +128,8 @@ export class ListView {
         const { app } = this;
         /** @type {import('./pdn.js').Tag[]} */
         const tags = [];
-        const title = control('add-title', HTMLInputElement).value.trim(), author = control('add-author', HTMLInputElement).value.trim();
+        const title = control('add-title', HTMLInputElement).value.trim();
+        const author = control('add-author', HTMLInputElement).value.trim();
         if (title) tags.push(['Event', title]);
         if (author) tags.push(['White', author]);
         const { rows } = app.position, refused = byId('fault').hidden ? '' : byId('fault').textContent ?? '';
@@ -176,7 +179,7 @@ export class ListView {
         };
         try {
             for (const each of EACH) {
-                const open = this.items.filter((item) => !item.refused && (!item.row || item.row.verdict === 'undecided'));
+                const open = this.items.filter((item) => ['open', 'undecided'].includes(stateOf(item)));
                 await Promise.all(open.map((item) => judge(item, each)));
             }
             this.tell('');
@@ -206,11 +209,13 @@ export class ListView {
     /** Saves a page to be printed, as the program writes it. */
     async savePage() {
         const { app } = this, { rows } = app.position;
-        const games = this.items.filter((item) => !item.refused && item.rows === rows).map((item) => gameOf(item.tags, item.fen));
+        const games = this.items.filter((item) => !item.refused && item.rows === rows)
+            .map((item) => gameOf(item.tags, item.fen));
         const found = this.items.map((item) => item.row?.n ?? 1);
         const words = ['dw-desk', 'page', '--pdn', ...boardOf(rows), '--most', String(Math.max(1, ...found)),
             '--lang', app.language, '--title', app.say('title'), '--numbers'];
-        const pages = await this.batch(() => app.searches.ask(words, games.join(''), this.running?.signal).then(reportOf), true);
+        const ask = () => app.searches.ask(words, games.join(''), this.running?.signal);
+        const pages = await this.batch(() => ask().then(reportOf), true);
         if (pages) this.saveAs('problems.html', pages[0], 'text/html');
     }
 
@@ -278,7 +283,8 @@ export class ListView {
      */
     moreButton(shown, all) {
         const { app } = this;
-        const more = make('button', { type: 'button', class: 'more' }, `${app.say('showMore')} (${app.say('shownOf', shown, all)})`);
+        const text = `${app.say('showMore')} (${app.say('shownOf', shown, all)})`;
+        const more = make('button', { type: 'button', class: 'more' }, text);
         more.addEventListener('click', () => {
             this.shown += PAGE;
             void this.show();
@@ -289,10 +295,12 @@ export class ListView {
     /** @param {Item} item */
     card(item) {
         const { app } = this;
-        const body = make('button', { type: 'button', class: 'card', 'data-number': String(item.number), 'data-fen': item.fen });
+        const data = { 'data-number': String(item.number), 'data-fen': item.fen };
+        const body = make('button', { type: 'button', class: 'card', ...data });
         if (item.refused) body.disabled = true;
         else body.append(diagramOf(positionOf(item.fen, item.rows), item.fen));
-        body.append(make('span', { class: 'card-title' }, `${item.number}. ${titleOf(item)}`), make('span', { class: 'card-state' }));
+        body.append(make('span', { class: 'card-title' }, `${item.number}. ${titleOf(item)}`),
+            make('span', { class: 'card-state' }));
         body.addEventListener('click', () => {
             app.edit(positionOf(item.fen, item.rows));
             if (item.row?.n) control('mend-n', HTMLInputElement).value = String(item.row.n);

@@ -108,8 +108,8 @@ export async function start() {
     byId('most').addEventListener('change', () => keepPosition(app, store));
     await begin(app, store);
     addEventListener('hashchange', () => {
-        const said = addressIn(location.hash);
-        if (said.fen !== undefined && !isSame(positionOf(said.fen, said.rows ?? 10), app.position)) void begin(app, store);
+        const { fen, rows } = addressIn(location.hash);
+        if (fen !== undefined && !isSame(positionOf(fen, rows ?? 10), app.position)) void begin(app, store);
     });
     document.documentElement.dataset.ready = 'true';
 }
