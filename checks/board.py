@@ -207,6 +207,21 @@ def check_rows(browser):
     print(f"{browser.name}: {len(FINDS)} verdicts with their tries, {len(SOLUTIONS)} solutions, as worked")
 
 
+def check_firsts(browser):
+    """What each first move does, if the program in the page knows it."""
+    browser.run(call("place", 10, "W", of_fen("W:W27,32:B18")))
+    browser.run(call("solve", 5))
+    if browser.run("t.at('#firsts-part').hidden"):
+        return
+    browser.run("t.at('#ask-firsts').click()")
+    browser.wait("t.all('#firsts li').length === 3", 30)
+    said = browser.run("t.all('#firsts li').map((e) => [...e.querySelectorAll('.move')].map((m) => m.textContent))")
+    assert said == [["27-21", "18-22", "18-23"], ["27-22", "18x38"], ["32-28"]], said
+    browser.run("t.all('#firsts li .move')[2].click()")
+    browser.wait("t.at('#fen').value === 'W:W21,32:B23'", 10)
+    print(f"{browser.name}: what each first move does")
+
+
 def check_texts(browser):
     """FEN texts to the board and back, and faults."""
     for text, fault in FAULTS:
@@ -425,6 +440,12 @@ def check_collection(browser, folder, page):
     browser.run("t.at('#list .card').click()")
     browser.wait("t.at('#fen').value === 'W:W27,45:B16'", 10)
     browser.run("t.set('#filter', '')")
+    browser.wait("t.all('#list .card').length === 3", 10)
+    browser.run("t.at('#list .card').click()")
+    browser.wait("t.at('#fen').value === 'W:W27,32:B18' && !t.at('#compare-own').hidden", 10)
+    browser.run("t.at('#compare-own').click()")
+    browser.wait("t.at('#compared').dataset.line === 'fails in 1: 1 fail, 0 end, 0 open, 0 also'", 20)
+    browser.run("t.all('#list .card')[2].click()")
     browser.run("t.set('#add-title', 'Mine'); t.set('#add-author', 'Me'); t.at('#add-go').click()")
     browser.wait("t.all('#list .card').length === 4", 10)
     for name, button in (("problems.pdn", "save-pdn"), ("problems.html", "save-page"), ("problems.json", "save-json")):
@@ -549,6 +570,7 @@ def main():
                 for rows in (10, 8):
                     check_random(browser, rows, given.count if kind is browsers.Chromium else given.count // 4, source)
                 check_rows(browser)
+                check_firsts(browser)
                 check_texts(browser)
                 check_hands(browser)
                 check_keys(browser)

@@ -165,6 +165,12 @@ const TEXTS = {
     ],
     authorsSolution: ['The author’s solution', 'De auteursoplossing', 'La solution d’auteur', 'Авторское решение'],
     compare: ['Compare', 'Vergelijk', 'Comparer', 'Сравнить'],
+    compareOwn: [
+        'Compare the solution of the file',
+        'Vergelijk de oplossing uit het bestand',
+        'Comparer la solution du fichier',
+        'Сравнить решение из файла',
+    ],
     openFile: ['Open a file', 'Open een bestand', 'Ouvrir un fichier', 'Открыть файл'],
     remarkFails: [
         '# does not win: # refutes it.',

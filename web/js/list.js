@@ -49,6 +49,8 @@ export class ListView {
         this.said = '';
         /** @type {Map<number, HTMLElement>} */
         this.cards = new Map();
+        /** @type {Map<number, {file: Uint8Array, number: number}>} The games of files that were opened. */
+        this.games = new Map();
         this.listen();
         this.show();
     }
@@ -117,7 +119,9 @@ export class ListView {
                 refused: row.refused ?? '', row: null,
             }));
             this.tell('');
+            const before = this.items.length;
             this.put(joined(this.items, more));
+            if (isPdn) more.forEach((_, i) => this.games.set(before + i + 1, { file: bytes, number: i + 1 }));
         } catch (error) {
             this.tell(app.say('failed', String(error)));
         }
@@ -148,6 +152,7 @@ export class ListView {
      */
     put(items) {
         this.running?.abort();
+        if (items.length === 0) this.games.clear();
         this.items = items;
         this.shown = PAGE;
         this.keep();
@@ -302,6 +307,8 @@ export class ListView {
         body.append(make('span', { class: 'card-title' }, `${item.number}. ${titleOf(item)}`),
             make('span', { class: 'card-state' }));
         body.addEventListener('click', () => {
+            const game = this.games.get(item.number);
+            app.source = game ? { ...game, fen: item.fen } : null;
             app.edit(positionOf(item.fen, item.rows));
             if (item.row?.n) control('mend-n', HTMLInputElement).value = String(item.row.n);
             byId('board').scrollIntoView({ block: 'nearest' });

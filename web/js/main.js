@@ -82,7 +82,8 @@ function keepPosition(app, store) {
 /** Starts the page. */
 export async function start() {
     const make = await makerOfWorkers(), store = new Store(() => localStorage);
-    const app = new App(new Workers(make, Math.max(1, navigator.hardwareConcurrency || 2)), new Workers(make, 1));
+    const processors = Math.max(1, navigator.hardwareConcurrency || 2);
+    const app = new App(new Workers(make, processors), new Workers(make, 2), new Workers(make, 1));
     document.querySelector('defs')?.append(...diagramParts());
     const settings = store.get('settings') ?? {};
     app.language = languageOf([settings.language ?? '', ...navigator.languages]);

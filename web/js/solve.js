@@ -126,7 +126,7 @@ export class Solving {
         tick();
         const timer = setInterval(tick, TICK);
         try {
-            const ask = app.searches.ask.bind(app.searches);
+            const ask = app.solver.ask.bind(app.solver);
             this.found = control('exact', HTMLInputElement).checked ? await judge(ask, asked, signal)
                 : await find(ask, asked, ({ noWinIn, expanded }) => {
                     this.noWinIn = noWinIn;
@@ -134,6 +134,7 @@ export class Solving {
                     known = [noWinIn ? app.say('noWinYet', noWinIn) : '', positions].filter(Boolean).join(', ');
                 }, signal);
             this.show();
+            control('mend-n', HTMLInputElement).value = String(this.found.n);
             app.tell('solved');
             if (this.found.verdict !== 'unsolvable') await this.write(signal);
             this.setState('done', app.say('done', ((performance.now() - this.begun) / 1000).toFixed(1)));
@@ -172,7 +173,7 @@ export class Solving {
         const { app, asked, fen } = this, words = this.solutionWords();
         if (!asked) return;
         if (this.knowsTree) words.push('--json');
-        const text = reportOf(await app.searches.ask(words, `${fen}\n`, signal));
+        const text = reportOf(await app.solver.ask(words, `${fen}\n`, signal));
         let tree, isMore;
         if (this.knowsTree) {
             const [row] = rowsOf(text);
@@ -254,7 +255,7 @@ export class Solving {
     async copy() {
         const { app, asked } = this;
         if (!asked) return;
-        this.game ||= reportOf(await app.searches.ask(this.solutionWords(), `${this.fen}\n`));
+        this.game ||= reportOf(await app.solver.ask(this.solutionWords(), `${this.fen}\n`));
         try {
             await navigator.clipboard.writeText(this.game);
             byId('state').textContent = app.say('copied');
@@ -271,7 +272,7 @@ export class Solving {
         button.disabled = true;
         try {
             const words = ['dw-desk', 'certify', ...boardOf(asked.rows), '-n', String(found.n), '--cache', '4000000'];
-            save('certificate.txt', reportOf(await app.searches.ask(words, `${this.fen}\n`)), 'text/plain');
+            save('certificate.txt', reportOf(await app.solver.ask(words, `${this.fen}\n`)), 'text/plain');
         } catch (error) {
             byId('state').textContent = app.say('failed', error instanceof Error ? error.message : String(error));
         }
