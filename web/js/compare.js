@@ -81,9 +81,18 @@ export function comparing(app) {
         return make('li', {}, button);
     }
 
+    /** What is said of the whole solution. */
+    function verdict(/** @type {ReturnType<typeof checkIn>} */ { summary, remarks }) {
+        const said = /^(holds|fails) in (\d+): /.exec(summary.at(-1) ?? '');
+        if (!said) return app.say('sayRefused');
+        if (said[1] === 'fails') return app.say('sayFails', said[2]);
+        return app.say(remarks.length ? 'sayHoldsBut' : 'sayHolds', said[2]);
+    }
+
     function show() {
-        const said = checked ? [checked.refused, ...checked.summary].filter(Boolean).join('. ') : failed;
-        byId('compared').textContent = running && !checked && !failed ? app.say('searching') : said;
+        byId('compared').textContent = checked ? verdict(checked)
+            : failed || (running ? app.say('searching') : '');
+        byId('compared-lines').textContent = checked ? [checked.refused, ...checked.summary].join('\n').trim() : '';
         byId('compared').dataset.line = checked?.summary.at(-1) ?? '';
         byId('remarks').replaceChildren(...(checked?.remarks ?? []).map(item));
     }

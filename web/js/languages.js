@@ -172,6 +172,30 @@ const TEXTS = {
         'Сравнить решение из файла',
     ],
     openFile: ['Open a file', 'Open een bestand', 'Ouvrir un fichier', 'Открыть файл'],
+    sayHolds: [
+        'The solution holds, and nothing is left out: win in #.',
+        'De oplossing klopt en is volledig: winst in #.',
+        'La solution est juste et complète : gain en #.',
+        'Решение верно и полно: выигрыш в #.',
+    ],
+    sayHoldsBut: [
+        'The solution holds, but leaves something out: win in #.',
+        'De oplossing klopt, maar laat iets weg: winst in #.',
+        'La solution est juste, mais incomplète : gain en #.',
+        'Решение верно, но неполно: выигрыш в #.',
+    ],
+    sayFails: [
+        'The solution does not hold: no win in # by it.',
+        'De oplossing klopt niet: geen winst in # ermee.',
+        'La solution est fausse : pas de gain en # ainsi.',
+        'Решение неверно: так не выиграть в #.',
+    ],
+    sayRefused: [
+        'The solution cannot be read.',
+        'De oplossing kan niet gelezen worden.',
+        'La solution ne peut pas être lue.',
+        'Решение не удаётся прочитать.',
+    ],
     remarkFails: [
         '# does not win: # refutes it.',
         '# wint niet: # weerlegt het.',
