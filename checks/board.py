@@ -1,5 +1,5 @@
 #!/usr/bin/env python3
-"""board.py: uses board.html as a composer does, in Chromium and in Firefox, and compares its answers with the programs'.
+"""board.py: uses board.html as a composer does, in Chromium and in Firefox, and compares its answers with `dw-desk`.
 
     checks/board.py [--page FILE] [--browser NAME] [--count POSITIONS] [--pictures FOLDER]
 
@@ -181,7 +181,8 @@ def check_rows(browser):
         browser.run(call("place", 10, text[0], of_fen(text)))
         assert browser.run(call("solve", most)) == line, (text, most, line)
         if tries is not None:
-            said = browser.run("t.all('#tries li').map((e) => [...e.querySelectorAll('.move')].map((m) => m.textContent))")
+            said = browser.run("t.all('#tries li').map((e) => "
+                               "[...e.querySelectorAll('.move')].map((m) => m.textContent))")
             assert said == [list(pair) for pair in tries], (text, said)
     for text, moves in SOLUTIONS:
         browser.run(call("place", 10, text[0], of_fen(text)))
@@ -201,9 +202,24 @@ def check_rows(browser):
             assert pieces == shown(of_fen(after)), (after, pieces)
     browser.run(call("place", 10, "W", of_fen("W:W27,32:B18")))
     browser.run("t.at('#exact').click()")
-    assert browser.run(call("solve", 3)).startswith("cooked in 3, shortest 2"), browser.run("t.at('#state').textContent")
+    assert browser.run(call("solve", 3)).startswith("cooked in 3, shortest 2")
     browser.run("t.at('#exact').click()")
     print(f"{browser.name}: {len(FINDS)} verdicts with their tries, {len(SOLUTIONS)} solutions, as worked")
+
+
+def check_firsts(browser):
+    """What each first move does, if the program in the page knows it."""
+    browser.run(call("place", 10, "W", of_fen("W:W27,32:B18")))
+    browser.run(call("solve", 5))
+    if browser.run("t.at('#firsts-part').hidden"):
+        return
+    browser.run("t.at('#ask-firsts').click()")
+    browser.wait("t.all('#firsts li').length === 3", 30)
+    said = browser.run("t.all('#firsts li').map((e) => [...e.querySelectorAll('.move')].map((m) => m.textContent))")
+    assert said == [["27-21", "18-22", "18-23"], ["27-22", "18x38"], ["32-28"]], said
+    browser.run("t.all('#firsts li .move')[2].click()")
+    browser.wait("t.at('#fen').value === 'W:W21,32:B23'", 10)
+    print(f"{browser.name}: what each first move does")
 
 
 def check_texts(browser):
@@ -211,13 +227,15 @@ def check_texts(browser):
     for text, fault in FAULTS:
         browser.run(call("read", text))
         browser.wait("!t.at('#fault').hidden && t.at('#fault strong')", 10)
-        assert browser.run("t.at('#fault strong').textContent") == fault, (text, browser.run("t.at('#fault').textContent"))
+        said = browser.run("t.at('#fault strong').textContent")
+        assert said == fault, (text, said)
         place = int(fault.rsplit(" ", 1)[1])
         marked = browser.run("t.at('#fault mark').textContent")
         assert marked == (text[place - 1:place] or "␣"), (text, marked)
     for text, wanted in READ:
         browser.run(call("read", text))
-        browser.wait(f"t.at('#fault').hidden && JSON.stringify(t.pieces()) === {json.dumps(json.dumps(shown(sorted(of_fen(wanted))), separators=(',', ':')))}", 10)
+        pieces = json.dumps(shown(sorted(of_fen(wanted))), separators=(",", ":"))
+        browser.wait(f"t.at('#fault').hidden && JSON.stringify(t.pieces()) === {json.dumps(pieces)}", 10)
         browser.run("t.leave()")
         browser.wait(f"t.at('#fen').value === {json.dumps(wanted)}", 10)
     browser.run(call("place", 10, "W", [(3, "w")]))
@@ -404,7 +422,8 @@ def check_collection(browser, folder, page):
     """A file of problems, judged, filtered, saved; hostile files; a thousand problems."""
     browser.run("t.at('#forget').click()")
     file = folder / "games.pdn"
-    file.write_bytes(b'[Event "<b>x</b><script>alert(1)</script>"] [White "A. Composer"] [FEN "W:W27,32:B18"] 1. 32-28 *\n\n'
+    file.write_bytes(b'[Event "<b>x</b><script>alert(1)</script>"] [White "A. Composer"] [FEN "W:W27,32:B18"]\n'
+                     b'1. 32-28 *\n\n'
                      b'[FEN "W:W3:B20"] *\n\n[Event "G\xe9rard"] [FEN "W:W27,45:B16"] *\n')
     browser.upload("#file", file)
     browser.wait("t.all('#list .card').length === 3", 20)
@@ -421,6 +440,12 @@ def check_collection(browser, folder, page):
     browser.run("t.at('#list .card').click()")
     browser.wait("t.at('#fen').value === 'W:W27,45:B16'", 10)
     browser.run("t.set('#filter', '')")
+    browser.wait("t.all('#list .card').length === 3", 10)
+    browser.run("t.at('#list .card').click()")
+    browser.wait("t.at('#fen').value === 'W:W27,32:B18' && !t.at('#compare-own').hidden", 10)
+    browser.run("t.at('#compare-own').click()")
+    browser.wait("t.at('#compared').dataset.line === 'fails in 1: 1 fail, 0 end, 0 open, 0 also'", 20)
+    browser.run("t.all('#list .card')[2].click()")
     browser.run("t.set('#add-title', 'Mine'); t.set('#add-author', 'Me'); t.at('#add-go').click()")
     browser.wait("t.all('#list .card').length === 4", 10)
     for name, button in (("problems.pdn", "save-pdn"), ("problems.html", "save-page"), ("problems.json", "save-json")):
@@ -545,6 +570,7 @@ def main():
                 for rows in (10, 8):
                     check_random(browser, rows, given.count if kind is browsers.Chromium else given.count // 4, source)
                 check_rows(browser)
+                check_firsts(browser)
                 check_texts(browser)
                 check_hands(browser)
                 check_keys(browser)

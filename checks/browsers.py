@@ -30,7 +30,8 @@ class WebSocket:
         host, port, path = re.fullmatch(r"ws://([^:/]+):(\d+)(/.*)", url).groups()
         self.socket = socket.create_connection((host, int(port)), timeout=ANSWERS_WITHIN)
         key = base64.b64encode(secrets.token_bytes(16)).decode()
-        self.socket.sendall(f"GET {path} HTTP/1.1\r\nHost: {host}:{port}\r\nUpgrade: websocket\r\nConnection: Upgrade\r\n"
+        self.socket.sendall(f"GET {path} HTTP/1.1\r\nHost: {host}:{port}\r\nUpgrade: websocket\r\n"
+                            "Connection: Upgrade\r\n"
                             f"Sec-WebSocket-Key: {key}\r\nSec-WebSocket-Version: 13\r\n\r\n".encode())
         self.buffer = b""
         while b"\r\n\r\n" not in self.buffer:
@@ -87,8 +88,9 @@ class Browser:
         self.downloads.mkdir()
         log = home / "log"
         with log.open("w", encoding="utf-8") as out:
-            self.process = subprocess.Popen([word.replace("{home}", str(home)) for word in words], stdout=out, stderr=out,
-                                            stdin=subprocess.DEVNULL, env={**os.environ, "HOME": str(home)})
+            words = [word.replace("{home}", str(home)) for word in words]
+            self.process = subprocess.Popen(words, stdout=out, stderr=out, stdin=subprocess.DEVNULL,
+                                            env={**os.environ, "HOME": str(home)})
         until = time.monotonic() + STARTS_WITHIN
         while not (found := re.search(mark, log.read_text(errors="replace"))):
             assert self.process.poll() is None and time.monotonic() < until, log.read_text(errors="replace")
@@ -165,7 +167,8 @@ class Chromium(Browser):
     def __init__(self):
         super().__init__(["chromium", "--headless", "--no-sandbox", "--disable-gpu", "--hide-scrollbars",
                           "--disable-background-networking", "--no-first-run", "--remote-debugging-port=0",
-                          "--user-data-dir={home}/profile", "--lang=en-US", "about:blank"], r"DevTools listening on (ws://\S+)")
+                          "--user-data-dir={home}/profile", "--lang=en-US", "about:blank"],
+                         r"DevTools listening on (ws://\S+)")
         self.session = {}
         self.ask("Browser.setDownloadBehavior", behavior="allow", downloadPath=str(self.downloads))
         self.tab()
@@ -231,7 +234,8 @@ class Chromium(Browser):
             code = KEYS.get(key, ("", 0))[1] or ord(key.upper()[0])
             text = {"Enter": "\r"}.get(key, key if len(key) == 1 else "")
             more = {"key": key, "windowsVirtualKeyCode": code, "modifiers": 8 if key.isupper() and len(key) == 1 else 0}
-            self.ask("Input.dispatchKeyEvent", self.session, type="keyDown" if text else "rawKeyDown", text=text, **more)
+            kind = "keyDown" if text else "rawKeyDown"
+            self.ask("Input.dispatchKeyEvent", self.session, type=kind, text=text, **more)
             self.ask("Input.dispatchKeyEvent", self.session, type="keyUp", **more)
 
     def upload(self, selector, file):
@@ -258,8 +262,8 @@ class Firefox(Browser):
     name = "firefox"
 
     def __init__(self):
-        super().__init__(["firefox-esr", "--headless", "--no-remote", "--remote-debugging-port=0", "--profile", "{home}",
-                          "about:blank"], r"WebDriver BiDi listening on (ws://\S+)")
+        super().__init__(["firefox-esr", "--headless", "--no-remote", "--remote-debugging-port=0", "--profile",
+                          "{home}", "about:blank"], r"WebDriver BiDi listening on (ws://\S+)")
         self.ask("session.new", capabilities={"alwaysMatch": {"acceptInsecureCerts": False}})
         self.ask("session.subscribe", events=["log.entryAdded", "network.beforeRequestSent"])
         # The first window has no focus, but one that is made later has.
@@ -312,18 +316,20 @@ class Firefox(Browser):
     def drag(self, start, end):
         moves = [{"type": "pointerMove", "x": round(start[0] + (end[0] - start[0]) * part),
                   "y": round(start[1] + (end[1] - start[1]) * part), "duration": 20} for part in (0.2, 0.6, 1)]
-        self.pointer([{"type": "pointerMove", "x": start[0], "y": start[1]}, {"type": "pointerDown", "button": 0}, *moves,
-                      {"type": "pointerUp", "button": 0}])
+        self.pointer([{"type": "pointerMove", "x": start[0], "y": start[1]}, {"type": "pointerDown", "button": 0},
+                      *moves, {"type": "pointerUp", "button": 0}])
 
     def press(self, *keys):
         actions = []
         for key in keys:
             value = KEYS.get(key, (key, 0))[0]
             actions += [{"type": "keyDown", "value": value}, {"type": "keyUp", "value": value}]
-        self.ask("input.performActions", context=self.context, actions=[{"type": "key", "id": "keys", "actions": actions}])
+        self.ask("input.performActions", context=self.context,
+                 actions=[{"type": "key", "id": "keys", "actions": actions}])
 
     def upload(self, selector, file):
-        found = self.ask("browsingContext.locateNodes", context=self.context, locator={"type": "css", "value": selector})
+        found = self.ask("browsingContext.locateNodes", context=self.context,
+                         locator={"type": "css", "value": selector})
         element = {"sharedId": found["nodes"][0]["sharedId"]}
         self.ask("input.setFiles", context=self.context, element=element, files=[str(file)])
 

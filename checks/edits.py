@@ -42,7 +42,7 @@ def copy_built(room):
 def named_by():
     """Of each crate, those of the repository that it names."""
     lines = (line.split(":") for line in (TOP / "crates.txt").read_text().splitlines() if ":" in line)
-    named = {crate: used.split() for crate, used in lines}
+    named = {crate.split()[0]: used.split() for crate, used in lines}
     return {crate: [name for name in used if name in named] for crate, used in named.items()}
 
 

@@ -81,7 +81,7 @@ class Copy:
 
     def __init__(self, room):
         self.top, self.kit = room / "copy", room / "kit"
-        self.crates = [line.partition(":")[0] for line in (TOP / "crates.txt").read_text().splitlines()]
+        self.crates = [line.partition(":")[0].split()[0] for line in (TOP / "crates.txt").read_text().splitlines()]
         for crate in self.crates:
             source = self.top / "crates" / crate / "src" / ("main.rt" if crate in PROGRAMS else "lib.rt")
             source.parent.mkdir(parents=True)
@@ -176,7 +176,7 @@ def until(holds):
 def stands_on(crate):
     """A crate and all those of the repository that it stands on."""
     lines = (line.partition(":") for line in (TOP / "crates.txt").read_text().splitlines())
-    named = {name: libraries.split() for name, _, libraries in lines}
+    named = {name.split()[0]: libraries.split() for name, _, libraries in lines}
     return {crate}.union(*(stands_on(name) for name in named[crate] if name in named))
 
 

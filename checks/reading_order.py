@@ -141,7 +141,7 @@ def source_entries(file, names=None):
 
 def law_files():
     """The files of laws, by the order of crates.txt."""
-    crates = [line.split(":")[0] for line in (TOP / "crates.txt").read_text().splitlines()]
+    crates = [line.split(":")[0].split()[0] for line in (TOP / "crates.txt").read_text().splitlines()]
     layers = [CRATES / crate / "src" for crate in crates if not crate.startswith("dw_tests_")]
     paths = [path for src in layers for path in (*src.glob("laws.rt"), *sorted(src.glob("laws/*.rt")))]
     return [str(path.relative_to(CRATES)) for path in paths]

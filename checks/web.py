@@ -22,7 +22,8 @@ WEB = TOP / "web"
 PROGRAMS = {"dw": TOP / "dw", "dw-desk": TOP / "dw-desk"}
 SEED, TRACES, SLOW_TRACES = 31, 60, 3
 PROBLEMS = "W:W27,32:B18\nW:W27,45:B16\nW:W3:B20\nW:W27,32,38:B18\nW:W10,16,48:B13\nB:W43:B24,29\n"
-GAMES = '[Event "a \xe9"] [FEN "W:W27,32:B18"] 1. 32-28 18-22 2. 27x18 2-0\n\n[FEN "W:W27,45:B16"]\n1. 45-40 *\n[FEN "x"] *\n'
+GAMES = '[Event "a \xe9"] [FEN "W:W27,32:B18"] 1. 32-28 18-22 2. 27x18 2-0\n\n' \
+    '[FEN "W:W27,45:B16"]\n1. 45-40 *\n[FEN "x"] *\n'
 # Commands with their arguments, and whether they read games.
 COMMANDS = [
     ("dw show", False), ("dw moves", False), ("dw judge -n 2", False), ("dw list -n 2", False),
@@ -39,9 +40,8 @@ COMMANDS = [
     ("dw-desk --help", False), ("dw-desk mend --help", False), ("dw-desk find --most 0", False),
     ("dw-desk token --line 32-28 --problem 3", False), ("dw-desk find --problem 2-1", False),
 ]
-WORDS = ["dw", "dw-desk", "find", "judge", "list", "show", "--most", "-n", "2", "1", "0", "21", "--problem", "1-2", "--json",
-         "--pdn", "--board", "8", "10", "--lines", "--each", "--part", "1/2", "--help", "-h", "--memo", "none", "lru", "x",
-         "", "--", "é", "--line", "32-28", "token", "mend", "page", "--lang", "fr"]
+WORDS = """dw dw-desk find find judge moves judge list show --most -n 2 1 0 21 --problem 1-2 --json --pdn --board 8 10
+--lines --each --part 1/2 --help -h --memo none lru x -- é --line 32-28 token mend page --lang fr""".split() + [""]
 
 
 class Module:
@@ -102,6 +102,8 @@ def check_random(module, count, source):
     kinds = {}
     for _ in range(count):
         words = [source.choice(("dw", "dw-desk")), *source.choices(WORDS, k=source.randint(0, 6))]
+        if source.random() < 0.5:
+            words = [*source.choice(COMMANDS)[0].split(" "), *source.choices(WORDS, k=source.randint(0, 2))]
         text = PROBLEMS.encode()[:source.randint(0, 80)]
         wanted = native(words, text)
         assert module.ask(words, text) == wanted, (words, text, module.ask(words, text), wanted)
@@ -116,8 +118,10 @@ def check_random(module, count, source):
         assert module.ask(name, b"") == (2, b"", "error: the first argument is neither dw nor dw-desk\n"), name
     for name in ("dw", "dw-desk"):
         said = module.ask(name.encode() + b"\n\xff", b"")
-        assert said[:2] == (2, b"") and said[2].startswith("error: invalid UTF-8") and f"Usage: {name} " in said[2], said
-    print(f"{count} rows of random words, as the programs: statuses {dict(sorted(kinds.items()))}; {count} of random bytes")
+        assert said[:2] == (2, b"") and said[2].startswith("error: invalid UTF-8"), said
+        assert f"Usage: {name} " in said[2], said
+    print(f"{count} rows of random words, as the programs: statuses {dict(sorted(kinds.items()))}; {count} of random "
+          "bytes")
 
 
 def check_memory(module):
@@ -132,7 +136,9 @@ def check_memory(module):
             if said == whole:
                 break
             assert said[0] == 3 and whole[1].startswith(said[1]), (line, refused, said)
-            assert re.fullmatch(rf"{words[0]}: stopped: 1 memory, \d+ expanded\n", said[2]), (line, refused, said)
+            # A memo that may not grow forgets, and then a certificate lacks a position.
+            assert re.fullmatch(rf"{words[0]}: (stopped: 1 memory, \d+ expanded|too many positions, .*)\n", said[2]), \
+                (line, refused, said)
             refusals += 1
     for memory in (0, 1000, 100_000, 1_500_000, 3_000_000):
         status, report, message = module.ask(["dw-desk", "find"], PROBLEMS.encode(), memory=memory)
@@ -142,7 +148,8 @@ def check_memory(module):
 
 def check_room(module):
     """A report that does not fit is a failed write, and what was written is its beginning."""
-    for line in ("dw list -n 2", "dw --help", "dw-desk find", "dw-desk page -n 2", "dw-desk --help", "dw-desk mend -n 2"):
+    for line in ("dw list -n 2", "dw --help", "dw-desk find", "dw-desk page -n 2", "dw-desk --help",
+                 "dw-desk mend -n 2"):
         words, text = line.split(" "), PROBLEMS.encode()
         status, whole, message = module.ask(words, text)
         for room in {0, 1, len(whole) // 2, len(whole) - 1}:
@@ -153,8 +160,9 @@ def check_room(module):
 
 
 def check_hostile(module, source):
-    for text in (b"[" * 1_000_000, b'[Event "<script>alert(1)</script>"] [FEN "W:W27,32:B18"] {x} *', source.randbytes(300_000),
-                 b"".join(source.randbytes(30) + b"\n" for _ in range(2000)), b'[FEN "' * 20_000, b"{" * 100_000):
+    for text in (b"[" * 1_000_000, b'[Event "<script>alert(1)</script>"] [FEN "W:W27,32:B18"] {x} *',
+                 source.randbytes(300_000), b"".join(source.randbytes(30) + b"\n" for _ in range(2000)),
+                 b'[FEN "' * 20_000, b"{" * 100_000):
         for words in (["dw", "show"], ["dw", "show", "--pdn"], ["dw-desk", "check"],
                       ["dw-desk", "solution", "--pdn", "-n", "1"]):
             status, report, message = module.ask(words, text)

@@ -1,9 +1,9 @@
 /* The memory below the module: the three functions that the proved code calls for memory, and what the page calls.
 
-   Memory lies between `base` and `top`. A block has a head of 16 bytes, with its whole size, and begins at a multiple of
-   16. Small blocks have one of few sizes; each size has a list of free ones, and new ones are cut from a chunk. A large
-   block is a multiple of 4,096 bytes. Free large blocks stand in one list by their addresses, neighbours joined; one that
-   ends at `top` lowers it. */
+   Memory lies between `base` and `top`. A block has a head of 16 bytes, with its whole size, and begins at a multiple
+   of 16. Small blocks have one of few sizes; each size has a list of free ones, and new ones are cut from a chunk. A
+   large block is a multiple of 4,096 bytes. Free large blocks stand in one list by their addresses, neighbours joined;
+   one that ends at `top` lowers it. */
 #include "heap.h"
 
 enum { HEAD = 16, SMALL = 32768, CHUNK = 65536, UNIT = 4096, LISTS = 64 };

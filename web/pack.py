@@ -3,9 +3,9 @@
 
     web/pack.py MODULE VERSION OUTPUT
 
-MODULE is the WebAssembly module, which is compressed, VERSION the line at the foot of the page. The scripts stand one after another in one
-block, those that others import first; the names at their top level have to differ. The page's policy names the
-checksums of its script and of its style, so that nothing else runs, and nothing is fetched.
+MODULE is the WebAssembly module, which is compressed, VERSION the line at the foot of the page. The scripts stand one
+after another in one block, those that others import first; the names at their top level have to differ. The page's
+policy names the checksums of its script and of its style, so that nothing else runs, and nothing is fetched.
 """
 import base64
 import hashlib

@@ -67,7 +67,8 @@ export function foundIn([line, ...more]) {
     if (!open && !said) return null;
     /** @type {Found} */
     const found = {
-        line, verdict: 'undecided', n: Number((open ?? said)?.[open ? 1 : 2]), shortest: 0, keys: [], at: [], choices: [],
+        line, verdict: 'undecided', n: Number((open ?? said)?.[open ? 1 : 2]), shortest: 0, keys: [], at: [],
+        choices: [],
         tries: more.flatMap((text) => {
             const tried = /^try (\S+) refuted by (\S+)$/.exec(text);
             return tried ? [/** @type {[string, string]} */ ([tried[1], tried[2]])] : [];

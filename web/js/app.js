@@ -14,12 +14,14 @@ import { Rules } from './rules.js';
 /** The state of the page. Whoever wants to know of a change listens to it. */
 export class App extends EventTarget {
     /**
-     * @param {Workers} searches Workers for what may take long, as many as there are processors.
+     * @param {Workers} searches Workers for much that may take long, as many as there are processors.
+     * @param {Workers} solver Workers for the one question that the reader waits for.
      * @param {Workers} quick A worker for what is answered at once.
      */
-    constructor(searches, quick) {
+    constructor(searches, solver, quick) {
         super();
         this.searches = searches;
+        this.solver = solver;
         this.rules = new Rules((words, input) => quick.ask(words, input));
         this.quick = quick;
         /** @type {Language} */
@@ -28,6 +30,8 @@ export class App extends EventTarget {
         this.history = new History(emptyBoard(10), isSame);
         /** @type {Position | null} A position that is looked at: one of a solution or of a play. */
         this.looked = null;
+        /** @type {{file: Uint8Array, number: number, fen: string} | null} The game of a file that was set up last. */
+        this.source = null;
     }
 
     /** The position on the board. */

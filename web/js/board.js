@@ -213,7 +213,8 @@ export class BoardView {
     put(from, at) {
         const to = this.squareOf(document.elementFromPoint(at.clientX, at.clientY));
         const box = this.host.getBoundingClientRect();
-        const isOff = at.clientX < box.left || at.clientX > box.right || at.clientY < box.top || at.clientY > box.bottom;
+        const isBeside = at.clientX < box.left || at.clientX > box.right;
+        const isOff = isBeside || at.clientY < box.top || at.clientY > box.bottom;
         if (to) this.actions.move(from, to);
         else if (isOff) this.actions.erase(from);
     }

@@ -23,7 +23,8 @@ export const stateOf = (item) => (item.refused ? 'refused' : item.row?.verdict ?
  * The title of an item: what its tags say of event and author.
  * @param {Item} item
  */
-export const titleOf = ({ tags }) => ['Event', 'White', 'Date'].map((name) => valueOf(tags, name)).filter(Boolean).join(', ');
+export const titleOf = ({ tags }) =>
+    ['Event', 'White', 'Date'].map((name) => valueOf(tags, name)).filter(Boolean).join(', ');
 
 /**
  * The items that are shown, in order.
@@ -43,4 +44,5 @@ export function chosen(items, filter, sort) {
  * @param {Item[]} items
  * @param {Omit<Item, 'number'>[]} more
  */
-export const joined = (items, more) => [...items, ...more.map((item, i) => ({ ...item, number: items.length + i + 1 }))];
+export const joined = (items, more) =>
+    [...items, ...more.map((item, i) => ({ ...item, number: items.length + i + 1 }))];

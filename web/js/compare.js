@@ -1,5 +1,5 @@
 /** Comparing an author's solution with the truth. */
-import { byId, control, make } from './dom.js';
+import { byId, control, make, reveal } from './dom.js';
 import { checkIn } from './answers.js';
 import { textOf } from './engine.js';
 import { positionOf } from './position.js';
@@ -26,19 +26,24 @@ export function comparing(app) {
     const stop = control('stop-compare', HTMLButtonElement), go = control('compare', HTMLButtonElement);
 
     /** Compares what stands in the field; a whole game brings its own position. */
-    async function compare() {
+    async function compareField() {
+        const isGame = /^\s*\[/.test(field.value);
+        await compare(isGame ? field.value : `[FEN "${app.fen}"]\n\n${field.value}\n`, 1, isGame);
+    }
+
+    /** Compares the solution of one game of a file. */
+    async function compare(/** @type {string | Uint8Array} */ games, /** @type {number} */ number, isGame = false) {
         running?.abort();
         running = new AbortController();
-        const { signal } = running, isGame = /^\s*\[/.test(field.value), { rows } = app.position;
+        const { signal } = running, { rows } = app.position;
         checked = null;
         failed = '';
         stop.disabled = false;
         go.disabled = true;
         show();
-        const game = isGame ? field.value : `[FEN "${app.fen}"]\n\n${field.value}\n`;
         try {
-            const words = ['dw-desk', 'check', ...boardOf(rows), '--problem', '1'];
-            const text = reportOf(await app.searches.ask(words, game, signal));
+            const words = ['dw-desk', 'check', ...boardOf(rows), '--problem', String(number)];
+            const text = reportOf(await app.solver.ask(words, games, signal));
             checked = checkIn(text);
             fen = checked.fen;
             if (isGame && fen) app.edit(positionOf(fen, rows));
@@ -76,20 +81,33 @@ export function comparing(app) {
         return make('li', {}, button);
     }
 
+    /** What is said of the whole solution. */
+    function verdict(/** @type {ReturnType<typeof checkIn>} */ { summary, remarks }) {
+        const said = /^(holds|fails) in (\d+): /.exec(summary.at(-1) ?? '');
+        if (!said) return app.say('sayRefused');
+        if (said[1] === 'fails') return app.say('sayFails', said[2]);
+        return app.say(remarks.length ? 'sayHoldsBut' : 'sayHolds', said[2]);
+    }
+
     function show() {
-        const said = checked ? [checked.refused, ...checked.summary].filter(Boolean).join('. ') : failed;
-        byId('compared').textContent = running && !checked && !failed ? app.say('searching') : said;
+        byId('compared').textContent = checked ? verdict(checked)
+            : failed || (running ? app.say('searching') : '');
+        byId('compared-lines').textContent = checked ? [checked.refused, ...checked.summary].join('\n').trim() : '';
         byId('compared').dataset.line = checked?.summary.at(-1) ?? '';
         byId('remarks').replaceChildren(...(checked?.remarks ?? []).map(item));
     }
 
-    go.addEventListener('click', () => void compare());
+    go.addEventListener('click', () => void compareField());
+    byId('compare-own').addEventListener('click', () => {
+        if (app.source) void compare(app.source.file, app.source.number);
+    });
+    app.on(['edited'], () => reveal('compare-own', app.source !== null && app.source.fen === app.fen));
     stop.addEventListener('click', () => running?.abort());
     byId('movetext-file').addEventListener('change', async () => {
         const file = control('movetext-file', HTMLInputElement).files?.[0];
         if (!file) return;
         field.value = textOf(new Uint8Array(await file.arrayBuffer()));
-        void compare();
+        void compareField();
     });
     app.on(['spoken'], show);
 }

@@ -77,7 +77,10 @@ export class Engine {
         const exports = this.ready();
         exports.web_begin(BigInt(memory), BigInt(refused));
         const encoder = new TextEncoder();
-        const pieces = [words instanceof Uint8Array ? words : encoder.encode(words.join('\n')), typeof input === 'string' ? encoder.encode(input) : input];
+        const pieces = [
+            words instanceof Uint8Array ? words : encoder.encode(words.join('\n')),
+            typeof input === 'string' ? encoder.encode(input) : input,
+        ];
         const sizes = [...pieces.map((piece) => piece.length), room, MESSAGE, ENDED];
         const places = sizes.map((size) => Number(exports.web_alloc(BigInt(size))));
         if (places.includes(0)) return { status: 3, report: new Uint8Array(0), message: 'no memory for the input\n' };

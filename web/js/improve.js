@@ -90,7 +90,8 @@ export function improving(app) {
     function insert(/** @type {Neighbour} */ neighbour, /** @type {import('./squares.js').Rows} */ rows) {
         const at = neighbours.findIndex((other) => inOrder(neighbour, other) < 0);
         const place = at < 0 ? neighbours.length : at;
-        const card = make('button', { type: 'button', class: 'card', 'data-fen': neighbour.fen, 'data-change': neighbour.change },
+        const { fen, change } = neighbour;
+        const card = make('button', { type: 'button', class: 'card', 'data-fen': fen, 'data-change': change },
             make('span', { class: 'card-title' }, neighbour.change), make('span', {}, neighbour.key));
         card.prepend(diagramOf(positionOf(neighbour.fen, rows), neighbour.fen));
         card.addEventListener('click', () => {

@@ -27,8 +27,8 @@ const EACH = [300_000, 10_000_000];
 
 /** The word for what a problem counts as. */
 const STATES = /** @type {const} */ ({
-    sound: 'sound', dual: 'dualWord', cooked: 'cooked', unsolvable: 'unsolvable', undecided: 'undecided', refused: 'refused',
-    open: 'notJudged',
+    sound: 'sound', dual: 'dualWord', cooked: 'cooked', unsolvable: 'unsolvable', undecided: 'undecided',
+    refused: 'refused', open: 'notJudged',
 });
 
 /** The list. */
@@ -49,6 +49,8 @@ export class ListView {
         this.said = '';
         /** @type {Map<number, HTMLElement>} */
         this.cards = new Map();
+        /** @type {Map<number, {file: Uint8Array, number: number}>} The games of files that were opened. */
+        this.games = new Map();
         this.listen();
         this.show();
     }
@@ -60,7 +62,8 @@ export class ListView {
             if (file.files?.[0]) void this.open(file.files[0]);
             file.value = '';
         });
-        for (const kind of ['dragenter', 'dragover']) document.addEventListener(kind, (event) => event.preventDefault());
+        document.addEventListener('dragenter', (event) => event.preventDefault());
+        document.addEventListener('dragover', (event) => event.preventDefault());
         document.addEventListener('drop', (event) => {
             event.preventDefault();
             const dropped = event.dataTransfer?.files[0];
@@ -112,10 +115,13 @@ export class ListView {
             ]);
             const sections = gamesIn(reportOf(games)), problems = rowsOf(reportOf(found));
             const more = problems.map((row, i) => ({
-                rows, fen: row.fen ?? '', tags: row.refused ? [] : sections[i]?.tags ?? [], refused: row.refused ?? '', row: null,
+                rows, fen: row.fen ?? '', tags: row.refused ? [] : sections[i]?.tags ?? [],
+                refused: row.refused ?? '', row: null,
             }));
             this.tell('');
+            const before = this.items.length;
             this.put(joined(this.items, more));
+            if (isPdn) more.forEach((_, i) => this.games.set(before + i + 1, { file: bytes, number: i + 1 }));
         } catch (error) {
             this.tell(app.say('failed', String(error)));
         }
@@ -126,7 +132,8 @@ export class ListView {
         const { app } = this;
         /** @type {import('./pdn.js').Tag[]} */
         const tags = [];
-        const title = control('add-title', HTMLInputElement).value.trim(), author = control('add-author', HTMLInputElement).value.trim();
+        const title = control('add-title', HTMLInputElement).value.trim();
+        const author = control('add-author', HTMLInputElement).value.trim();
         if (title) tags.push(['Event', title]);
         if (author) tags.push(['White', author]);
         const { rows } = app.position, refused = byId('fault').hidden ? '' : byId('fault').textContent ?? '';
@@ -145,6 +152,7 @@ export class ListView {
      */
     put(items) {
         this.running?.abort();
+        if (items.length === 0) this.games.clear();
         this.items = items;
         this.shown = PAGE;
         this.keep();
@@ -176,7 +184,7 @@ export class ListView {
         };
         try {
             for (const each of EACH) {
-                const open = this.items.filter((item) => !item.refused && (!item.row || item.row.verdict === 'undecided'));
+                const open = this.items.filter((item) => ['open', 'undecided'].includes(stateOf(item)));
                 await Promise.all(open.map((item) => judge(item, each)));
             }
             this.tell('');
@@ -206,11 +214,13 @@ export class ListView {
     /** Saves a page to be printed, as the program writes it. */
     async savePage() {
         const { app } = this, { rows } = app.position;
-        const games = this.items.filter((item) => !item.refused && item.rows === rows).map((item) => gameOf(item.tags, item.fen));
+        const games = this.items.filter((item) => !item.refused && item.rows === rows)
+            .map((item) => gameOf(item.tags, item.fen));
         const found = this.items.map((item) => item.row?.n ?? 1);
         const words = ['dw-desk', 'page', '--pdn', ...boardOf(rows), '--most', String(Math.max(1, ...found)),
             '--lang', app.language, '--title', app.say('title'), '--numbers'];
-        const pages = await this.batch(() => app.searches.ask(words, games.join(''), this.running?.signal).then(reportOf), true);
+        const ask = () => app.searches.ask(words, games.join(''), this.running?.signal);
+        const pages = await this.batch(() => ask().then(reportOf), true);
         if (pages) this.saveAs('problems.html', pages[0], 'text/html');
     }
 
@@ -278,7 +288,8 @@ export class ListView {
      */
     moreButton(shown, all) {
         const { app } = this;
-        const more = make('button', { type: 'button', class: 'more' }, `${app.say('showMore')} (${app.say('shownOf', shown, all)})`);
+        const text = `${app.say('showMore')} (${app.say('shownOf', shown, all)})`;
+        const more = make('button', { type: 'button', class: 'more' }, text);
         more.addEventListener('click', () => {
             this.shown += PAGE;
             void this.show();
@@ -289,11 +300,15 @@ export class ListView {
     /** @param {Item} item */
     card(item) {
         const { app } = this;
-        const body = make('button', { type: 'button', class: 'card', 'data-number': String(item.number), 'data-fen': item.fen });
+        const data = { 'data-number': String(item.number), 'data-fen': item.fen };
+        const body = make('button', { type: 'button', class: 'card', ...data });
         if (item.refused) body.disabled = true;
         else body.append(diagramOf(positionOf(item.fen, item.rows), item.fen));
-        body.append(make('span', { class: 'card-title' }, `${item.number}. ${titleOf(item)}`), make('span', { class: 'card-state' }));
+        body.append(make('span', { class: 'card-title' }, `${item.number}. ${titleOf(item)}`),
+            make('span', { class: 'card-state' }));
         body.addEventListener('click', () => {
+            const game = this.games.get(item.number);
+            app.source = game ? { ...game, fen: item.fen } : null;
             app.edit(positionOf(item.fen, item.rows));
             if (item.row?.n) control('mend-n', HTMLInputElement).value = String(item.row.n);
             byId('board').scrollIntoView({ block: 'nearest' });

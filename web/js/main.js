@@ -82,7 +82,8 @@ function keepPosition(app, store) {
 /** Starts the page. */
 export async function start() {
     const make = await makerOfWorkers(), store = new Store(() => localStorage);
-    const app = new App(new Workers(make, Math.max(1, navigator.hardwareConcurrency || 2)), new Workers(make, 1));
+    const processors = Math.max(1, navigator.hardwareConcurrency || 2);
+    const app = new App(new Workers(make, processors), new Workers(make, 2), new Workers(make, 1));
     document.querySelector('defs')?.append(...diagramParts());
     const settings = store.get('settings') ?? {};
     app.language = languageOf([settings.language ?? '', ...navigator.languages]);
@@ -108,8 +109,8 @@ export async function start() {
     byId('most').addEventListener('change', () => keepPosition(app, store));
     await begin(app, store);
     addEventListener('hashchange', () => {
-        const said = addressIn(location.hash);
-        if (said.fen !== undefined && !isSame(positionOf(said.fen, said.rows ?? 10), app.position)) void begin(app, store);
+        const { fen, rows } = addressIn(location.hash);
+        if (fen !== undefined && !isSame(positionOf(fen, rows ?? 10), app.position)) void begin(app, store);
     });
     document.documentElement.dataset.ready = 'true';
 }

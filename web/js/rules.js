@@ -46,7 +46,8 @@ export class Rules {
         const asked = [...new Set(fens)].filter((fen) => !this.known.has(`${rows} ${fen}`));
         if (asked.length) {
             if (this.known.size > 10_000) this.known.clear();
-            const { report } = await this.ask(['dw', 'moves', ...boardOf(rows)], asked.map((fen) => `${fen}\n`).join(''));
+            const lines = asked.map((fen) => `${fen}\n`).join('');
+            const { report } = await this.ask(['dw', 'moves', ...boardOf(rows)], lines);
             legalIn(textOf(report)).forEach((moves, i) => this.known.set(`${rows} ${asked[i]}`, moves));
         }
         return fens.map((fen) => this.known.get(`${rows} ${fen}`) ?? []);

@@ -2,7 +2,9 @@
 import { BoardView, pieceOf } from './board.js';
 import { byId, chooseOne, control, make, reveal } from './dom.js';
 import { fenFault } from './answers.js';
-import { emptyBoard, exchanged, isSame, mirrored, onBoard, opening, positionOf, withMoved, withPiece } from './position.js';
+import {
+    emptyBoard, exchanged, isSame, mirrored, onBoard, opening, positionOf, withMoved, withPiece,
+} from './position.js';
 
 /**
  * @typedef {import('./app.js').App} App
@@ -161,6 +163,7 @@ function showFault(app, text, refused) {
     while (end < bytes.length && (bytes[end] & 0xc0) === 0x80) end += 1;
     place.append(
         make('strong', {}, `${fault.number} ${fault.name} at ${fault.place}`),
-        make('code', {}, cut(0, fault.place - 1), make('mark', {}, cut(fault.place - 1, end) || '␣'), cut(end, bytes.length)),
+        make('code', {}, cut(0, fault.place - 1), make('mark', {}, cut(fault.place - 1, end) || '␣'),
+            cut(end, bytes.length)),
     );
 }

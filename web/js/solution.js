@@ -99,8 +99,9 @@ export class SolutionView {
      * @param {boolean} isBegun
      */
     button(node, isBegun) {
-        const attributes = { type: 'button', class: 'move', 'data-fen': node.fen, 'data-move': node.move, tabindex: '-1' };
-        const made = make('button', attributes, `${numberOf(node, isBegun)}${node.move}`);
+        const data = { 'data-fen': node.fen, 'data-move': node.move };
+        const text = `${numberOf(node, isBegun)}${node.move}`;
+        const made = make('button', { type: 'button', class: 'move', tabindex: '-1', ...data }, text);
         this.shown.set(node, made);
         this.nodes.set(made, node);
         return made;
@@ -115,7 +116,8 @@ export class SolutionView {
     /** @param {KeyboardEvent} event */
     onKey(event) {
         if (!this.here) return;
-        const act = { ArrowLeft: 'back', ArrowRight: 'on', ArrowUp: 'before', ArrowDown: 'after', Home: 'start' }[event.key];
+        const { key } = event;
+        const act = { ArrowLeft: 'back', ArrowRight: 'on', ArrowUp: 'before', ArrowDown: 'after', Home: 'start' }[key];
         if (!act) return;
         event.preventDefault();
         this.step(/** @type {'back' | 'on' | 'before' | 'after' | 'start'} */ (act));

@@ -62,7 +62,7 @@ export class Solving {
 
     /** Learns what the program in the page knows. */
     async learn() {
-        const ask = (/** @type {string[]} */ words, /** @type {string | Uint8Array} */ input) => this.app.quick.ask(words, input);
+        const { ask } = this.app.rules;
         this.knowsMoves = await knows(ask, ['dw-desk', 'moves'], '--json');
         this.knowsTree = await knows(ask, ['dw-desk', 'solution'], '--json');
         this.show();
@@ -126,14 +126,15 @@ export class Solving {
         tick();
         const timer = setInterval(tick, TICK);
         try {
-            const ask = app.searches.ask.bind(app.searches);
+            const ask = app.solver.ask.bind(app.solver);
             this.found = control('exact', HTMLInputElement).checked ? await judge(ask, asked, signal)
                 : await find(ask, asked, ({ noWinIn, expanded }) => {
                     this.noWinIn = noWinIn;
-                    known = [noWinIn ? app.say('noWinYet', noWinIn) : '', app.say('expanded', expanded.toLocaleString(app.language))]
-                        .filter(Boolean).join(', ');
+                    const positions = app.say('expanded', expanded.toLocaleString(app.language));
+                    known = [noWinIn ? app.say('noWinYet', noWinIn) : '', positions].filter(Boolean).join(', ');
                 }, signal);
             this.show();
+            control('mend-n', HTMLInputElement).value = String(this.found.n);
             app.tell('solved');
             if (this.found.verdict !== 'unsolvable') await this.write(signal);
             this.setState('done', app.say('done', ((performance.now() - this.begun) / 1000).toFixed(1)));
@@ -160,7 +161,8 @@ export class Solving {
     /** The words that ask for the solution of what was found. */
     solutionWords() {
         const { asked, found } = this;
-        return ['dw-desk', 'solution', ...boardOf(asked?.rows ?? 10), '-n', String(found?.n ?? 1), '--lines', String(LINES)];
+        const board = boardOf(asked?.rows ?? 10), n = String(found?.n ?? 1);
+        return ['dw-desk', 'solution', ...board, '-n', n, '--lines', String(LINES)];
     }
 
     /**
@@ -171,7 +173,7 @@ export class Solving {
         const { app, asked, fen } = this, words = this.solutionWords();
         if (!asked) return;
         if (this.knowsTree) words.push('--json');
-        const text = reportOf(await app.searches.ask(words, `${fen}\n`, signal));
+        const text = reportOf(await app.solver.ask(words, `${fen}\n`, signal));
         let tree, isMore;
         if (this.knowsTree) {
             const [row] = rowsOf(text);
@@ -209,7 +211,8 @@ export class Solving {
         const verdict = byId('verdict');
         verdict.dataset.line = found.line;
         verdict.dataset.verdict = found.verdict;
-        verdict.replaceChildren(make('span', { class: 'sign', 'aria-hidden': 'true' }, SIGNS[found.verdict]), ` ${this.sentence()}`);
+        const sign = make('span', { class: 'sign', 'aria-hidden': 'true' }, SIGNS[found.verdict]);
+        verdict.replaceChildren(sign, ` ${this.sentence()}`);
         byId('about').textContent = found.line;
         this.showDual();
         reveal('tries-part', found.tries.length > 0);
@@ -234,7 +237,8 @@ export class Solving {
      * @param {string[]} moves
      */
     jump(moves) {
-        const button = make('button', { type: 'button', class: 'move', 'data-move': moves[moves.length - 1] }, moves[moves.length - 1]);
+        const move = moves[moves.length - 1];
+        const button = make('button', { type: 'button', class: 'move', 'data-move': move }, move);
         button.addEventListener('click', () => void this.playOut(moves));
         return button;
     }
@@ -251,7 +255,7 @@ export class Solving {
     async copy() {
         const { app, asked } = this;
         if (!asked) return;
-        this.game ||= reportOf(await app.searches.ask(this.solutionWords(), `${this.fen}\n`));
+        this.game ||= reportOf(await app.solver.ask(this.solutionWords(), `${this.fen}\n`));
         try {
             await navigator.clipboard.writeText(this.game);
             byId('state').textContent = app.say('copied');
@@ -268,7 +272,7 @@ export class Solving {
         button.disabled = true;
         try {
             const words = ['dw-desk', 'certify', ...boardOf(asked.rows), '-n', String(found.n), '--cache', '4000000'];
-            save('certificate.txt', reportOf(await app.searches.ask(words, `${this.fen}\n`)), 'text/plain');
+            save('certificate.txt', reportOf(await app.solver.ask(words, `${this.fen}\n`)), 'text/plain');
         } catch (error) {
             byId('state').textContent = app.say('failed', error instanceof Error ? error.message : String(error));
         }
@@ -285,8 +289,8 @@ export class Solving {
         const words = ['dw-desk', 'moves', ...boardOf(asked.rows), '-n', String(found.n), '--json'];
         try {
             const rows = await Promise.all(Array.from({ length: parts }, async (_, i) => {
-                const part = ['--part', `${i + 1}/${parts}`];
-                const [row] = rowsOf(reportOf(await app.searches.ask([...words, ...part], `${this.fen}\n`, running.signal)));
+                const asking = [...words, '--part', `${i + 1}/${parts}`];
+                const [row] = rowsOf(reportOf(await app.searches.ask(asking, `${this.fen}\n`, running.signal)));
                 return /** @type {First[]} */ (row.moves);
             }));
             const [legal] = await app.rules.legal([this.fen], asked.rows);
@@ -304,7 +308,8 @@ export class Solving {
         const { app, firsts } = this;
         control('ask-firsts', HTMLButtonElement).hidden = Boolean(firsts);
         byId('firsts').replaceChildren(...(firsts ?? []).map((first) => {
-            const replies = (first.refuted_by ?? []).flatMap((reply, i) => [i ? ', ' : ' ', this.jump([first.move, reply])]);
+            const replies = (first.refuted_by ?? [])
+                .flatMap((reply, i) => [i ? ', ' : ' ', this.jump([first.move, reply])]);
             const says = first.wins_in ? ` ${app.say('winsIn', first.wins_in)}` : ` ${app.say('refutedBy')}`;
             return make('li', first.wins_in ? { class: 'wins' } : {}, this.jump([first.move]), says, ...replies);
         }));

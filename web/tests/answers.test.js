@@ -3,7 +3,8 @@ import test from 'node:test';
 import { checkIn, fenFault, foundIn, legalIn, mendedIn, movesOf, problemsIn, remarkIn, rowsOf } from '../js/answers.js';
 
 test('verdicts', () => {
-    const [dual] = problemsIn('problem 1: W:W10,16,48:B13\ndual in 3: 1. 10-5 13-18 2. 5-28 18-22 3. 28x6 / 28x11 / 28x17\n'
+    const [dual] = problemsIn('problem 1: W:W10,16,48:B13\n'
+        + 'dual in 3: 1. 10-5 13-18 2. 5-28 18-22 3. 28x6 / 28x11 / 28x17\n'
         + 'try 10-4 refuted by 13-19\n');
     assert.equal(dual.fen, 'W:W10,16,48:B13');
     assert.deepEqual(dual.found, {
@@ -53,7 +54,8 @@ test('remarks', () => {
 });
 
 test('neighbours', () => {
-    const { neighbours, sound, all, undecided } = mendedIn('problem 1: W:W27,32:B18\nwithout 27: W:W32:B18, sound in 2: 32-28\n'
+    const { neighbours, sound, all, undecided } = mendedIn('problem 1: W:W27,32:B18\n'
+        + 'without 27: W:W32:B18, sound in 2: 32-28\n'
         + 'sound 1 of 310, 2 undecided\n');
     assert.deepEqual(neighbours, [{ change: 'without 27', fen: 'W:W32:B18', n: 2, key: '32-28' }]);
     assert.deepEqual([sound, all, undecided], [1, 310, 2]);

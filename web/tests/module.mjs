@@ -15,7 +15,8 @@ for await (const line of createInterface({ input: process.stdin })) {
     const text = Buffer.from(input, 'base64');
     const asked = bytes === undefined ? words : Buffer.from(bytes, 'base64');
     const begun = process.cpuUsage();
-    const answer = Object.keys(bounds).length || bytes !== undefined ? engine.attempt(asked, text, bounds) : engine.run(asked, text);
+    const isBounded = Object.keys(bounds).length > 0 || bytes !== undefined;
+    const answer = isBounded ? engine.attempt(asked, text, bounds) : engine.run(asked, text);
     const took = process.cpuUsage(begun).user / 1e6;
     console.log(JSON.stringify({ ...answer, report: Buffer.from(answer.report).toString('base64'), took }));
 }

@@ -1,7 +1,9 @@
 import assert from 'node:assert/strict';
 import test from 'node:test';
 import { History } from '../js/history.js';
-import { emptyBoard, exchanged, fenOf, isSame, mirrored, onBoard, opening, positionOf, withMoved, withPiece } from '../js/position.js';
+import {
+    emptyBoard, exchanged, fenOf, isSame, mirrored, onBoard, opening, positionOf, withMoved, withPiece,
+} from '../js/position.js';
 
 const FENS = ['W:W27,32:B18', 'B:WK7,31:BK12,13', 'W:W:B', 'B:W50:B1'];
 

@@ -37,7 +37,8 @@ test('what the program refuses or cannot do is told', async () => {
 test('a movetext and the moves of JSON give the same tree', () => {
     const tree = treeIn('W:W27,32:B18', MOVETEXT);
     assert.deepEqual(nodesOf(tree).map(({ depth, move }) => [depth, move]), STEPS);
-    const same = treeOf('W:W27,32:B18', STEPS.map(([depth, move]) => ({ depth: Number(depth), move: String(move), fen: 'x' })));
+    const steps = STEPS.map(([depth, move]) => ({ depth: Number(depth), move: String(move), fen: 'x' }));
+    const same = treeOf('W:W27,32:B18', steps);
     assert.deepEqual(nodesOf(same).map(({ depth, move }) => [depth, move]), STEPS);
     const last = nodesOf(tree)[5];
     assert.deepEqual(pathTo(last).map(({ move }) => move), ['32-28', '18-23', '28x19']);
@@ -52,7 +53,8 @@ test('positions are asked of the program, and remembered', async () => {
     const rules = new Rules(async (words, input) => {
         count += 1;
         const lines = String(input).trim().split('\n');
-        return answer(lines.map((fen, i) => `problem ${i + 1}: ${fen}\n32-28 B:W27,28:B18\nmoves 1 taking 0\n`).join(''));
+        const moves = '32-28 B:W27,28:B18\nmoves 1 taking 0\n';
+        return answer(lines.map((fen, i) => `problem ${i + 1}: ${fen}\n${moves}`).join(''));
     });
     assert.deepEqual(await rules.legal(['W:W27,32:B18'], 10), [[{ move: '32-28', fen: 'B:W27,28:B18' }]]);
     await rules.legal(['W:W27,32:B18', 'W:W27,32:B18'], 10);
@@ -71,7 +73,8 @@ class FakeWorker {
     /** @param {{number: number, words: string[]}} asked */
     postMessage({ number, words }) {
         if (words[0] === 'never') return;
-        setTimeout(() => this.onmessage?.({ data: words[0] === 'bad' ? { number, failed: 'x' } : { number, answer: answer(words[0]) } }));
+        const data = words[0] === 'bad' ? { number, failed: 'x' } : { number, answer: answer(words[0]) };
+        setTimeout(() => this.onmessage?.({ data }));
     }
 
     terminate() {

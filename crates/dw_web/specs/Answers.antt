@@ -1,5 +1,5 @@
--- What a program writes and how it ends, by its arguments and its input. `before` is what stood in the report before it,
--- `after` what stands there after it; `full` says that there was no room for more.
+-- What a program writes and how it ends, by its arguments and its input. `before` is what stood in the report before
+-- it, `after` what stands there after it; `full` says that there was no room for more.
 use Rattle.std.specs.Prelude.{◌≡◌, ◌⊎◌, ℕ, Bool, true, false, List, Option, Some, None, Result, Ok, Err}
 use Rattle.std.specs.Borrow.{Bor}
 use Rattle.std.specs.Option.{option_copied}
