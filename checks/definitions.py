@@ -198,7 +198,7 @@ def skip(lines, line, end, ends=str.__eq__):
 PROOF = r"\s*ghost (laws|total|matches_\w+|respects_eq|inverse|inverse_ok|numbers|shifts|word_is) ="
 KEPT = PROOF.replace("(", "(view|invariant|")
 NAMES = """board moves memo solve notation list games verdict report study solution page certificate mend arguments commands
-desk_commands desk""".split()
+desk_commands desk web""".split()
 LAYERS = [f"dw_{layer}" for layer in NAMES] + ["dw"]
 SOURCES = [path for layer in LAYERS for path in sorted((CRATES / layer).glob("src/**/*.rt"))]
 PRIVATE_TRAITS = {name for path in SOURCES for name in re.findall(r"^pub\(crate\) trait (\w+)", source_text(path), re.M)}
