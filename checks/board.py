@@ -1,7 +1,7 @@
 #!/usr/bin/env python3
 """board.py: uses board.html as a composer does, in Chromium and in Firefox, and compares its answers with `dw-desk`.
 
-    checks/board.py [--page FILE] [--browser NAME] [--count POSITIONS] [--pictures FOLDER]
+    checks/board.py [--page FILE] [--browser NAME] [--count POSITIONS] [--pictures FOLDER] [--shot docs/board.png]
 
 Random positions (100 on each board if not said, fewer in the second browser) are set up by clicks, and answered as
 `dw-desk find` does. Worked rows go through the page's controls. Pieces are dragged, taps and keys do what clicks do.
@@ -549,12 +549,21 @@ def take_pictures(browser, page, folder):
             browser.picture(folder / f"{browser.name}-{scheme}-{width}.png", whole=True)
 
 
+def take_shot(browser, page, file):
+    """The picture of the README: a problem that is solved."""
+    open_page(browser, page, "#fen=W:W27,32:B18&n=8")
+    browser.run(call("solve", 8))
+    browser.resize(1100, 860)
+    browser.picture(file)
+
+
 def main():
     words = argparse.ArgumentParser()
     words.add_argument("--page", help="a page that is there; without it one is made")
     words.add_argument("--browser", choices=("chromium", "firefox"))
     words.add_argument("--count", type=int, default=100)
-    words.add_argument("--pictures", type=pathlib.Path)
+    words.add_argument("--pictures", type=pathlib.Path, help="a folder for pictures of the page")
+    words.add_argument("--shot", type=pathlib.Path, help="the file for the picture of the README")
     given = words.parse_args()
     with tempfile.TemporaryDirectory() as name:
         folder = pathlib.Path(name)
@@ -583,6 +592,8 @@ def main():
                 check_share(browser, page)
                 if given.pictures:
                     take_pictures(browser, page, given.pictures)
+                if given.shot and kind is browsers.Chromium:
+                    take_shot(browser, page, given.shot)
                 assert not browser.fetched(), browser.fetched()
                 assert not browser.errors, browser.errors
                 print(f"{browser.name}: nothing fetched, no error on the console", flush=True)

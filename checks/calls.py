@@ -25,7 +25,7 @@ clauses. A clause without a name is a contract of one clause. Follow the link fo
 """
 # Crates that only test, measure or show the others.
 LEFT_OUT = re.compile(r"dw_(tests_\w+|bench|example)$")
-FUNCTION = re.compile(r"( *)((?:pub(?:\(crate\))? )?)(?:const )?fn (\w+)")
+FUNCTION = re.compile(r"( *)((?:pub(?:\(crate\))? )?)(?:const )?(?:extern .C. )?fn (\w+)")
 BLOCK = re.compile(
     r"(?:pub(?:\(crate\))? )?(?:impl(?:<.*?>)? (?:([\w:]+)(?:<.*?>)? for )?&?(?:mut )?(\w+)|trait (\w+))")
 

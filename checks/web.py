@@ -6,7 +6,8 @@
 The scripts pass their own tests in node, and their types are right. The heap passes random traces, natively and under
 valgrind. The module answers as the programs do, byte for byte, with the same exit status and message: each example of
 a command on each of some files, random arguments, and bytes that are no text. Each allocation is refused in turn, a
-report has too little room, memory has a bound; then it says so, and what it wrote is a beginning of the report.
+report has too little room, memory has a bound; then it says so, and what it wrote is a beginning of the report. The
+page in docs/ is what its sources give, if they are the present ones.
 """
 import argparse
 import base64
@@ -70,6 +71,15 @@ def native(words, text):
     ran = subprocess.run([PROGRAMS[words[0]], *words[1:]], input=text, capture_output=True, timeout=600, check=False,
                          cwd="/none" if pathlib.Path("/none").exists() else "/")
     return ran.returncode, ran.stdout, ran.stderr.decode()
+
+
+def check_committed(page):
+    """The page in docs/ is that of its sources, if these are the present ones."""
+    committed, foot = (TOP / "docs" / "board.html").read_bytes(), rb'<p id="version">(.*)</p>'
+    theirs, ours = (re.search(foot, text)[1].decode() for text in (committed, page.read_bytes()))
+    if theirs == ours:
+        assert committed == page.read_bytes(), "docs/board.html: the same sources and toolchain, and other bytes"
+    print(f"docs/board.html: {'as it is made now' if theirs == ours else f'of other sources or tools, {theirs}'}")
 
 
 def check_scripts():
@@ -182,6 +192,7 @@ def main():
         check_heap(folder)
         if not given.module:
             subprocess.run([TOP / "board", folder / "board.html"], check=True, stderr=subprocess.DEVNULL)
+            check_committed(folder / "board.html")
         module = Module(given.module or TOP / "crates" / "dw_web" / "out" / "dw_web.wasm")
         source = random.Random(SEED)
         check_commands(module)

@@ -20,7 +20,7 @@ import { Stopped } from './workers.js';
 const LARGEST = 10_000_000;
 
 /** How many problems are shown at first and with each further call, and how many at a stroke. */
-const PAGE = 200, STROKE = 20;
+const PAGE = 200, STROKE = 10;
 
 /** How many positions a problem may take when all are judged: first few, then more for those that stay open. */
 const EACH = [300_000, 10_000_000];
@@ -113,7 +113,10 @@ export class ListView {
                 app.searches.ask([...words('solution'), '-n', '1', '--lines', '1'], bytes),
                 app.searches.ask([...words('find'), '--json', '--most', '1'], bytes),
             ]);
-            const sections = gamesIn(reportOf(games)), problems = rowsOf(reportOf(found));
+            const sections = gamesIn(reportOf(games));
+            await breathe();
+            const problems = rowsOf(reportOf(found));
+            await breathe();
             const more = problems.map((row, i) => ({
                 rows, fen: row.fen ?? '', tags: row.refused ? [] : sections[i]?.tags ?? [],
                 refused: row.refused ?? '', row: null,

@@ -11,7 +11,7 @@ mod programs;
 mod report;
 mod room;
 mod said;
-mod words;
+pub mod words;
 
 pub use call::dw_web_run;
 pub use ended::Ended;

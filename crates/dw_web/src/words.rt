@@ -13,7 +13,7 @@ const LINE_FEED: u8 = b'\n';
 
 /// The program that a command line is for.
 #[derive(Clone, Copy)]
-pub(crate) enum Program {
+pub enum Program {
     Report,
     Desk,
 }
