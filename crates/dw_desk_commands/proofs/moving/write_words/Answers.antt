@@ -6,17 +6,17 @@ use Rattle.dw_first_moves.specs.Telling.{told_by}
 use Rattle.dw_notation.specs.Problems.{numbered}
 use Rattle.dw_desk_commands.specs.Moving.{SaysFirstMoves}
 use Rattle.dw_desk_commands.proofs.ProblemLemmas.{line_and_more}
-use Rattle.dw_desk_commands.proofs.moving.MovesArgsReportOne.report.Goals as goal
+use Rattle.dw_desk_commands.proofs.moving.write_words.Goals as goal
 
 pub returns-clause-text : goal.returns-clause-text
 returns-clause-text g c =
     let geo = g.B.Board.geometry in
     let taken = g.K.Sink.taken in
-    let asked = c.args.self.now in
+    let asked = c.args.asked.now in
     let p = c.in-Ok.position in
-    let done = c.in_ok-done.field-0 in
-    let whole = line_and_more geo (SaysFirstMoves geo asked.n asked.part asked.parts)
-    (numbered c.args.game.now.problem) p false (string_bytes c.in_ok-text.text) (taken c.args.sink.now)
+    let done = c.in_ok-done.done in
+    line_and_more geo (SaysFirstMoves geo asked.n asked.part asked.parts)
+    (numbered c.args.problem.now) p false (string_bytes c.in_ok-text.text) (taken c.args.sink.now)
     (taken c.write_all.new.sink) (taken c.write_all-2.new.sink) c.in-Ok.is (
       map told_by done.items,
       c.in_ok-done.ensures.done,
@@ -27,5 +27,4 @@ returns-clause-text g c =
     (subst (Appends (taken c.args.sink.now) (taken c.write_all.new.sink))
     (c.as_bytes.ensures.value ∙ (c.as_str.ensures.value ∙ c.problem_line.ensures)) c.in_ok-write_all.ensures.ok)
     (subst (Appends (taken c.write_all.new.sink) (taken c.write_all-2.new.sink))
-    (c.as_bytes-2.ensures.value ∙ c.as_str-2.ensures.value) c.in_ok-write_all-2.ensures.ok) in
-    (whole.0, (false, whole.1, refl), whole.2)
+    (c.as_bytes-2.ensures.value ∙ c.as_str-2.ensures.value) c.in_ok-write_all-2.ensures.ok)
