@@ -63,6 +63,7 @@ CHECKS = [
     Check("wins", wanted="crates/dw_tests_search/stdin"),
     Check("collection", slow=("--count", "100"), wanted="examples/collection.pdn"),
     Check("examples"),
+    Check("json_rows"),
     Check("random_fens", slow=("--count", "1000000")),
     Check("refused_search"),
     Check("perft"),

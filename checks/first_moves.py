@@ -5,10 +5,11 @@
 
 For so many random small positions (150 on each board if not said), within 1, 2 or 3 moves, the recursion of judging.py
 tells of each legal move the least number of moves with which it wins, or all replies that refute it. The lines have to
-be the same, in the same order, with the same count, whatever memo is taken. So have those of each part; the parts put
-together are the whole, and the moves that win are the keys of `dw judge`. At last come the worked position, and the
-faults of the command.
+be the same, in the same order, with the same count, whatever memo is taken, and so has the line of JSON. So have those
+of each part; the parts put together are the whole, and the moves that win are the keys of `dw judge`. At last come the
+worked position, and the faults of the command.
 """
+import json
 import pathlib
 import random
 import subprocess
@@ -60,6 +61,16 @@ def report(first, found):
     return "".join(line + "\n" for line in [first, *lines_of(found), count_line(found)])
 
 
+def row(position, n, found, turn):
+    """What is said of a position as a line of JSON."""
+    moves = [{"move": name, "fen": fen(after, other(turn)),
+              **({"refuted_by": replies} if least is None else {"wins_in": least})}
+             for name, after, least, replies in found]
+    winning = sum(least is not None for _, _, least, _ in found)
+    told = {"problem": 1, "fen": position, "n": n, "winning": winning, "moves": moves}
+    return json.dumps(told, separators=(",", ":")) + "\n"
+
+
 def check_random(rows, count):
     source, board = random.Random(SEED + rows), Board(rows)
     told = winning = 0
@@ -78,6 +89,8 @@ def check_random(rows, count):
         wanted = report(first, found)
         written = run(DESK, ["moves", *words, *MEMOS[place % len(MEMOS)]], text)
         assert written == wanted, (position, n, written, wanted)
+        written = run(DESK, ["moves", *words, "--json"], text)
+        assert written == row(position, n, found, turn), (position, n, written)
         parts = source.randint(2, MOST_PARTS)
         pieces = []
         for part in range(1, parts + 1):
@@ -85,6 +98,8 @@ def check_random(rows, count):
             written = run(DESK, ["moves", *words, "--part", f"{part}/{parts}"], text)
             assert written == report(first, some), (position, n, part, parts, written)
             pieces.append(written.splitlines()[1:-1])
+            written = run(DESK, ["moves", *words, "--json", "--part", f"{part}/{parts}"], text)
+            assert written == row(position, n, some, turn), (position, n, part, parts, written)
         joined = [pieces[at % parts][at // parts] for at in range(len(found))]
         assert joined == lines_of(found), (position, n, parts, joined)
         verdict = run(DW, ["judge", *words], text).splitlines()[1]
@@ -109,6 +124,12 @@ def check_rows():
         "problem 2: refused: 1 fen: 7 last row at 4\n")
     assert run(DESK, ["moves", "-n", "2", "--pdn"], '[FEN "W:W32:B28"]\n') == (
         "problem 1: W:W32:B28\n32x23 wins in 1\n1 of 1 win\n")
+    assert run(DESK, ["moves", "-n", "2", "--json"], ROW) == (
+        '{"problem":1,"fen":"W:W27,32:B18","n":2,"winning":1,"moves":[{"move":"27-21","fen":"B:W21,32:B18",'
+        '"refuted_by":["18-22","18-23"]},{"move":"27-22","fen":"B:W22,32:B18","refuted_by":["18x38"]},'
+        '{"move":"32-28","fen":"B:W27,28:B18","wins_in":2}]}\n')
+    assert run(DESK, ["moves", "-n", "2", "--json", "--problem", "2"], ROW + "W:W3:B20\n", 1) == (
+        '{"problem":2,"refused":"1 fen: 7 last row at 4"}\n')
     run(DESK, ["moves", "-n", "2", "--problem", "3"], ROW, 1, "dw-desk: no problem 3\n")
     for words in ([], ["-n", "0"], ["-n", "21"], ["-n", "2", "--part", "3/2"], ["-n", "2", "--part", "0/2"],
                   ["-n", "2", "--part", "1"], ["-n", "2", "--part", "1/1000001"], ["-n", "2", "--problem", "1-2"],

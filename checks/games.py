@@ -155,6 +155,9 @@ def check_random(rows, count, source):
             written = run(DESK, "solution", *words, "--lines", str(most), text=text)
             assert written == games, next(pair for pair in zip(written.split("\n\n"), games.split("\n\n"))
                                           if pair[0] != pair[1])
+            if most > 3:
+                least = ["--most", str(MOST), "--board", str(rows), "--lines", str(most)]
+                assert run(DESK, "solution", *least, text=text) == games, (rows, n)
             parts = GAME.findall(written)
             for (cells, turn, problems), (_, game), (lines, _) in zip(entries, parts, lists):
                 assert all(len(row) <= COLUMNS for row in game.splitlines()), game

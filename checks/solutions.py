@@ -6,12 +6,14 @@ those of a second reader.
 
 For so many random small positions (150 on each board if not said) a tree of moves is made of all lines of a win, and
 then spoilt: a path is cut, a move is changed for another one, a variation or a reply is taken out. It is written as a
-movetext with comments, marks and numbers of all kinds. What `dw-desk check` says of a file of these games has to be
-the remarks that the recursion of judging.py makes, byte for byte, for the right number of moves, for one less, and for
-the number that the tree has. Then bytes of the movetexts are dropped, doubled and changed: a reader written here from
-the table of tokens in docs/DESK.md has to find the same fault at the same place, or the same tree. With --count 4500
-there are up to 108,000 such movetexts, which takes about a quarter of an hour.
+movetext with comments, marks and numbers of all kinds. What `dw-desk check` says of a file of these games has to be the
+remarks that the recursion of judging.py makes, byte for byte, for the right number of moves, for one less, and for the
+number that the tree has. So have its lines of JSON, and what is left with --faults. Then bytes of the movetexts are
+dropped, doubled and changed: a reader written here from the table of tokens in docs/DESK.md has to find the same fault
+at the same place, or the same tree. With --count 4500 there are up to 108,000 such movetexts, which takes about a
+quarter of an hour.
 """
+import json
 import pathlib
 import random
 import re
@@ -290,12 +292,54 @@ def expected(problems, text, cells, turn, n):
     return checked(problems, cells, turn, tree, n or max(1, turns(tree)))
 
 
+def row_of(number, first, lines):
+    """What is said of a problem as a line of JSON."""
+    row = {"problem": number, "fen": first}
+    if lines[0].startswith("solution refused: "):
+        return {**row, "solution_refused": lines[0].removeprefix("solution refused: ")}
+    *said, last = lines
+    verdict, n, fail, end, left, also = re.fullmatch(
+        r"(holds|fails) in (\d+): (\d+) fail, (\d+) end, (\d+) open, (\d+) also", last).groups()
+    wins = not (said and said[0].startswith("no win in "))
+    remarks = []
+    for line in said[not wins:]:
+        kind, rest = line.split(" ", 1) if " " in line else (line, "")
+        refutation = {}
+        if kind == "fails":
+            rest, reply = rest.split(" refuted by ")
+            refutation = {"refutation": reply}
+        beginning, moves = rest, []
+        if kind == "open":
+            beginning, replies = rest.split(": ")
+            moves = replies.split(", ")
+        elif kind in ("fails", "also"):
+            beginning, keys = re.fullmatch(r"(?:(.*) )?\d+\. (.*)", rest).groups()
+            beginning, moves = beginning or "", keys.split(" / ")
+        remarks.append({"kind": kind, "line": beginning, "moves": moves, **refutation})
+    return {**row, "n": int(n), "win": wins, "holds": verdict == "holds", "fail": int(fail), "end": int(end),
+            "open": int(left), "also": int(also), "remarks": remarks}
+
+
+def compare_forms(words, told, status, file):
+    """Compares lines of JSON, and what is left with --faults, with the lines that are wanted of each problem."""
+    faulty = [(number, first, lines) for number, first, lines in told if not lines[0].startswith("holds in ")]
+    for more, some in ((["--json"], told), (["--faults"], faulty), (["--faults", "--json"], faulty)):
+        wanted = [[f"problem {number}: {first}", *lines] if "--json" not in more else
+                  [json.dumps(row_of(number, first, lines), separators=(",", ":"))] for number, first, lines in some]
+        ran = subprocess.run([DESK, "check", *words, *more, file], capture_output=True, text=True, timeout=3600,
+                             check=False)
+        lines = [line for lines in wanted for line in lines]
+        differ = [pair for pair in zip(ran.stdout.splitlines(), lines) if pair[0] != pair[1]]
+        assert (ran.returncode, ran.stdout.splitlines(), ran.stderr) == (status, lines, ""), (more, differ[:1])
+
+
 def compare(words, games, n, file):
     """Has the program check a file of games, and compares what it says."""
     file.write_bytes(b"".join(f'[Event "x"]\n[FEN "{first}"]'.encode() + text for _, first, _, _, text in games))
-    wanted, bad = "", 0
+    wanted, bad, told = "", 0, []
     for number, (problems, first, cells, turn, text) in enumerate(games, 1):
         lines, fails = expected(problems, text, cells, turn, n)
+        told.append((number, first, lines))
         wanted += "".join(f"{line}\n" for line in [f"problem {number}: {first}", *lines])
         bad += fails
     ran = subprocess.run([DESK, "check", *words, *(["-n", str(n)] if n else []), file], capture_output=True, text=True,
@@ -303,6 +347,7 @@ def compare(words, games, n, file):
     if (ran.returncode, ran.stdout, ran.stderr) != (int(bad > 0), wanted, ""):
         rows = zip(ran.stdout.splitlines(), wanted.splitlines())
         raise AssertionError((ran.returncode, ran.stderr, next((pair for pair in rows if pair[0] != pair[1]), None)))
+    compare_forms([*words, *(["-n", str(n)] if n else [])], told, int(bad > 0), file)
     return wanted
 
 

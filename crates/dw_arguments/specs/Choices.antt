@@ -7,6 +7,8 @@ use Rattle.dw_arguments.specs.declared.choices.MemoKind.{MemoKind}
 use Rattle.dw_arguments.specs.declared.choices.MemoKind.TheVariants as kinds
 use Rattle.dw_arguments.specs.declared.choices.PageLanguage.{PageLanguage}
 use Rattle.dw_arguments.specs.declared.choices.PageLanguage.TheVariants.{English, Dutch, French, Russian}
+use Rattle.dw_arguments.specs.declared.choices.PageTries.{PageTries}
+use Rattle.dw_arguments.specs.declared.choices.PageTries.TheVariants as tries
 use Rattle.dw_arguments.specs.declared.choices.Placing.{Placing}
 use Rattle.dw_arguments.specs.declared.choices.Placing.TheVariants as places
 
@@ -32,3 +34,8 @@ abbrev pub placing_named : (name : Option (List ℕ)) → Placing
 placing_named (Some name) = if bytes_eq name (codes "end") then places.End else if bytes_eq name (codes "none")
     then places.None else places.After
 placing_named None = places.After
+
+-- the tries of a name, all if it is not the one of none
+abbrev pub tries_named : (name : Option (List ℕ)) → PageTries
+tries_named (Some name) = if bytes_eq name (codes "none") then tries.None else tries.All
+tries_named None = tries.All

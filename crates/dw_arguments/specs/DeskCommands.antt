@@ -5,7 +5,7 @@ use Rattle.std.specs.Option.{option_or}
 use Rattle.std.specs.Str.{bytes_eq}
 use Rattle.std.specs.Borrow.{Bor}
 use Rattle.clap.specs.Words.{Row, Text}
-use Rattle.dw_arguments.specs.Choices.{language_named, placing_named}
+use Rattle.dw_arguments.specs.Choices.{language_named, placing_named, tries_named}
 use Rattle.dw_arguments.specs.Commands.{Keeps, ReadsFrom, moves_within, problem_asked}
 use Rattle.dw_arguments.specs.Options.{flag_given, number_given, text_given}
 use Rattle.dw_arguments.specs.Numbers.{part_named, portion_named}
@@ -36,9 +36,14 @@ pub record AsksFind (options : List Row) (asked : FindArgs) : Type 0 where
 
 pub record AsksCheck (options : List Row) (asked : CheckArgs) : Type 0 where
   pub n : asked.n ≡ number_given 1 20 options (codes "n")
+  pub faults : asked.faults ≡ flag_given options (codes "faults")
+  pub json : asked.json ≡ flag_given options (codes "json")
 
+-- -n or --most, of which one has to be there
 pub record AsksSolution (options : List Row) (asked : SolutionArgs) : Type 0 where
-  pub n : asked.n ≡ moves_within options
+  pub moves : asked.moves ≡ unwrap_or (option_or (number_given 1 20 options (codes "n"))
+      (number_given 1 20 options (codes "most"))) 1
+  pub is_least : asked.is_least ≡ is_some (number_given 1 20 options (codes "most"))
   pub lines : asked.lines ≡ lines_given options
 
 -- -n or --most, of which one has to be there
@@ -51,6 +56,7 @@ pub record AsksPage (options : List Row) (asked : PageArgs) : Type 0 where
   pub language : asked.language ≡ language_named (text_given options (codes "lang"))
   pub numbers : asked.numbers ≡ flag_given options (codes "numbers")
   pub solutions : asked.solutions ≡ placing_named (text_given options (codes "solutions"))
+  pub tries : asked.tries ≡ tries_named (text_given options (codes "tries"))
 
 pub record AsksCertify (options : List Row) (asked : CertifyArgs) : Type 0 where
   pub n : asked.n ≡ moves_within options
@@ -63,6 +69,7 @@ pub record AsksMend (options : List Row) (asked : MendArgs) : Type 0 where
 pub record AsksMoves (options : List Row) (asked : MovesArgs) : Type 0 where
   pub n : asked.n ≡ moves_within options
   pub part : part_named (text_given options (codes "part")) ≡ Some (asked.part, asked.parts)
+  pub json : asked.json ≡ flag_given options (codes "json")
 
 -- what every command asks for
 abbrev pub Reads : List Row → DeskArgs → Type 0

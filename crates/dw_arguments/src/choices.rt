@@ -112,3 +112,26 @@ impl Placing {
         }
     }
 }
+
+/// Which tries stand on a page.
+/// Example: `--tries none` asks for `PageTries::None`.
+#[derive(Clone, Copy, Debug, PartialEq, Eq)]
+pub enum PageTries {
+    All,
+    None,
+}
+
+impl PageTries {
+    ghost use Rattle.dw_arguments.specs.Choices.{tries_named};
+
+    /// The tries of a name: `none`, or else all.
+    /// Example: of `Some("none")` it is `PageTries::None`.
+    pub fn named(name: Option<&str>) -> PageTries
+        ensures { result ≡ tries_named (option_copied name.entry) }
+    {
+        match name {
+            Some("none") => PageTries::None,
+            _ => PageTries::All,
+        }
+    }
+}

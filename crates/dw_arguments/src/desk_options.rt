@@ -22,6 +22,8 @@ const USUAL_LINES: u64 = 1000;
 
 pub(crate) const CACHE_HELP: &str = "Keep at most C positions, 1 to 4000000 [default: 1000000]";
 
+pub(crate) const JSON_HELP: &str = "Write one line of JSON for each problem";
+
 /// `--lines`, `USUAL_LINES` if it is not given.
 pub(crate) fn lines<'a>(alloc: Global) -> Arg<'a> {
     let numbers = value_parser!(u64).range(FEWEST_LINES as i64..=MOST_LINES as i64);
@@ -45,6 +47,11 @@ pub(crate) fn moves_of(matches: &ArgMatches<'_>) -> u8
     ensures few { result ≤ 20 }
 {
     moves_given(matches, "n").unwrap_or(FEWEST_MOVES)
+}
+
+/// `--json`, a flag.
+pub(crate) fn json<'a>(alloc: Global, help: &'a str) -> Arg<'a> {
+    flag(alloc, "json", help)
 }
 
 /// `--progress`, a flag.

@@ -2,13 +2,13 @@
 ghost use Rattle.std.specs.Prelude.{◌≤◌, IfSome};
 ghost use Rattle.std.proofs.Props.{props};
 
-use crate::desk_options::{CACHE_HELP, progress};
+use crate::desk_options::{CACHE_HELP, JSON_HELP, json, progress};
 use crate::options::{
-    MOST_MOVES, board, cache, file, flag, flag_given, memo, most, moves_given, pdn, positions,
+    MOST_MOVES, board, cache, file, flag_given, memo, most, moves_given, pdn, positions,
     positions_given,
 };
 use crate::portion::problem;
-use clap::{Arg, ArgMatches, Command};
+use clap::{ArgMatches, Command};
 use std::alloc::{AllocError, Global};
 
 /// What the command `find` is asked for.
@@ -56,7 +56,7 @@ pub(crate) fn find_command<'a>(alloc: Global) -> Result<Command<'a>, AllocError>
         file(alloc),
         most(alloc, MOST_HELP),
         positions(alloc, "each", EACH_HELP),
-        json(alloc),
+        json(alloc, JSON_HELP),
         memo(alloc, "deep"),
         cache(alloc, CACHE_HELP),
         progress(alloc),
@@ -65,10 +65,6 @@ pub(crate) fn find_command<'a>(alloc: Global) -> Result<Command<'a>, AllocError>
         .about(ABOUT)
         .after_help(EXAMPLES)
         .args(arguments)
-}
-
-fn json<'a>(alloc: Global) -> Arg<'a> {
-    flag(alloc, "json", "Write one line of JSON for each problem")
 }
 
 impl FindArgs {

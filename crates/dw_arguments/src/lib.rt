@@ -24,7 +24,7 @@ mod token;
 
 pub use certify::CertifyArgs;
 pub use check::CheckArgs;
-pub use choices::{BoardSize, MemoKind, PageLanguage, Placing};
+pub use choices::{BoardSize, MemoKind, PageLanguage, PageTries, Placing};
 pub use desk::{DeskArgs, Task};
 pub use error::CliError;
 pub use find::FindArgs;

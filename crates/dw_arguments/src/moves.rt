@@ -2,8 +2,8 @@
 ghost use Rattle.std.specs.Prelude.{◌≡◌, ◌≤◌, IfSome, None, codes};
 ghost use Rattle.dw_arguments.specs.Numbers.{part_named};
 
-use crate::desk_options::{CACHE_HELP, moves_of, progress};
-use crate::options::{board, cache, file, memo, one_problem, pdn, within};
+use crate::desk_options::{CACHE_HELP, json, moves_of, progress};
+use crate::options::{board, cache, file, flag_given, memo, one_problem, pdn, within};
 use crate::part::{part, part_given};
 use clap::{ArgMatches, Command};
 use std::alloc::{AllocError, Global};
@@ -18,6 +18,8 @@ pub struct MovesArgs {
     pub part: u32,
     /// How many parts there are, at most 1,000,000.
     pub parts: u32,
+    /// Whether a line of JSON is written.
+    pub json: bool,
     pub ghost some_moves: { 1 ≤ n },
     pub ghost few_moves: { n ≤ 20 },
     pub ghost some_part: { 1 ≤ part },
@@ -47,6 +49,7 @@ pub(crate) fn moves_command<'a>(alloc: Global) -> Result<Command<'a>, AllocError
         file(alloc),
         within(alloc, help).required(true),
         part(alloc),
+        json(alloc, "Write one line of JSON"),
         memo(alloc, "deep"),
         cache(alloc, CACHE_HELP),
         progress(alloc),
@@ -71,6 +74,7 @@ impl MovesArgs {
             n: moves_of(matches),
             part,
             parts,
+            json: flag_given(matches, "json"),
         })
     }
 }

@@ -1,7 +1,7 @@
 //! The arguments of the command `page`.
 ghost use Rattle.std.specs.Prelude.{◌≤◌};
 
-use crate::choices::{PageLanguage, Placing};
+use crate::choices::{PageLanguage, PageTries, Placing};
 use crate::desk_options::{CACHE_HELP, lines, lines_of, progress};
 use crate::options::{
     FEWEST_MOVES, board, cache, file, flag, flag_given, memo, most, moves_given, option, pdn,
@@ -27,6 +27,8 @@ pub struct PageArgs<'a> {
     /// Whether drawings have the numbers of the squares.
     pub numbers: bool,
     pub solutions: Placing,
+    /// Which tries are written.
+    pub tries: PageTries,
     pub ghost some_moves: { 1 ≤ moves },
     pub ghost few_moves: { moves ≤ 20 },
     pub ghost some_lines: { 1 ≤ lines },
@@ -70,6 +72,7 @@ pub(crate) fn page_command<'a>(alloc: Global) -> Result<Command<'a>, AllocError>
         title(alloc),
         language(alloc),
         solutions(alloc),
+        tries(alloc),
         flag(
             alloc,
             "numbers",
@@ -102,6 +105,12 @@ fn solutions<'a>(alloc: Global) -> Arg<'a> {
     option(alloc, "solutions", "WHERE", places, help).default_value("after")
 }
 
+fn tries<'a>(alloc: Global) -> Arg<'a> {
+    let which = ["none", "all"].as_slice().into();
+    let help = "Write no tries, or all";
+    option(alloc, "tries", "WHICH", which, help).default_value("all")
+}
+
 impl<'a> PageArgs<'a> {
     ghost use Rattle.dw_arguments.specs.DeskCommands.{AsksPage};
     ghost use Rattle.dw_arguments.specs.Options.{options_of};
@@ -119,6 +128,7 @@ impl<'a> PageArgs<'a> {
             language: PageLanguage::named(text_given(matches, "lang")),
             numbers: flag_given(matches, "numbers"),
             solutions: Placing::named(text_given(matches, "solutions")),
+            tries: PageTries::named(text_given(matches, "tries")),
         }
     }
 }

@@ -1,8 +1,8 @@
 //! The arguments of the command `solution`.
 ghost use Rattle.std.specs.Prelude.{◌≤◌};
 
-use crate::desk_options::{CACHE_HELP, lines, lines_of, moves_of, progress};
-use crate::options::{board, cache, file, memo, pdn, within};
+use crate::desk_options::{CACHE_HELP, lines, lines_of, progress};
+use crate::options::{FEWEST_MOVES, board, cache, file, memo, most, moves_given, pdn, within};
 use crate::portion::problem;
 use clap::{ArgMatches, Command};
 use std::alloc::{AllocError, Global};
@@ -12,37 +12,47 @@ use std::alloc::{AllocError, Global};
 #[derive(Clone, Copy)]
 pub struct SolutionArgs {
     /// The number of moves within which the win is, `FEWEST_MOVES` to `MOST_MOVES`.
-    pub n: u8,
+    pub moves: u8,
+    /// Whether the least number of moves up to that one is looked for.
+    pub is_least: bool,
     /// How many lines are written at most, 1 to 1,000,000.
     pub lines: usize,
-    pub ghost some_moves: { 1 ≤ n },
-    pub ghost few_moves: { n ≤ 20 },
+    pub ghost some_moves: { 1 ≤ moves },
+    pub ghost few_moves: { moves ≤ 20 },
     pub ghost some_lines: { 1 ≤ lines },
     pub ghost few_lines: { lines ≤ 1_000_000 },
 }
+
+const WITHIN_HELP: &str = "Show the win in N moves of the side to move, 1 to 20";
+
+const MOST_HELP: &str =
+    "Show the win in the least number of moves up to N, 1 to 20, or that there is none";
 
 const ABOUT: &str = "Writes each problem as a game of a PDN file, with its solution.";
 
 const EXAMPLES: &str = "\
 The solution is the tree of the first lines that `dw list -n N` writes: the least move goes on, and
 the others stand behind it in parentheses. The verdict stands in front, as {dual in 2}, and {more}
-behind the moves if there are other lines. With --pdn a game keeps its tags.
-`dw-desk check` reads it again.
+behind the moves if there are other lines. With --pdn a game keeps its tags. -n or --most has to be
+there. `dw-desk check` reads it again.
 
 Examples:
   echo W:W27,32:B18 | dw-desk solution -n 2
   dw-desk solution -n 2 --lines 2 --problem 1-3 examples/problems.fen
-  dw-desk solution -n 3 --pdn examples/solutions.pdn";
+  dw-desk solution --most 6 --pdn examples/solutions.pdn";
 
 /// The command with its arguments.
 pub(crate) fn solution_command<'a>(alloc: Global) -> Result<Command<'a>, AllocError> {
-    let help = "Show the win in N moves of the side to move, 1 to 20";
+    let within = within(alloc, WITHIN_HELP)
+        .required_unless_present("most")?
+        .conflicts_with("most")?;
     let arguments = vec![in alloc;
         board(alloc),
         pdn(alloc),
         problem(alloc),
         file(alloc),
-        within(alloc, help).required(true),
+        within,
+        most(alloc, MOST_HELP),
         lines(alloc),
         memo(alloc, "deep"),
         cache(alloc, CACHE_HELP),
@@ -62,8 +72,10 @@ impl SolutionArgs {
     pub(crate) fn new(matches: &ArgMatches<'_>) -> Self
         ensures { AsksSolution (options_of matches.now) result }
     {
+        let most = moves_given(matches, "most");
         SolutionArgs {
-            n: moves_of(matches),
+            moves: moves_given(matches, "n").or(most).unwrap_or(FEWEST_MOVES),
+            is_least: most.is_some(),
             lines: lines_of(matches),
         }
     }

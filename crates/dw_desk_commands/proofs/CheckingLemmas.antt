@@ -1,4 +1,8 @@
 -- Remarks that the code holds, and what they say, place by place.
+use Rattle.std.proofs.Common.{Vec, Global, vec_len, ◌==◌, ◌<◌, arith, length}
+use Rattle.std.proofs.lemmas.Bool.{eq-eqb, ne_eqb}
+use Rattle.dw_rows.specs.declared.checked.CheckNumbers.{CheckNumbers}
+use Rattle.dw_desk_commands.specs.Checking.{is_none, numbers_of, holds}
 use Rattle.std.proofs.Common.{◌≡◌, ℕ, zero, suc, ◌+◌, ◌<◌, ◌≤◌, List, [], ◌∷◌, ◌++◌, length, map, take, get_or}
 use Rattle.std.proofs.Common.{Option, Some}
 use Rattle.std.proofs.Common.{Bool, true, false, cond, refl, sym, ap, ◌∙◌, subst, inl, inr, add-zero, arith, take_all}
@@ -86,3 +90,40 @@ pub refused_same : {given what : MovetextFaultKind} {there place : ℕ} (text : 
     → text ≡ refused_line given there → text ≡ refused_line what place
 refused_same {given} {what} {there} {place} text fault at line =
     line ∙ (ap (λ z. refused_line z there) fault ∙ ap (refused_line what) at)
+
+-- what is counted of a solution is the same by its tally
+pub numbers_same : (wins b : Bool) (t c : Counted) → b ≡ holds t → t ≡ c → (numbers : CheckNumbers)
+    → numbers ≡ record {
+      wins = wins;
+      holds = b;
+      fail = t.that_fail;
+      end = t.that_end;
+      «open» = t.left_open;
+      also = t.left_out;
+    } → numbers ≡ numbers_of wins c
+numbers_same wins b t c one two numbers is = is ∙ ((λ i. record {
+  wins = wins;
+  holds = one i;
+  fail = t.that_fail;
+  end = t.that_end;
+  «open» = t.left_open;
+  also = t.left_out;
+}) ∙ ap (numbers_of wins) two)
+
+length_map_of : {B : Type 0} (f : B → Option Remark) (xs : List B) → map f xs ≡ [] → length xs ≡ 0
+length_map_of f [] same = refl
+length_map_of f (x ∷ xs) same = let bad = same in cc
+
+length_map_some : {B : Type 0} (f : B → Option Remark) (xs : List B) (r : Remark) (said : List Remark)
+    → map f xs ≡ Some r ∷ map (λ z. Some z) said → 0 < length xs
+length_map_some f [] r said same = let bad = same in cc
+length_map_some f (x ∷ xs) r said same = omega arith
+
+-- no remark is none, and some remarks are not
+pub none_is : {B : Type 0} (f : B → Option Remark) (v : Vec B Global) (said : List Remark) (b : Bool)
+    → map f v.items ≡ map (λ r. Some r) said → b ≡ (vec_len v == 0) → b ≡ is_none said
+none_is f v [] b same is =
+    let none : vec_len v ≡ 0 = (let ok = v.ok.0 in let empty = length_map_of f v.items same in omega (arith, ok, empty)) in
+    is ∙ eq-eqb _ _ none
+none_is f v (r ∷ said) b same is = is ∙ ne_eqb _ _ (λ none. (let ok = v.ok.0 in
+    let some = length_map_some f v.items r said same in omega (arith, ok, none, some)))

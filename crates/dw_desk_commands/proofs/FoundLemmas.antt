@@ -10,9 +10,9 @@ use Rattle.dw_report.specs.MoveTexts.{AreChoices, AreKeyTexts, AreTryTexts}
 use Rattle.dw_verdict.specs.Verdict.{Verdict, dual}
 use Rattle.dw_study.specs.Finding.{judged}
 use Rattle.dw_desk_commands.specs.FindingJson.{AreAfterKeys, AreFound, before_keys, verdict_word}
-use Rattle.dw_desk_commands.specs.Json.{Member, count, pairs, texts}
-use Rattle.dw_desk_commands.specs.inner.Rows.{GoesOn}
-use Rattle.dw_desk_commands.proofs.RowLemmas.{both}
+use Rattle.dw_json.specs.Rows.{Member, count, pairs, texts}
+use Rattle.dw_json.specs.Writing.{WritesMembers}
+use Rattle.dw_json.specs.inner.Composing.{both}
 
 -- the members of a choice
 pub choice_told : (g : Geometry) (p : Placement) (verdict : Verdict) (at choices at' choices' : List Move)
@@ -57,9 +57,9 @@ judged_told g p k k' verdict word' keys keys' after tries tries' tried tried' n 
 
 -- the members of a verdict and the tries, one after another
 pub judged_written : (n verdict keys tries : Member) (before after : List Member) (w0 w1 w2 w3 w4 w5 w6 : Written)
-    → GoesOn (n ∷ []) w0 w1 → GoesOn (verdict ∷ []) w1 w2 → GoesOn before w2 w3 → GoesOn (keys ∷ []) w3 w4
-    → GoesOn after w4 w5 → GoesOn (tries ∷ []) w5 w6
-    → GoesOn (n ∷ verdict ∷ before ++ keys ∷ after ++ tries ∷ []) w0 w6
+    → WritesMembers (n ∷ []) w0 w1 → WritesMembers (verdict ∷ []) w1 w2 → WritesMembers before w2 w3 → WritesMembers (keys ∷ []) w3 w4
+    → WritesMembers after w4 w5 → WritesMembers (tries ∷ []) w5 w6
+    → WritesMembers (n ∷ verdict ∷ before ++ keys ∷ after ++ tries ∷ []) w0 w6
 judged_written n verdict keys tries before after w0 w1 w2 w3 w4 w5 w6 a b c d e f =
     both (n ∷ verdict ∷ before ++ keys ∷ after) (tries ∷ []) w0 w5 w6 (both (n ∷ verdict ∷ before) (keys ∷ after) w0 w3
     w5 (both (n ∷ verdict ∷ []) before w0 w2 w3 (both (n ∷ []) (verdict ∷ []) w0 w1 w2 a b) c)

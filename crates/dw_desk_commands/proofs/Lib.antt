@@ -4,5 +4,4 @@ mod CheckingLemmas
 mod ChosenLemmas
 mod CommandLemmas
 mod FoundLemmas
-mod RowLemmas
 mod PagingLemmas

@@ -13,7 +13,16 @@ use Rattle.dw_games.specs.declared.fault.MovetextFaultKind.{MovetextFaultKind}
 use Rattle.dw_study.specs.RemarkText.{IsRemarkText}
 use Rattle.dw_study.specs.Remarks.{Remark, fails, also, leaves_open, ends, AreRemarks}
 use Rattle.dw_study.specs.Turns.{HasTurns}
-use Rattle.dw_desk_commands.specs.ProblemText.{AreTexts, IsProblemText}
+use Rattle.dw_arguments.specs.declared.check.CheckArgs.{CheckArgs}
+use Rattle.dw_desk_commands.specs.FindingJson.{refused_row}
+use Rattle.dw_desk_commands.specs.ProblemText.{AreTexts}
+use Rattle.dw_notation.specs.Problems.{Numbered}
+use Rattle.dw_notation.specs.TextLines.{Found}
+use Rattle.dw_notation.specs.declared.problems.ProblemFault.{ProblemFault}
+use Rattle.dw_report.specs.Report.{first_line}
+use Rattle.dw_rows.specs.CheckRow.{IsCheckedRow, refused_solution_row}
+use Rattle.dw_rows.specs.declared.checked.CheckNumbers.{CheckNumbers}
+use Rattle.std.specs.Prelude.{Ok, Err, IsTrue, MatchBool, ◌↔◌, ◌∷◌}
 
 -- how many remarks there are of each kind
 pub record Counted : Type 0 where
@@ -65,18 +74,44 @@ no_win_line n = codes "no win in " ++ (decimal n ++ codes "\n")
 abbrev pub IsWinLine : Geometry → Placement → ℕ → List ℕ → Type 0
 IsWinLine g p n line = (Win g p n × (line ≡ [])) ⊎ ((Win g p n → ⊥) × (line ≡ no_win_line n))
 
--- What is said of a tree within n moves: that there is no win, if so; the remarks in turn; and the last line. The game
--- counts as refused if the solution does not hold.
-pub record IsCheckedText (g : Geometry) (p : Placement) (n : ℕ) (tree : List (List Move)) (refused : Bool)
+-- What is said of a solution within n moves: the first line; that there is no win, if so; the remarks in turn; and the
+-- last line.
+pub record IsCheckedText (g : Geometry) (problem : Numbered) (p : Placement) (n : ℕ) (remarks : List Remark)
     (text : List ℕ) : Type 0 where
-  pub remarks : List Remark
-  pub are : AreRemarks g tree n p [] remarks
   pub line : List ℕ
   pub win : IsWinLine g p n line
   pub told : List ℕ
   pub texts : AreTexts (IsRemarkText g p) remarks told
-  pub is : text ≡ line ++ (told ++ last_line n (counted remarks))
-  pub counts : refused ≡ not (holds (counted remarks))
+  pub is : text ≡ first_line g problem ++ (line ++ (told ++ last_line n (counted remarks)))
+
+-- what is counted of a solution, in a row of JSON
+abbrev pub numbers_of : (wins : Bool) → Counted → CheckNumbers
+numbers_of wins c = record {
+  wins = wins;
+  holds = holds c;
+  fail = c.that_fail;
+  end = c.that_end;
+  «open» = c.left_open;
+  also = c.left_out;
+}
+
+-- the same as a row of JSON
+abbrev pub IsCheckedLine : Geometry → (problem : ℕ) → Placement → (n : ℕ) → List Remark → List ℕ → Type 0
+IsCheckedLine g problem p n remarks text = (wins : Bool) × (IsTrue wins ↔ Win g p n)
+    × IsCheckedRow g problem p n (numbers_of wins (counted remarks)) remarks text
+
+-- there is none
+abbrev pub is_none : List Remark → Bool
+is_none [] = true
+is_none (r ∷ remarks) = false
+
+-- What is written of a solution with these remarks: with --faults nothing if there is none; else a row or words. The
+-- game counts as refused if the solution does not hold.
+abbrev pub IsChecked : Geometry → CheckArgs → Numbered → Placement → (n : ℕ) → List Remark → (refused : Bool) → List ℕ
+    → Type 0
+IsChecked g asked problem p n remarks refused text = (refused ≡ not (holds (counted remarks)))
+    × MatchBool (asked.faults && is_none remarks) (text ≡ [])
+    (MatchBool asked.json (IsCheckedLine g problem.number p n remarks text) (IsCheckedText g problem p n remarks text))
 
 -- within how many moves a tree is looked at: as many as are asked for, or else as it has; at least 1, at most 20
 abbrev pub IsNumberFor : Option ℕ → List (List Move) → ℕ → Type 0
@@ -89,16 +124,28 @@ refused_line what place =
     codes "solution refused: " ++ (decimal (number_of what) ++ (codes " " ++ (name_of what ++ (codes " at "
     ++ (decimal place ++ codes "\n")))))
 
--- What is said of a position with this movetext. The game counts as refused if the movetext is.
-abbrev pub SaysChecked : Geometry → (asked : Option ℕ) → (movetext : List ℕ) → Placement → (refused : Bool) → List ℕ
+-- what is written of a solution that is refused
+abbrev pub fault_text : Geometry → (json : Bool) → Numbered → Placement → MovetextFaultKind → (place : ℕ) → List ℕ
+fault_text g json problem p what place =
+    if json then refused_solution_row g problem.number p what place
+    else first_line g problem ++ refused_line what place
+
+-- what is written of a problem that is refused
+abbrev pub refused_text : Geometry → (json : Bool) → Numbered → ProblemFault → List ℕ
+refused_text g json problem fault = if json then refused_row problem.number fault else first_line g problem
+
+-- What is written of a problem with this movetext. It counts as refused if it is, or if the movetext is.
+abbrev pub IsCheckFor : Geometry → CheckArgs → Numbered → (movetext : List ℕ) → Found → (refused : Bool) → List ℕ
     → Type 0
-SaysChecked g asked movetext p refused text =
-    ((tree : List (List Move)) × (n : ℕ) × IsTree g p movetext tree × IsNumberFor asked tree n
-    × IsCheckedText g p n tree refused text)
+IsCheckFor g asked problem movetext (Ok p) refused text =
+    ((tree : List (List Move)) × (n : ℕ) × (remarks : List Remark) × IsTree g p movetext tree
+    × IsNumberFor asked.n tree n × AreRemarks g tree n p [] remarks × IsChecked g asked problem p n remarks refused text)
     ⊎ ((what : MovetextFaultKind) × (place : ℕ) × IsFirstFault g p movetext what place
-    × (text ≡ refused_line what place) × (refused ≡ true))
+    × (text ≡ fault_text g asked.json problem p what place) × (refused ≡ true))
+IsCheckFor g asked problem movetext (Err fault) refused text =
+    (text ≡ refused_text g asked.json problem fault) × (refused ≡ true)
 
 -- what is written of a game
-abbrev pub IsCheckOf : Geometry → (asked : Option ℕ) → NumberedGame → (refused : Bool) → List ℕ → Type 0
+abbrev pub IsCheckOf : Geometry → CheckArgs → NumberedGame → (refused : Bool) → List ℕ → Type 0
 IsCheckOf g asked game refused text =
-    IsProblemText g (SaysChecked g asked game.said.movetext) (problem_of game) refused text
+    IsCheckFor g asked (problem_of game) game.said.movetext game.said.found refused text

@@ -34,16 +34,16 @@ form_for other form = form
 abbrev pub Tells : {T : Type 0} → Geometry → Portion → Task → List NumberedGame → Ending T → List ℕ → Type 0
 Tells g portion (task.Find asked) games ending text =
     IsReportOnAll (λ game. IsFindOf g asked.json asked.most asked.each (problem_of game)) portion games ending text
-Tells g portion (task.Check asked) games ending text = IsReportOnAll (IsCheckOf g asked.n) portion games ending text
+Tells g portion (task.Check asked) games ending text = IsReportOnAll (IsCheckOf g asked) portion games ending text
 Tells g portion (task.Solution asked) games ending text =
-    IsReportOnAll (IsGameOf g asked.n asked.lines) portion games ending text
+    IsReportOnAll (IsGameOf g asked) portion games ending text
 Tells g portion (task.Page asked) games ending text =
     (counts : Counts) × IsPageOf g asked portion games counts text
     × (ending ≡ ending_after counts.shown counts.refused portion)
 Tells g portion (task.Certify asked) games ending text =
     IsReportOnOne (λ game. IsCertifyOf g asked.n (problem_of game)) portion.first games ending text
 Tells g portion (task.Moves asked) games ending text =
-    IsReportOnOne (λ game. IsMovesOf g asked.n asked.part asked.parts (problem_of game)) portion.first games ending text
+    IsReportOnOne (λ game. IsMovesOf g asked (problem_of game)) portion.first games ending text
 Tells g portion (task.Mend asked) games ending text =
     (expanded : ℕ) × IsReportOnOne (λ game. IsMendOf g asked.n asked.each asked.part asked.parts expanded
     (problem_of game)) portion.first games ending text

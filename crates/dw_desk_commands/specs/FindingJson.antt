@@ -4,7 +4,7 @@ use Rattle.json.specs.Json.{string}
 use Rattle.dw_board.specs.FenText.{written}
 use Rattle.dw_board.specs.Geometry.{Geometry}
 use Rattle.dw_board.specs.Placement.{Placement}
-use Rattle.dw_desk_commands.specs.Json.{Member, count, pairs, row, texts}
+use Rattle.dw_json.specs.Rows.{Member, count, pairs, row, texts}
 use Rattle.dw_notation.specs.declared.problems.ProblemFault.{ProblemFault}
 use Rattle.dw_report.specs.MoveTexts.{AreChoices, AreKeyTexts, AreTryTexts}
 use Rattle.dw_report.specs.Report.{refusal_text}

@@ -5,7 +5,6 @@ pub mod Commands
 pub mod Ending
 pub mod Finding
 pub mod FindingJson
-pub mod Json
 pub mod Mending
 pub mod Moving
 pub mod Paging

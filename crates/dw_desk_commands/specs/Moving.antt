@@ -1,22 +1,37 @@
 -- What `moves` does with a problem.
-use Rattle.std.specs.Prelude.{◌≡◌, ℕ, Bool, false, if◌then◌else◌, List}
+use Rattle.std.specs.Prelude.{◌≡◌, ℕ, Bool, true, false, Ok, Err, if◌then◌else◌, List, MatchBool}
+use Rattle.dw_arguments.specs.declared.moves.MovesArgs.{MovesArgs}
 use Rattle.dw_board.specs.Geometry.{Geometry}
 use Rattle.dw_board.specs.Placement.{Placement}
 use Rattle.dw_commands.specs.declared.ending.Ending.{Ending}
 use Rattle.dw_commands.specs.declared.ending.Ending.TheVariants.{Done, Refused}
+use Rattle.dw_desk_commands.specs.FindingJson.{refused_row}
 use Rattle.dw_desk_commands.specs.ProblemText.{IsProblemText}
 use Rattle.dw_first_moves.specs.FirstMoves.{Effect, AreFirstMoves}
 use Rattle.dw_first_moves.specs.FirstMovesText.{IsFirstMovesText}
 use Rattle.dw_moves.specs.Moves.{Move}
 use Rattle.dw_notation.specs.Problems.{Numbered}
+use Rattle.dw_notation.specs.TextLines.{Found}
+use Rattle.dw_rows.specs.FirstMovesRow.{IsFirstMovesRow}
 
 -- what the first moves of a position do, of the part i of m; the problem never counts as refused by that
 abbrev pub SaysFirstMoves : Geometry → (n i m : ℕ) → Placement → (refused : Bool) → List ℕ → Type 0
 SaysFirstMoves g n i m p refused text = (done : List (Move × Effect)) × AreFirstMoves g p n i m done
     × IsFirstMovesText g p done text × (refused ≡ false)
 
+-- the same as a row of JSON, and that of a refused problem
+abbrev pub IsFirstMovesLine : Geometry → (n i m problem : ℕ) → Found → (refused : Bool) → List ℕ → Type 0
+IsFirstMovesLine g n i m problem (Ok p) refused text = (done : List (Move × Effect)) × AreFirstMoves g p n i m done
+    × IsFirstMovesRow g problem p n done text × (refused ≡ false)
+IsFirstMovesLine g n i m problem (Err fault) refused text = (refused ≡ true) × (text ≡ refused_row problem fault)
+
+-- what is written of a problem
+abbrev pub IsMovesText : Geometry → MovesArgs → Numbered → (refused : Bool) → List ℕ → Type 0
+IsMovesText g asked problem refused text = MatchBool asked.json
+    (IsFirstMovesLine g asked.n asked.part asked.parts problem.number problem.found refused text)
+    (IsProblemText g (SaysFirstMoves g asked.n asked.part asked.parts) problem refused text)
+
 -- what is done with a problem
-abbrev pub IsMovesOf : {T : Type 0} → Geometry → (n i m : ℕ) → Numbered → Ending T → List ℕ → Type 0
-IsMovesOf g n i m problem ending text =
-    (refused : Bool) × IsProblemText g (SaysFirstMoves g n i m) problem refused text
+abbrev pub IsMovesOf : {T : Type 0} → Geometry → MovesArgs → Numbered → Ending T → List ℕ → Type 0
+IsMovesOf g asked problem ending text = (refused : Bool) × IsMovesText g asked problem refused text
     × (ending ≡ (if refused then Refused else Done))

@@ -10,6 +10,8 @@ use Rattle.dw_desk_commands.specs.declared.desk.Counts.{Counts}
 use Rattle.dw_arguments.specs.declared.page.PageArgs.{PageArgs}
 use Rattle.dw_arguments.specs.declared.choices.PageLanguage.{PageLanguage}
 use Rattle.dw_arguments.specs.declared.choices.PageLanguage.TheVariants as asks
+use Rattle.dw_arguments.specs.declared.choices.PageTries.{PageTries}
+use Rattle.dw_arguments.specs.declared.choices.PageTries.TheVariants.{All as AllTries, None as NoTries}
 use Rattle.dw_arguments.specs.declared.choices.Placing.{Placing}
 use Rattle.dw_arguments.specs.declared.choices.Placing.TheVariants.{After, End, None as Nowhere}
 use Rattle.dw_arguments.specs.declared.portion.Portion.{Portion}
@@ -84,10 +86,15 @@ abbrev pub AreTryRows : Geometry → Placement → List (Move × Move) → List 
 AreTryRows g p tries rows =
     (texts : List (List ℕ × List ℕ)) × AreTryTexts g p tries texts × (rows ≡ map try_row texts)
 
+-- the rows of the tries that are to be shown
+abbrev pub AreRowsShown : Geometry → PageTries → Placement → List (Move × Move) → List (List ℕ) → Type 0
+AreRowsShown g AllTries p tries rows = AreTryRows g p tries rows
+AreRowsShown g NoTries p tries rows = rows ≡ []
+
 -- The solution of a problem within n moves: its verdict and its tries in words, and its movetext of as many lines as
 -- are asked for.
-pub record IsSolved (g : Geometry) (language : Language) (lines number : ℕ) (p : Placement) (n : ℕ) (is_apart : Bool)
-    (text : List ℕ) : Type 0 where
+pub record IsSolved (g : Geometry) (language : Language) (lines : ℕ) (which : PageTries) (number : ℕ) (p : Placement)
+    (n : ℕ) (is_apart : Bool) (text : List ℕ) : Type 0 where
   pub verdict : Verdict
   pub is_verdict : IsVerdict g p n verdict
   pub row : List ℕ
@@ -95,7 +102,7 @@ pub record IsSolved (g : Geometry) (language : Language) (lines number : ℕ) (p
   pub tries : List (Move × Move)
   pub are_tries : Tries g p n tries
   pub rows : List (List ℕ)
-  pub say : AreTryRows g p tries rows
+  pub say : AreRowsShown g which p tries rows
   pub movetext : List ℕ
   pub is_solution : IsSolution g p n lines movetext
   pub shown : IsSolutionShown g language number p is_apart row rows movetext text
@@ -124,7 +131,8 @@ pub record IsPositionPart (g : Geometry) (asked : PageArgs) (number : ℕ) (p : 
   pub n : ℕ
   pub in_moves : IsAskedIn g asked p n
   pub behind : List ℕ
-  pub solution : Stands asked.solutions (IsSolved g (language_for asked.language) asked.lines number p n) behind later
+  pub solution : Stands asked.solutions (IsSolved g (language_for asked.language) asked.lines asked.tries number p n)
+      behind later
   pub is : part ≡ task_part g asked number p (map (λ t. t.tag) tags) n ++ (behind ++ end_of_problem)
 
 -- the part that a problem has, and what comes later of it; a refused problem has the reason

@@ -1,5 +1,6 @@
 -- What `solution` writes of a position.
 use Rattle.std.specs.Prelude.{◌≡◌, ◌==◌, ◌++◌, ◌∷◌, if◌then◌else◌, ℕ, List, [], codes, decimal, length, take, nat_lt}
+use Rattle.std.specs.Prelude.{MatchBool}
 use Rattle.std.specs.Prelude.{Bool, true, false, Ok, Err}
 use Rattle.std.specs.List.{flat_map}
 use Rattle.dw_board.specs.Geometry.{Geometry}
@@ -9,6 +10,8 @@ use Rattle.dw_moves.specs.Moves.{Move}
 use Rattle.dw_notation.specs.Tags.{same_name}
 use Rattle.dw_notation.specs.TextLines.{Found}
 use Rattle.dw_notation.specs.declared.problems.ProblemFault.{ProblemFault}
+use Rattle.dw_arguments.specs.declared.solution.SolutionArgs.{SolutionArgs}
+use Rattle.dw_study.specs.Finding.{IsJudgedAt}
 use Rattle.dw_games.specs.Games.{NumberedGame}
 use Rattle.dw_games.specs.TagRows.{TagText, AreTags}
 use Rattle.dw_solve.specs.Lines.{Lines}
@@ -55,10 +58,15 @@ abbrev pub AreWrittenTags : Geometry → Placement → (section text : List ℕ)
 AreWrittenTags g p section text =
     (tags : List TagText) × AreTags section tags × (text ≡ flat_map own_line tags ++ new_lines g p)
 
+-- the number of moves that is asked for: the least with a win up to the number that is given, or that number
+abbrev pub IsNumberOf : Geometry → SolutionArgs → Placement → ℕ → Type 0
+IsNumberOf g asked p n = MatchBool asked.is_least (IsJudgedAt g p asked.moves n) (n ≡ asked.moves)
+
 -- A position as a game: its tags, its solution, and an empty line.
-abbrev pub IsGameText : Geometry → (n most : ℕ) → Placement → (section text : List ℕ) → Type 0
-IsGameText g n most p section text =
-    (tags : List ℕ) × (movetext : List ℕ) × AreWrittenTags g p section tags × IsSolution g p n most movetext
+abbrev pub IsGameText : Geometry → SolutionArgs → Placement → (section text : List ℕ) → Type 0
+IsGameText g asked p section text =
+    (n : ℕ) × (tags : List ℕ) × (movetext : List ℕ) × IsNumberOf g asked p n × AreWrittenTags g p section tags
+    × IsSolution g p n asked.lines movetext
     × (text ≡ tags ++ (movetext ++ codes "\n\n"))
 
 -- a refused problem as a game, whose event tells why
@@ -68,10 +76,11 @@ refused_game number fault =
     ++ codes "\"]\n\n*\n\n")))
 
 -- a problem as a game, with the tags of its section; and whether it counts as refused
-abbrev pub IsGameFor : Geometry → (n most number : ℕ) → Found → (section : List ℕ) → (refused : Bool) → List ℕ → Type 0
-IsGameFor g n most number (Ok p) section refused text = (refused ≡ false) × IsGameText g n most p section text
-IsGameFor g n most number (Err fault) section refused text = (refused ≡ true) × (text ≡ refused_game number fault)
+abbrev pub IsGameFor : Geometry → SolutionArgs → (number : ℕ) → Found → (section : List ℕ) → (refused : Bool) → List ℕ
+    → Type 0
+IsGameFor g asked number (Ok p) section refused text = (refused ≡ false) × IsGameText g asked p section text
+IsGameFor g asked number (Err fault) section refused text = (refused ≡ true) × (text ≡ refused_game number fault)
 
 -- what is written of a game that was read
-abbrev pub IsGameOf : Geometry → (n most : ℕ) → NumberedGame → (refused : Bool) → List ℕ → Type 0
-IsGameOf g n most game refused text = IsGameFor g n most game.number game.said.found game.said.tags refused text
+abbrev pub IsGameOf : Geometry → SolutionArgs → NumberedGame → (refused : Bool) → List ℕ → Type 0
+IsGameOf g asked game refused text = IsGameFor g asked game.number game.said.found game.said.tags refused text

@@ -4,12 +4,15 @@ ghost use Rattle.std.specs.Prelude.{codes, if◌then◌else◌, IsErrOf};
 ghost use Rattle.std.specs.Io.KnownBytes.{Appends};
 ghost use Rattle.std.specs.String.{string_bytes};
 ghost use Rattle.dw_board.specs.Lists.{Member};
-ghost use Rattle.dw_desk_commands.specs.Checking.{IsCheckOf, IsCheckedText, IsNumberFor, counted, no_win_line};
+ghost use Rattle.dw_desk_commands.specs.Checking.{IsCheckOf, IsChecked, IsCheckedLine, IsCheckedText, IsNumberFor};
+ghost use Rattle.dw_desk_commands.specs.Checking.{counted, fault_text, is_none, no_win_line, refused_text};
+ghost use Rattle.dw_desk_commands.specs.inner.Comparing.{IsCompared};
+ghost use Rattle.dw_notation.specs.Problems.{numbered};
+ghost use Rattle.std.specs.Prelude.{MatchBool, ◌&&◌};
 ghost use Rattle.dw_desk_commands.specs.Checking as of;
 ghost use Rattle.dw_desk_commands.specs.ProblemText.{AreTexts};
 ghost use Rattle.dw_desk_commands.specs.inner.Faults.{SinkFails};
 ghost use Rattle.dw_desk_commands.specs.inner.Tallies.{one_more, tallied, total};
-ghost use Rattle.dw_games.specs.Movetext.{IsTree};
 ghost use Rattle.dw_moves.specs.Moves.{Move};
 ghost use Rattle.dw_solve.specs.Wins.{Win};
 ghost use Rattle.dw_solve.specs.declared.stop.Stop.TheVariants.{Limit};
@@ -18,21 +21,23 @@ ghost use Rattle.dw_study.specs.Remarks.{AreRemarks, Remark as AnyRemark};
 ghost use Rattle.dw_study.specs.Telling.{Say, remark_in};
 
 use crate::desk::{Desk, DeskFault};
+use crate::json_rows::refused_line as refused_row;
 use crate::reporting::ReportEach;
 use crate::watcher::DeskWatcher;
 use dw_arguments::CheckArgs;
 use dw_arguments::options::{FEWEST_MOVES, MOST_MOVES};
 use dw_board::{Board, Position};
 use dw_games::{Game, MovetextFault, MovetextFaultKind, Tree, read_movetext};
-use dw_notation::{Sink, write_all};
+use dw_notation::{Problem, ProblemFault, Sink, write_all};
 use dw_report::{Stop, problem_line};
+use dw_rows::{CheckNumbers, checked_row, refused_solution_row};
 use dw_study::check::check;
 use dw_study::{Checked, Remark, Slices, remark_text, turns_of};
 use itoa::Buffer;
 use std::alloc::{AllocError, Global};
 
 impl<B: Board> ReportEach<B> for CheckArgs {
-    ghost says = { λ asked. IsCheckOf B.geometry asked.n };
+    ghost says = { λ asked. IsCheckOf B.geometry asked };
 
     /// Reports one game, and returns whether it or its solution is refused, or the solution fails.
     fn report<W: DeskWatcher, K: Sink>(
@@ -42,25 +47,95 @@ impl<B: Board> ReportEach<B> for CheckArgs {
         game: &Game<B>,
         sink: &mut K,
     ) -> Result<bool, DeskFault> {
-        write_all(sink, problem_line(&game.problem).as_str().as_bytes())?;
-        let Ok(position) = &game.problem.found else {
-            return Ok(true);
+        let problem = &game.problem;
+        let position = match &problem.found {
+            Ok(position) => position,
+            Err(fault) => {
+                write_refused(desk.alloc, self.json, problem, *fault, sink)?;
+                return Ok(true);
+            }
         };
         match read_movetext(desk.alloc, position, game.movetext.as_slice()) {
             Ok(tree) => {
                 let n = moves_for(self.n, &tree);
-                let checked = checked(desk, slices, game.problem.number, position, &tree, n)?;
-                let fails = write_checked(desk.alloc, position, &tree, n, &checked, sink)?;
+                let checked = checked(desk, slices, problem.number, position, &tree, n)?;
+                let solution = Solution {
+                    problem,
+                    position,
+                    tree: &tree,
+                    n,
+                    checked: &checked,
+                };
+                let fails = write_solution(desk.alloc, self, &solution, sink)?;
                 Ok(fails)
             }
             Err(MovetextFault::Refused { what, place }) => {
-                let line = refused_line(desk.alloc, what, place)?;
-                write_all(sink, line.as_str().as_bytes())?;
+                write_fault(desk.alloc, self.json, problem, position, what, place, sink)?;
                 Ok(true)
             }
             Err(MovetextFault::Memory) => Err(DeskFault::Stopped(Stop::Memory)),
         }
     }
+}
+
+/// Writes a problem that is refused: its row, or its first line.
+fn write_refused<B: Board, K: Sink>(
+    alloc: Global,
+    json: bool,
+    problem: &Problem<B>,
+    fault: ProblemFault,
+    sink: &mut K,
+) -> Result<(), DeskFault>
+    requires { K.is_failed sink.old ≡ false }
+    ensures text { OnOk result (Appends (K.taken sink.old) (K.taken sink.new)
+        (refused_text B.geometry json (numbered problem.now) fault)) }
+    ensures works { OnOk result (K.is_failed sink.new ≡ false) }
+    ensures fails { SinkFails (K.is_failed sink.new) result }
+{
+    if json {
+        let line = refused_row(alloc, problem.number, fault)?;
+        write_all(sink, line.as_str().as_bytes())?;
+        return Ok(());
+    }
+    write_all(sink, problem_line(problem).as_str().as_bytes())?;
+    Ok(())
+}
+
+/// Writes a problem whose solution is refused: its row, or its first line and that of the fault.
+fn write_fault<B: Board, K: Sink>(
+    alloc: Global,
+    json: bool,
+    problem: &Problem<B>,
+    position: &Position<B>,
+    what: MovetextFaultKind,
+    place: u32,
+    sink: &mut K,
+) -> Result<(), DeskFault>
+    requires { K.is_failed sink.old ≡ false }
+    ensures text { OnOk result (Appends (K.taken sink.old) (K.taken sink.new)
+        (fault_text B.geometry json (numbered problem.now) position.now what place)) }
+    ensures works { OnOk result (K.is_failed sink.new ≡ false) }
+    ensures fails { SinkFails (K.is_failed sink.new) result }
+{
+    if json {
+        let line = refused_solution_row(alloc, problem.number, position, what, place)?;
+        write_all(sink, line.as_str().as_bytes())?;
+        return Ok(());
+    }
+    write_all(sink, problem_line(problem).as_str().as_bytes())?;
+    let line = refused_line(alloc, what, place)?;
+    write_all(sink, line.as_str().as_bytes())?;
+    Ok(())
+}
+
+/// A solution that was compared with the truth.
+#[derive(Clone, Copy)]
+struct Solution<'a, B: Board> {
+    problem: &'a Problem<B>,
+    position: &'a Position<B>,
+    tree: &'a Tree<B>,
+    n: u8,
+    checked: &'a Checked<B>,
 }
 
 /// Within how many moves a solution is looked at: as many as are asked for, or as it has.
@@ -116,34 +191,137 @@ fn refused_line(alloc: Global, what: MovetextFaultKind, place: u32) -> Result<St
     .concat(alloc)
 }
 
-/// Writes what was found out of a solution, and answers whether it fails.
-fn write_checked<B: Board, K: Sink>(
+/// Writes what was found out of a solution, unless it is to be left out, and answers whether it fails.
+fn write_solution<B: Board, K: Sink>(
     alloc: Global,
-    position: &Position<B>,
-    tree: &Tree<B>,
-    n: u8,
-    checked: &Checked<B>,
+    asked: &CheckArgs,
+    solution: &Solution<'_, B>,
     sink: &mut K,
 ) -> Result<bool, DeskFault>
     requires works { K.is_failed sink.old ≡ false }
-    requires wins { IsTrue checked.now.wins ↔ Win B.geometry position.now n }
-    requires remarks { Say tree.now checked.now.remarks.items (AreRemarks B.geometry tree.now n position.now []) }
-    requires tree { (movetext : List ℕ) × IsTree B.geometry position.now movetext tree.now }
-    ensures text { IfOk result (λ refused. (text : List ℕ)
-        × IsCheckedText B.geometry position.now n tree.now refused text
+    requires compared { IsCompared B.geometry solution.now }
+    ensures text { IfOk result (λ refused. (text : List ℕ) × (remarks : List AnyRemark)
+        × AreRemarks B.geometry solution.now.tree.now solution.now.n solution.now.position.now [] remarks
+        × IsChecked B.geometry asked.now (numbered solution.now.problem.now) solution.now.position.now solution.now.n
+        remarks refused text
         × Appends (K.taken sink.old) (K.taken sink.new) text) }
     ensures works { IfOk result (λ _. K.is_failed sink.new ≡ false) }
     ensures fails { SinkFails (K.is_failed sink.new) result }
 {
-    dw_study::laws::remarks_can_be_told();
-    let line = win_line(alloc, checked.wins, n)?;
-    write_all(sink, line.as_str().as_bytes())?;
-    let remarks = checked.remarks.as_slice();
-    write_remarks(alloc, position, tree, remarks, sink)?;
-    let tally = tally_of(remarks);
-    let line = last_line(alloc, n, tally)?;
-    write_all(sink, line.as_str().as_bytes())?;
+    let tally = tally_of(solution.checked.remarks.as_slice());
+    if is_left_out(asked, solution) {
+        return Ok(!tally.holds());
+    }
+    write_checked(alloc, asked.json, solution, tally, sink)?;
     Ok(!tally.holds())
+}
+
+/// Whether nothing is to be written of a solution, since nothing is remarked of it.
+fn is_left_out<B: Board>(asked: &CheckArgs, solution: &Solution<'_, B>) -> bool
+    ensures { (said : List AnyRemark)
+        → map (remark_in solution.now.tree.now) solution.now.checked.now.remarks.items ≡ map (λ r. Some r) said
+        → result ≡ (asked.now.faults && is_none said) }
+{
+    asked.faults && solution.checked.remarks.is_empty()
+}
+
+/// Writes what was found out of a solution: its row, or words.
+fn write_checked<B: Board, K: Sink>(
+    alloc: Global,
+    json: bool,
+    solution: &Solution<'_, B>,
+    tally: Tally,
+    sink: &mut K,
+) -> Result<(), DeskFault>
+    requires works { K.is_failed sink.old ≡ false }
+    requires compared { IsCompared B.geometry solution.now }
+    requires tally { (said : List AnyRemark)
+        → map (remark_in solution.now.tree.now) solution.now.checked.now.remarks.items ≡ map (λ r. Some r) said
+        → tallied tally ≡ counted said }
+    ensures text { (said : List AnyRemark)
+        → map (remark_in solution.now.tree.now) solution.now.checked.now.remarks.items ≡ map (λ r. Some r) said
+        → AreRemarks B.geometry solution.now.tree.now solution.now.n solution.now.position.now [] said
+        → OnOk result ((text : List ℕ)
+        × MatchBool json (IsCheckedLine B.geometry (numbered solution.now.problem.now).number solution.now.position.now
+        solution.now.n said text) (IsCheckedText B.geometry (numbered solution.now.problem.now)
+        solution.now.position.now solution.now.n said text)
+        × Appends (K.taken sink.old) (K.taken sink.new) text) }
+    ensures works { OnOk result (K.is_failed sink.new ≡ false) }
+    ensures fails { SinkFails (K.is_failed sink.new) result }
+{
+    if json {
+        let line = row_of(alloc, solution, tally)?;
+        write_all(sink, line.as_str().as_bytes())?;
+        return Ok(());
+    }
+    write_words(alloc, solution, tally, sink)
+}
+
+/// The row of a solution.
+fn row_of<B: Board>(
+    alloc: Global,
+    solution: &Solution<'_, B>,
+    tally: Tally,
+) -> Result<String, AllocError>
+    requires compared { IsCompared B.geometry solution.now }
+    requires tally { (said : List AnyRemark)
+        → map (remark_in solution.now.tree.now) solution.now.checked.now.remarks.items ≡ map (λ r. Some r) said
+        → tallied tally ≡ counted said }
+    ensures { (said : List AnyRemark)
+        → map (remark_in solution.now.tree.now) solution.now.checked.now.remarks.items ≡ map (λ r. Some r) said
+        → IfOk result (λ line. IsCheckedLine B.geometry (numbered solution.now.problem.now).number
+        solution.now.position.now solution.now.n said (string_bytes line)) }
+{
+    dw_study::laws::remarks_can_be_told();
+    let numbers = CheckNumbers {
+        wins: solution.checked.wins,
+        holds: tally.holds(),
+        fail: tally.fails,
+        end: tally.ends,
+        open: tally.open,
+        also: tally.also,
+    };
+    checked_row(
+        alloc,
+        solution.problem.number,
+        solution.position,
+        solution.n,
+        numbers,
+        solution.tree,
+        solution.checked.remarks.as_slice(),
+    )
+}
+
+/// Writes what was found out of a solution in words.
+fn write_words<B: Board, K: Sink>(
+    alloc: Global,
+    solution: &Solution<'_, B>,
+    tally: Tally,
+    sink: &mut K,
+) -> Result<(), DeskFault>
+    requires works { K.is_failed sink.old ≡ false }
+    requires compared { IsCompared B.geometry solution.now }
+    requires tally { (said : List AnyRemark)
+        → map (remark_in solution.now.tree.now) solution.now.checked.now.remarks.items ≡ map (λ r. Some r) said
+        → tallied tally ≡ counted said }
+    ensures text { (said : List AnyRemark)
+        → map (remark_in solution.now.tree.now) solution.now.checked.now.remarks.items ≡ map (λ r. Some r) said
+        → AreRemarks B.geometry solution.now.tree.now solution.now.n solution.now.position.now [] said
+        → OnOk result ((text : List ℕ)
+        × IsCheckedText B.geometry (numbered solution.now.problem.now) solution.now.position.now solution.now.n said text
+        × Appends (K.taken sink.old) (K.taken sink.new) text) }
+    ensures works { OnOk result (K.is_failed sink.new ≡ false) }
+    ensures fails { SinkFails (K.is_failed sink.new) result }
+{
+    dw_study::laws::remarks_can_be_told();
+    write_all(sink, problem_line(solution.problem).as_str().as_bytes())?;
+    let line = win_line(alloc, solution.checked.wins, solution.n)?;
+    write_all(sink, line.as_str().as_bytes())?;
+    let remarks = solution.checked.remarks.as_slice();
+    write_remarks(alloc, solution.position, solution.tree, remarks, sink)?;
+    let line = last_line(alloc, solution.n, tally)?;
+    write_all(sink, line.as_str().as_bytes())?;
+    Ok(())
 }
 
 /// A line that says that there is no win, if so.

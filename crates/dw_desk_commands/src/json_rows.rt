@@ -1,18 +1,18 @@
 //! Rows of JSON, each an object in a line: what `find` says of a problem.
-ghost use Rattle.std.specs.Prelude.{◌≡◌, ℕ, ◌++◌, ◌∷◌, [], List, codes, map, IfOk, OnOk};
+ghost use Rattle.std.specs.Prelude.{◌≡◌, ℕ, ◌∷◌, [], List, codes, IfOk, OnOk};
 ghost use Rattle.std.specs.String.{string_bytes};
 ghost use Rattle.json.specs.Json.{string};
-ghost use Rattle.json.specs.Print.{print};
 ghost use Rattle.dw_desk_commands.specs.FindingJson.{AreAfterKeys, AreFound, IsFoundRow, before_keys, refused_row};
 ghost use Rattle.dw_desk_commands.specs.FindingJson.{verdict_word};
-ghost use Rattle.dw_desk_commands.specs.Json.{Member, count, pairs, row as row_of, texts};
-ghost use Rattle.dw_desk_commands.specs.inner.Rows.{GoesOn, IsBegun, WritesValue};
+ghost use Rattle.dw_json.specs.Rows.{Member, count};
+ghost use Rattle.dw_json.specs.Writing.{WritesMembers};
 ghost use Rattle.dw_verdict.specs.Judging.{said_by};
 ghost use Rattle.dw_verdict.specs.Verdict.{IsVerdict, Tries};
 ghost use Rattle.dw_study.specs.Finding.{IsFinding, judged as found_judged};
 ghost use Rattle.dw_study.specs.Telling.{told_by};
 
 use dw_board::{Board, Position, fen_text};
+use dw_json::{begin_row, end_row, put_number, put_pairs, put_text, put_texts};
 use dw_notation::ProblemFault;
 use dw_report::{dual_texts, key_texts, refusal_text, try_texts};
 use dw_study::Finding;
@@ -29,7 +29,7 @@ pub(crate) fn refused_line(
     ensures { IfOk result (λ line. string_bytes line ≡ refused_row number fault) }
 {
     let mut row = begin_row(alloc)?;
-    put_number(&mut row, "problem", number)?;
+    put_number(&mut row, "problem", number.into())?;
     put_text(&mut row, "refused", refusal_text(fault).as_str())?;
     end_row(row)
 }
@@ -46,7 +46,7 @@ pub(crate) fn found_line<B: Board>(
         IsFoundRow B.geometry number position.now (told_by finding.now) (string_bytes line)) }
 {
     let mut row = begin_row(alloc)?;
-    put_number(&mut row, "problem", number)?;
+    put_number(&mut row, "problem", number.into())?;
     put_text(&mut row, "fen", fen_text(position).as_str())?;
     put_found(alloc, &mut row, position, finding)?;
     end_row(row)
@@ -61,7 +61,7 @@ fn put_found<B: Board>(
 ) -> Result<(), AllocError>
     requires { (most : ℕ) × IsFinding B.geometry position.now most (told_by finding.now) }
     ensures { OnOk result ((members : List Member) × AreFound B.geometry position.now (told_by finding.now) members
-        × GoesOn members row.old row.new) }
+        × WritesMembers members row.old row.new) }
 {
     match finding {
         Finding::Judged { moves, judged } => put_judged(alloc, row, position, *moves, judged),
@@ -71,7 +71,7 @@ fn put_found<B: Board>(
 
 /// Writes the members of a problem whose number of moves is not known.
 fn put_undecided(row: &mut Writer, no_win_in: u8) -> Result<(), AllocError>
-    ensures { OnOk result (GoesOn ((codes "verdict", string (codes "undecided"))
+    ensures { OnOk result (WritesMembers ((codes "verdict", string (codes "undecided"))
         ∷ (codes "no_win_in", count no_win_in) ∷ []) row.old row.new) }
 {
     put_text(row, "verdict", "undecided")?;
@@ -90,7 +90,7 @@ fn put_judged<B: Board>(
     requires tries { Tries B.geometry position.now moves judged.now.tries.items }
     ensures { OnOk result ((members : List Member) × AreFound B.geometry position.now
         (found_judged moves (said_by judged.now.verdict) judged.now.tries.items) members
-        × GoesOn members row.old row.new) }
+        × WritesMembers members row.old row.new) }
 {
     let keys = key_texts(alloc, position, &judged.verdict)?;
     let tries = try_texts(alloc, position, judged.tries.as_slice())?;
@@ -104,7 +104,7 @@ fn put_judged<B: Board>(
 
 /// Writes the least number of moves, if a problem is cooked.
 fn put_shortest<B: Board>(row: &mut Writer, verdict: &Verdict<B>) -> Result<(), AllocError>
-    ensures { OnOk result (GoesOn (before_keys (said_by verdict.now)) row.old row.new) }
+    ensures { OnOk result (WritesMembers (before_keys (said_by verdict.now)) row.old row.new) }
 {
     match verdict {
         Verdict::Cooked { shortest, .. } => put_number(row, "shortest", (*shortest).into()),
@@ -121,7 +121,7 @@ fn put_choice<B: Board>(
 ) -> Result<(), AllocError>
     requires { (n : ℕ) × IsVerdict B.geometry position.now n (said_by verdict.now) }
     ensures { OnOk result ((members : List Member) × AreAfterKeys B.geometry position.now (said_by verdict.now) members
-        × GoesOn members row.old row.new) }
+        × WritesMembers members row.old row.new) }
 {
     match verdict {
         Verdict::Dual { at, choices } => {
@@ -143,85 +143,4 @@ fn name_of<B: Board>(verdict: &Verdict<B>) -> &'static str
         Verdict::Dual { .. } => "dual",
         Verdict::Sound { .. } => "sound",
     }
-}
-
-/// Begins a row, which has no member yet.
-fn begin_row(alloc: Global) -> Result<Writer, AllocError>
-    ensures { IfOk result (λ row. IsBegun [] row) }
-{
-    let mut row = Writer::new(Vec::new(alloc));
-    row.begin_object()?;
-    Ok(row)
-}
-
-/// Ends a row, and gives its line.
-fn end_row(mut row: Writer) -> Result<String, AllocError>
-    ensures { (members : List Member) → IsBegun members row → IfOk result (λ line. string_bytes line ≡ row_of members) }
-{
-    row.end_object()?;
-    let mut line = text_of(row)?;
-    line.push_str("\n")?;
-    Ok(line)
-}
-
-/// The text that was written.
-fn text_of(row: Writer) -> Result<String, AllocError>
-    ensures { IfOk result (λ text. string_bytes text ≡ row.before ++ print row.tokens) }
-{
-    match String::from_utf8(row.into_inner()) {
-        Ok(text) => Ok(text),
-        Err(_) => Err(AllocError),
-    }
-}
-
-/// Writes a member with a number.
-fn put_number(row: &mut Writer, name: &str, number: u32) -> Result<(), AllocError>
-    ensures { OnOk result (GoesOn ((name.now, count number) ∷ []) row.old row.new) }
-{
-    row.key(name)?;
-    row.u64(number.into())
-}
-
-/// Writes a member with a text.
-fn put_text(row: &mut Writer, name: &str, text: &str) -> Result<(), AllocError>
-    ensures { OnOk result (GoesOn ((name.now, string text.now) ∷ []) row.old row.new) }
-{
-    row.key(name)?;
-    row.string(text)
-}
-
-/// Writes a member with an array of texts.
-fn put_texts(row: &mut Writer, name: &str, all: &[String]) -> Result<(), AllocError>
-    ensures { OnOk result (GoesOn ((name.now, texts (map string_bytes all.now)) ∷ []) row.old row.new) }
-{
-    row.key(name)?;
-    row.begin_array()?;
-    'texts: for text in all {
-        row.string(text.as_str())?;
-    }
-    row.end_array()
-}
-
-/// Writes a member with an array of pairs of texts.
-fn put_pairs(row: &mut Writer, name: &str, all: &[(String, String)]) -> Result<(), AllocError>
-    ensures { OnOk result (GoesOn ((name.now, pairs (map (λ pair. (string_bytes pair.0, string_bytes pair.1)) all.now))
-        ∷ []) row.old row.new) }
-{
-    row.key(name)?;
-    row.begin_array()?;
-    'pairs: for pair in all {
-        put_pair(row, pair)?;
-    }
-    row.end_array()
-}
-
-/// Writes a pair of texts.
-fn put_pair(row: &mut Writer, pair: &(String, String)) -> Result<(), AllocError>
-    ensures { OnOk result
-        (WritesValue (texts (string_bytes pair.now.0 ∷ string_bytes pair.now.1 ∷ [])) row.old row.new) }
-{
-    row.begin_array()?;
-    row.string(pair.0.as_str())?;
-    row.string(pair.1.as_str())?;
-    row.end_array()
 }

@@ -1,28 +1,38 @@
 //! The command `moves`: what each first move of a problem does.
-ghost use Rattle.std.specs.Prelude.{◌≡◌};
-ghost use Rattle.dw_desk_commands.specs.Moving.{IsMovesOf};
+ghost use Rattle.std.specs.Prelude.{◌≡◌, ℕ, List, false, map, IfOk, IsErrOf};
+ghost use Rattle.std.specs.Io.KnownBytes.{Appends};
+ghost use Rattle.std.specs.String.{string_bytes};
+ghost use Rattle.dw_desk_commands.specs.Moving.{IsFirstMovesLine, IsMovesOf, SaysFirstMoves};
+ghost use Rattle.dw_desk_commands.specs.ProblemText.{IsProblemText};
+ghost use Rattle.dw_desk_commands.specs.inner.Faults.{ReportFails};
+ghost use Rattle.dw_first_moves.specs.FirstMoves.{AreFirstMoves};
+ghost use Rattle.dw_first_moves.specs.Telling.{told_by};
 ghost use Rattle.dw_games.specs.Games.{problem_of};
+ghost use Rattle.dw_notation.specs.Problems.{numbered};
+ghost use Rattle.dw_solve.specs.declared.stop.Stop.TheVariants.{Limit};
 
 use crate::desk::{Desk, DeskFault};
+use crate::json_rows::refused_line;
 use crate::reporting::ReportOne;
 use crate::watcher::DeskWatcher;
 use dw_arguments::MovesArgs;
-use dw_board::Board;
+use dw_board::{Board, Position};
 use dw_commands::Ending;
 use dw_first_moves::first_moves::first_moves;
-use dw_first_moves::first_moves_text;
+use dw_first_moves::{FirstMove, first_moves_text};
 use dw_games::Game;
-use dw_notation::{Sink, write_all};
+use dw_notation::{Problem, Sink, write_all};
 use dw_parts::Part;
-use dw_report::problem_line;
+use dw_report::{Stop, problem_line};
+use dw_rows::first_moves_row;
 use dw_study::Slices;
 
 impl<B: Board, E> ReportOne<B, E> for MovesArgs {
     ghost says = { λ asked expanded game.
-        IsMovesOf B.geometry asked.n asked.part asked.parts (problem_of game) };
+        IsMovesOf B.geometry asked (problem_of game) };
 
     /// Writes what each first move of a problem does, and returns how that ended. A refused problem leaves its first
-    /// line alone.
+    /// line alone, or its row.
     fn report<W: DeskWatcher, K: Sink>(
         &self,
         desk: &mut Desk<B>,
@@ -30,20 +40,111 @@ impl<B: Board, E> ReportOne<B, E> for MovesArgs {
         game: &Game<B>,
         sink: &mut K,
     ) -> Result<Ending<E>, DeskFault> {
-        let problem = &game.problem;
-        write_all(sink, problem_line(problem).as_str().as_bytes())?;
-        let Ok(position) = &problem.found else {
-            return Ok(Ending::Refused);
+        let is_refused = if self.json {
+            write_row(desk, slices, self, &game.problem, sink)?
+        } else {
+            write_words(desk, slices, self, &game.problem, sink)?
         };
-        let part = Part {
-            number: self.part,
-            parts: self.parts,
-        };
-        desk.begin(slices, problem.number);
-        let done = first_moves(desk.alloc, &mut desk.solver, position, self.n, part, slices);
-        slices.watcher.end();
-        let text = first_moves_text(desk.alloc, position, done?.as_slice())?;
-        write_all(sink, text.as_str().as_bytes())?;
-        Ok(Ending::Done)
+        if is_refused {
+            Ok(Ending::Refused)
+        } else {
+            Ok(Ending::Done)
+        }
     }
+}
+
+/// Writes a problem in words: its first line, and what its first moves do; and answers whether it is refused.
+fn write_words<B: Board, W: DeskWatcher, K: Sink>(
+    desk: &mut Desk<B>,
+    slices: &mut Slices<W>,
+    asked: &MovesArgs,
+    problem: &Problem<B>,
+    sink: &mut K,
+) -> Result<bool, DeskFault>
+    requires { K.is_failed sink.old ≡ false }
+    ensures text { IfOk result (λ refused. (text : List ℕ)
+        × IsProblemText B.geometry (SaysFirstMoves B.geometry asked.now.n asked.now.part asked.now.parts)
+        (numbered problem.now) refused text
+        × Appends (K.taken sink.old) (K.taken sink.new) text) }
+    ensures fails { ReportFails (K.is_failed sink.new) desk.new.solver.expanded result }
+{
+    write_all(sink, problem_line(problem).as_str().as_bytes())?;
+    let Ok(position) = &problem.found else {
+        return Ok(true);
+    };
+    let done = searched(desk, slices, asked, problem.number, position)?;
+    let text = first_moves_text(desk.alloc, position, done.as_slice())?;
+    write_all(sink, text.as_str().as_bytes())?;
+    Ok(false)
+}
+
+/// Writes a problem as a row, and answers whether it is refused.
+fn write_row<B: Board, W: DeskWatcher, K: Sink>(
+    desk: &mut Desk<B>,
+    slices: &mut Slices<W>,
+    asked: &MovesArgs,
+    problem: &Problem<B>,
+    sink: &mut K,
+) -> Result<bool, DeskFault>
+    requires { K.is_failed sink.old ≡ false }
+    ensures text { IfOk result (λ refused. (text : List ℕ)
+        × IsFirstMovesLine B.geometry asked.now.n asked.now.part asked.now.parts problem.now.number
+        problem.now.found refused text
+        × Appends (K.taken sink.old) (K.taken sink.new) text) }
+    ensures fails { ReportFails (K.is_failed sink.new) desk.new.solver.expanded result }
+{
+    let (line, is_refused) = row_of(desk, slices, asked, problem)?;
+    write_all(sink, line.as_str().as_bytes())?;
+    Ok(is_refused)
+}
+
+/// The row of a problem, and whether it is refused.
+fn row_of<B: Board, W: DeskWatcher>(
+    desk: &mut Desk<B>,
+    slices: &mut Slices<W>,
+    asked: &MovesArgs,
+    problem: &Problem<B>,
+) -> Result<(String, bool), Stop>
+    ensures row { IfOk result (λ told. IsFirstMovesLine B.geometry asked.now.n asked.now.part asked.now.parts
+        problem.now.number problem.now.found told.1 (string_bytes told.0)) }
+    ensures stop { IsErrOf result Limit → desk.new.solver.expanded ≡ u64.MAX }
+{
+    let number = problem.number;
+    match &problem.found {
+        Ok(position) => {
+            let done = searched(desk, slices, asked, number, position)?;
+            let line = first_moves_row(desk.alloc, number, position, asked.n, done.as_slice())?;
+            Ok((line, false))
+        }
+        Err(fault) => Ok((refused_line(desk.alloc, number, *fault)?, true)),
+    }
+}
+
+/// Searches for what the first moves of a position do, and shows how far it is.
+fn searched<B: Board, W: DeskWatcher>(
+    desk: &mut Desk<B>,
+    slices: &mut Slices<W>,
+    asked: &MovesArgs,
+    number: u32,
+    position: &Position<B>,
+) -> Result<Vec<FirstMove<B>>, Stop>
+    ensures done { IfOk result (λ done. AreFirstMoves B.geometry position.now asked.now.n asked.now.part
+        asked.now.parts (map told_by done.items)) }
+    ensures stop { IsErrOf result Limit → desk.new.solver.expanded ≡ u64.MAX }
+{
+    let part = Part {
+        number: asked.part,
+        parts: asked.parts,
+    };
+    desk.begin(slices, number);
+    let done = first_moves(
+        desk.alloc,
+        &mut desk.solver,
+        position,
+        asked.n,
+        part,
+        slices,
+    );
+    slices.watcher.end();
+    done
 }

@@ -1,12 +1,13 @@
 //! The verdict and the tries of a problem, as rows of a page.
 ghost use Rattle.std.specs.Prelude.{◌≡◌, ◌≤◌, ◌++◌, ℕ, IfOk, codes, decimal, length, map};
 ghost use Rattle.std.specs.String.{string_bytes};
-ghost use Rattle.dw_desk_commands.specs.Paging.{AreTryRows, IsVerdictRow, shorter, try_row};
+ghost use Rattle.dw_desk_commands.specs.Paging.{AreRowsShown, AreTryRows, IsVerdictRow, shorter, try_row};
 ghost use Rattle.dw_desk_commands.specs.Paging as of;
 ghost use Rattle.dw_page.specs.Words as words;
 ghost use Rattle.dw_verdict.specs.Judging.{said_by};
 ghost use Rattle.dw_verdict.specs.Verdict.{IsVerdict, Tries, dual};
 
+use dw_arguments::PageTries;
 use dw_board::{Board, Position};
 use dw_moves::Move;
 use dw_page::{Language, Phrase};
@@ -130,8 +131,25 @@ fn dual_row<B: Board>(
     Ok(row)
 }
 
+/// The rows of the tries that are to be shown: all, or none.
+pub(crate) fn tries_shown<B: Board>(
+    alloc: Global,
+    which: PageTries,
+    position: &Position<B>,
+    judged: &Judged<B>,
+) -> Result<Vec<String>, AllocError>
+    requires { (n : ℕ) × Tries B.geometry position.now n judged.now.tries.items }
+    ensures { IfOk result (λ rows. AreRowsShown B.geometry which position.now judged.now.tries.items
+        (map string_bytes rows.items)) }
+{
+    match which {
+        PageTries::All => tries_row(alloc, position, judged),
+        PageTries::None => Ok(Vec::new(alloc)),
+    }
+}
+
 /// The tries, each with the reply that refutes it.
-pub(crate) fn tries_row<B: Board>(
+fn tries_row<B: Board>(
     alloc: Global,
     position: &Position<B>,
     judged: &Judged<B>,

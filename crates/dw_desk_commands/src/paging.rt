@@ -21,7 +21,7 @@ ghost use Rattle.dw_study.specs.Telling.{told_by};
 
 use crate::chosen::Chosen;
 use crate::desk::{Counts, Desk, DeskFault};
-use crate::page_rows::{tries_row, verdict_row};
+use crate::page_rows::{tries_shown, verdict_row};
 use crate::solving::movetext_of;
 use crate::watcher::DeskWatcher;
 use dw_arguments::{PageArgs, PageLanguage, Placing};
@@ -303,7 +303,7 @@ fn push_placed<B: Board>(
     requires verdict { IsVerdict B.geometry task.now.position.now task.now.moves (said_by judged.now.verdict) }
     requires tries { Tries B.geometry task.now.position.now task.now.moves judged.now.tries.items }
     ensures solution { OnOk result ((behind new : List ℕ) × Stands asked.now.solutions (IsSolved B.geometry
-        (language_for asked.now.language) asked.now.lines task.now.number task.now.position.now task.now.moves) behind
+        (language_for asked.now.language) asked.now.lines asked.now.tries task.now.number task.now.position.now task.now.moves) behind
         new
         × (part.new.items ≡ part.old.items ++ behind) × (later.new.items ≡ later.old.items ++ new)) }
     ensures stop { IsErrOf result Limit → desk.new.solver.expanded ≡ u64.MAX }
@@ -375,7 +375,7 @@ fn push_solved<B: Board>(
     requires verdict { IsVerdict B.geometry task.now.position.now task.now.moves (said_by judged.now.verdict) }
     requires tries { Tries B.geometry task.now.position.now task.now.moves judged.now.tries.items }
     ensures solution { OnOk result ((text : List ℕ) × IsSolved B.geometry (language_for asked.now.language)
-        asked.now.lines task.now.number task.now.position.now task.now.moves is_apart text
+        asked.now.lines asked.now.tries task.now.number task.now.position.now task.now.moves is_apart text
         × (page.new.items ≡ page.old.items ++ text)) }
     ensures stop { IsErrOf result Limit → desk.new.solver.expanded ≡ u64.MAX }
 {
@@ -388,7 +388,7 @@ fn push_solved<B: Board>(
         task.moves,
         judged,
     )?;
-    let tries = tries_row(desk.alloc, position, judged)?;
+    let tries = tries_shown(desk.alloc, asked.tries, position, judged)?;
     let solution = Solution {
         verdict: verdict.as_str(),
         tries: tries.as_slice(),

@@ -4,6 +4,8 @@ ghost use Rattle.std.specs.Io.KnownBytes.{Appends};
 ghost use Rattle.std.specs.List.{flat_map};
 ghost use Rattle.std.specs.String.{string_bytes};
 ghost use Rattle.dw_desk_commands.specs.Solving.{AreWrittenTags, IsGameOf, IsSolution, new_lines, own_line};
+ghost use Rattle.dw_desk_commands.specs.Solving.{IsNumberOf};
+ghost use Rattle.dw_study.specs.Finding.{IsJudgedAt};
 ghost use Rattle.dw_desk_commands.specs.Solving as of;
 ghost use Rattle.dw_desk_commands.specs.inner.Faults.{SinkFails};
 ghost use Rattle.dw_games.specs.TagRows.{tag_text};
@@ -21,13 +23,13 @@ use dw_notation::{ProblemFault, Sink, write_all};
 use dw_report::{Stop, refusal_text};
 use dw_solution::movetext::movetext;
 use dw_solution::{Heading, VerdictKind, first_lines};
-use dw_study::{Slices, verdict_in_slices};
+use dw_study::{Slices, verdict_in_slices, wins_resuming};
 use dw_verdict::Verdict;
 use itoa::Buffer;
 use std::alloc::{AllocError, Global};
 
 impl<B: Board> ReportEach<B> for SolutionArgs {
-    ghost says = { λ asked. IsGameOf B.geometry asked.n asked.lines };
+    ghost says = { λ asked. IsGameOf B.geometry asked };
 
     /// Writes a problem as a game, with the tags that its section has, and returns whether it is refused.
     fn report<W: DeskWatcher, K: Sink>(
@@ -79,7 +81,8 @@ fn searched<B: Board, W: DeskWatcher>(
     number: u32,
     position: &Position<B>,
 ) -> Result<Vec<u8>, Stop>
-    ensures text { IfOk result (λ text. IsSolution B.geometry position.now asked.now.n asked.now.lines text.items) }
+    ensures text { IfOk result (λ text. (n : ℕ) × IsNumberOf B.geometry asked.now position.now n
+        × IsSolution B.geometry position.now n asked.now.lines text.items) }
     ensures stop { IsErrOf result Limit → desk.new.solver.expanded ≡ u64.MAX }
 {
     desk.begin(slices, number);
@@ -95,11 +98,56 @@ fn solution_of<B: Board, W: DeskWatcher>(
     asked: &SolutionArgs,
     position: &Position<B>,
 ) -> Result<Vec<u8>, Stop>
-    ensures text { IfOk result (λ text. IsSolution B.geometry position.now asked.now.n asked.now.lines text.items) }
+    ensures text { IfOk result (λ text. (n : ℕ) × IsNumberOf B.geometry asked.now position.now n
+        × IsSolution B.geometry position.now n asked.now.lines text.items) }
     ensures stop { IsErrOf result Limit → desk.new.solver.expanded ≡ u64.MAX }
 {
-    let verdict = verdict_in_slices(desk.alloc, &mut desk.solver, position, asked.n, slices)?;
-    movetext_of(desk, position, asked.n, asked.lines, &verdict)
+    let moves = number_for(desk, slices, asked, position)?;
+    let verdict = verdict_in_slices(desk.alloc, &mut desk.solver, position, moves, slices)?;
+    movetext_of(desk, position, moves, asked.lines, &verdict)
+}
+
+/// The number of moves that is asked for.
+fn number_for<B: Board, W: DeskWatcher>(
+    desk: &mut Desk<B>,
+    slices: &mut Slices<W>,
+    asked: &SolutionArgs,
+    position: &Position<B>,
+) -> Result<u8, Stop>
+    ensures number { IfOk result (IsNumberOf B.geometry asked.now position.now) }
+    ensures some { IfOk result (λ moves. 1 ≤ moves) }
+    ensures few { IfOk result (λ moves. moves ≤ 20) }
+    ensures stop { IsErrOf result Limit → desk.new.solver.expanded ≡ u64.MAX }
+{
+    if asked.is_least {
+        least_number(desk, slices, position, asked.moves)
+    } else {
+        Ok(asked.moves)
+    }
+}
+
+/// The least number of moves within which there is a win, or the most, if there is none within fewer.
+fn least_number<B: Board, W: DeskWatcher>(
+    desk: &mut Desk<B>,
+    slices: &mut Slices<W>,
+    position: &Position<B>,
+    most: u8,
+) -> Result<u8, Stop>
+    requires some { 1 ≤ most }
+    requires few { most ≤ 20 }
+    ensures number { IfOk result (IsJudgedAt B.geometry position.now most) }
+    ensures some { IfOk result (λ moves. 1 ≤ moves) }
+    ensures few { IfOk result (λ moves. moves ≤ most) }
+    ensures stop { IsErrOf result Limit → desk.new.solver.expanded ≡ u64.MAX }
+{
+    dw_solve::laws::wins_are_decided();
+    slices.begin(desk.solver.expanded());
+    'moves: for moves in 1..most {
+        if wins_resuming(desk.alloc, &mut desk.solver, position, moves, slices)? {
+            return Ok(moves);
+        }
+    }
+    Ok(most)
 }
 
 /// The movetext of the first lines of a position within so many moves, with this verdict.

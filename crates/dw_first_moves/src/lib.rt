@@ -14,4 +14,4 @@ pub mod laws;
 pub mod text;
 
 pub use first_move::{Effect, FirstMove};
-pub use text::first_moves_text;
+pub use text::{first_moves_text, wins_among};

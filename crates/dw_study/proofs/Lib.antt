@@ -8,6 +8,7 @@ pub mod RemarkLemmas
 pub mod BeginningLemmas
 pub mod TurnLemmas
 pub mod RemarkTextLemmas
+pub mod WordLemmas
 pub mod HoldsLemmas
 pub mod ExactLemmas
 pub mod ToldLemmas

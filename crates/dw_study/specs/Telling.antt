@@ -13,6 +13,9 @@ use Rattle.dw_moves.specs.Moves.{Move}
 use Rattle.dw_games.specs.Walk.{place_of, beginning_at}
 use Rattle.dw_study.specs.Finding.{Finding, judged, undecided}
 use Rattle.dw_study.specs.Slices.{SearchedInSlices}
+use Rattle.std.specs.String.{string_bytes}
+use Rattle.dw_study.specs.RemarkWords.{Words}
+use Rattle.dw_study.specs.declared.worded.RemarkWords.{RemarkWords}
 use Rattle.dw_study.specs.Remarks.{Remark, fails, also, leaves_open, ends}
 use Rattle.dw_study.specs.declared.finding.Finding as findings
 use Rattle.dw_study.specs.declared.finding.Finding.TheVariants.{Judged, Undecided}
@@ -73,3 +76,11 @@ remark_in tree (Ends at) = option_map (λ b. ends b) (beginning_at tree (place_o
 -- these remarks on a tree say what holds
 abbrev pub Say : {B : Type 0} → List (List Move) → List (remarks.Remark B) → (List Remark → Type 0) → Type 0
 Say tree items Holds = (said : List Remark) × (map (remark_in tree) items ≡ map (λ r. Some r) said) × Holds said
+
+-- the texts that the words of a remark have
+abbrev pub texts_in : RemarkWords → Words
+texts_in words = record {
+  line = string_bytes words.line;
+  moves = map string_bytes words.moves.items;
+  refutation = option_map string_bytes words.refutation;
+}

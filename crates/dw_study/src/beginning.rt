@@ -16,11 +16,12 @@ use dw_notation::MAX_MOVES;
 use dw_notation::line_text::line_text;
 use std::alloc::{AllocError, Global};
 
-/// A beginning of a path: its moves, the position behind it, and its text with a blank before it.
+/// A beginning of a path: its moves, the position behind it, its text, and that with a blank before it.
 #[derive(Drop)]
 pub(crate) struct Beginning<B: Board> {
     pub(crate) moves: ArrayVec<Move<B>, MAX_MOVES>,
     pub(crate) position: Position<B>,
+    pub(crate) line: String,
     pub(crate) text: String,
 }
 
@@ -44,9 +45,11 @@ pub(crate) fn beginning_of<B: Board>(
     };
     let line = line_text(alloc, position, moves.as_slice())?;
     let text = with_blank(alloc, line.as_str())?;
+    let line = String::from_str(alloc, line.as_str())?;
     Ok(Some(Beginning {
         moves,
         position: behind,
+        line,
         text,
     }))
 }

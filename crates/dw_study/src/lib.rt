@@ -19,16 +19,19 @@ mod looking;
 mod question;
 pub mod remark;
 mod remark_texts;
+
 mod seen;
 pub mod sliced;
 pub mod slices;
 mod text;
 pub mod turns;
+mod worded;
 
 pub use finding::{FindBounds, Finding};
 pub use judging::{judge_in_slices, judge_resuming, verdict_in_slices, verdict_resuming};
 pub use remark::{Checked, Remark};
 pub use remark_texts::remark_text;
+pub use worded::{RemarkWords, move_texts, remark_words};
 pub use sliced::{wins_in_slices, wins_resuming};
 pub use slices::{Slices, Unwatched, Watcher};
 pub use text::found_text;

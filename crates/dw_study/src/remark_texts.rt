@@ -154,7 +154,7 @@ fn ends_text<B: Board>(
 }
 
 /// Whether all moves are legal at a position.
-fn are_legal<B: Board>(position: &Position<B>, moves: &[Move<B>]) -> bool
+pub(crate) fn are_legal<B: Board>(position: &Position<B>, moves: &[Move<B>]) -> bool
     ensures { (result ≡ true) ↔ ((m : of.Move) → Member m moves.now → Legal B.geometry position.now m) }
 {
     'moves: for mv in moves {

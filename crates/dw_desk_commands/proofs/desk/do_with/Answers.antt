@@ -65,8 +65,7 @@ returns-in-Moves-clause-does g c =
     let after = c.report_first-in-Moves.new.chosen in
     let before_text = g.K.Sink.taken c.args.sink.now in
     let after_text = g.K.Sink.taken c.report_first-in-Moves.new.sink in
-    let One = λ (game : NumberedGame). IsMovesOf geo c.in-Moves.asked.n c.in-Moves.asked.part c.in-Moves.asked.parts
-    (problem_of game) in
+    let One = λ (game : NumberedGame). IsMovesOf geo c.in-Moves.asked (problem_of game) in
     ok_so (λ ending. (next : Option NumberedGame) × (text : List ℕ)
     × IsNext geo source.coming source.has_ended chosen after next
     × IsReportOnOne One chosen.portion.first (as_list next) ending text × Appends before_text after_text text)

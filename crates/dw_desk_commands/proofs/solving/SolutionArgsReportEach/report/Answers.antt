@@ -19,13 +19,15 @@ returns-in_ok-write_all-in-Ok-2-clause-text g c =
     let end = codes "\n\n" in
     let text = tags.0 ++ (movetext ++ end) in (
       text,
-      subst (λ z. IsGameFor geo asked.n asked.lines game.problem.number z game.tags.items false text) (sym c.in-Ok.is) (
+      subst (λ z. IsGameFor geo asked game.problem.number z game.tags.items false text) (sym c.in-Ok.is) (
         refl,
         (
+          c.in_ok-text-in-Ok.ensures.text.0,
           tags.0,
           movetext,
+          c.in_ok-text-in-Ok.ensures.text.1,
           subst (λ z. AreWrittenTags geo c.in-Ok.position z tags.0) c.as_slice.ensures.value tags.1,
-          c.in_ok-text-in-Ok.ensures.text,
+          c.in_ok-text-in-Ok.ensures.text.2,
           refl,
         ),
       ),

@@ -1,0 +1,6 @@
+use Rattle.std.proofs.Common.{ℕ, ◌<◌}
+use Rattle.dw_solve.specs.Wins.{Win}
+use Rattle.dw_desk_commands.proofs.solving.least_number.Given as goal
+
+abbrev pub invariant-moves : goal.invariant-moves
+invariant-moves g l = (j : ℕ) → j < l.moves → Win g.B.Board.geometry l.position j → ⊥

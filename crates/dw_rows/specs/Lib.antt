@@ -1,0 +1,3 @@
+pub mod FirstMovesRow
+pub mod CheckRow
+pub mod inner

@@ -1,0 +1,149 @@
+//! The row of what is remarked of an author's solution.
+ghost use Rattle.std.specs.Prelude.{◌≡◌, ◌∷◌, [], ℕ, List, Some, codes, map, IfOk, OnOk};
+ghost use Rattle.std.specs.String.{string_bytes};
+ghost use Rattle.dw_board.specs.Lists.{Member as Has};
+ghost use Rattle.dw_json.specs.Rows.{Member};
+ghost use Rattle.dw_json.specs.Writing.{WritesMembers};
+ghost use Rattle.dw_rows.specs.CheckRow.{IsCheckedRow, IsRemarkObject, kind_word, refused_solution_row, word_members};
+ghost use Rattle.dw_rows.specs.inner.Remarking.{CanTell, TellsIt};
+ghost use Rattle.dw_study.specs.RemarkText.{CanBeTold};
+ghost use Rattle.dw_study.specs.Remarks.{Remark as AnyRemark};
+ghost use Rattle.dw_study.specs.Telling.{remark_in, texts_in};
+
+use dw_board::{Board, Position, fen_text};
+use dw_games::{MovetextFaultKind, Tree};
+use dw_json::{
+    PutObject, begin_row, end_row, put_flag, put_number, put_objects, put_text, put_texts,
+};
+use dw_study::{Remark, RemarkWords, remark_words};
+use itoa::Buffer;
+use json::Writer;
+use std::alloc::{AllocError, Global};
+
+/// What is counted of a solution.
+/// Example: of one that holds and leaves a reply open, `holds` is true and `open` is 1.
+#[derive(Clone, Copy)]
+pub struct CheckNumbers {
+    /// Whether there is a win within the number of moves.
+    pub wins: bool,
+    /// Whether the solution holds.
+    pub holds: bool,
+    /// How many moves fail.
+    pub fail: u64,
+    /// How many ends there are.
+    pub end: u64,
+    /// At how many places replies are left open.
+    pub open: u64,
+    /// At how many places keys are left out.
+    pub also: u64,
+}
+
+/// The row of a solution within so many moves: what is counted, and the remarks, in order.
+/// Example: that of a solution of which nothing is remarked ends with `"remarks":[]}`.
+pub fn checked_row<B: Board>(
+    alloc: Global,
+    number: u32,
+    position: &Position<B>,
+    moves: u8,
+    numbers: CheckNumbers,
+    tree: &Tree<B>,
+    remarks: &[Remark<B>],
+) -> Result<String, AllocError>
+    requires { (said : List AnyRemark) × (map (remark_in tree.now) remarks.now ≡ map (λ r. Some r) said)
+        × ((r : AnyRemark) → Has r said → CanBeTold B.geometry position.now r) }
+    ensures { (said : List AnyRemark) → map (remark_in tree.now) remarks.now ≡ map (λ r. Some r) said
+        → IfOk result (λ line. IsCheckedRow B.geometry number position.now moves numbers said (string_bytes line)) }
+{
+    let mut row = begin_row(alloc)?;
+    put_number(&mut row, "problem", number.into())?;
+    put_text(&mut row, "fen", fen_text(position).as_str())?;
+    put_number(&mut row, "n", moves.into())?;
+    put_flag(&mut row, "win", numbers.wins)?;
+    put_flag(&mut row, "holds", numbers.holds)?;
+    put_number(&mut row, "fail", numbers.fail)?;
+    put_number(&mut row, "end", numbers.end)?;
+    put_number(&mut row, "open", numbers.open)?;
+    put_number(&mut row, "also", numbers.also)?;
+    let each = RemarksOn {
+        alloc,
+        position,
+        tree,
+    };
+    put_objects(&mut row, "remarks", remarks, &each)?;
+    end_row(row)
+}
+
+/// The row of a solution that is refused.
+/// Example: `{"problem":3,"fen":"W:W27,32:B18","solution_refused":"2 no such move at 5"}` and a line end.
+pub fn refused_solution_row<B: Board>(
+    alloc: Global,
+    number: u32,
+    position: &Position<B>,
+    what: MovetextFaultKind,
+    place: u32,
+) -> Result<String, AllocError>
+    ensures { IfOk result (λ line. string_bytes line
+        ≡ refused_solution_row B.geometry number position.now what place) }
+{
+    let mut digits = Buffer::new();
+    let mut places = Buffer::new();
+    let why = [
+        digits.format(what.number()),
+        " ",
+        what.name(),
+        " at ",
+        places.format(place),
+    ]
+    .concat(alloc)?;
+    let mut row = begin_row(alloc)?;
+    put_number(&mut row, "problem", number.into())?;
+    put_text(&mut row, "fen", fen_text(position).as_str())?;
+    put_text(&mut row, "solution_refused", why.as_str())?;
+    end_row(row)
+}
+
+/// Remarks on a tree of a position, as objects.
+#[derive(Clone, Copy)]
+struct RemarksOn<'a, B: Board> {
+    alloc: Global,
+    position: &'a Position<B>,
+    tree: &'a Tree<B>,
+}
+
+impl<B: Board> PutObject<Remark<B>> for RemarksOn<'_, B> {
+    ghost asks = { λ it one. CanTell B.geometry it.position.now it.tree.now one };
+
+    ghost says = { λ it one members. TellsIt B.geometry it.position.now it.tree.now one members };
+
+    fn put(&self, row: &mut Writer, item: &Remark<B>) -> Result<(), AllocError> {
+        match remark_words(self.alloc, self.position, self.tree, item)? {
+            Some(words) => put_words(row, kind_of(item), &words),
+            None => Err(AllocError),
+        }
+    }
+}
+
+/// The word for a kind of remark.
+fn kind_of<B: Board>(remark: &Remark<B>) -> &'static str
+    ensures { (tree : List (List _)) (r : AnyRemark) → remark_in tree remark.now ≡ Some r → result.now ≡ kind_word r }
+{
+    match remark {
+        Remark::Fails { .. } => "fails",
+        Remark::Also { .. } => "also",
+        Remark::Open { .. } => "open",
+        Remark::Ends { .. } => "ends",
+    }
+}
+
+/// Writes the members of a remark of this kind.
+fn put_words(row: &mut Writer, kind: &str, words: &RemarkWords) -> Result<(), AllocError>
+    ensures { OnOk result (WritesMembers (word_members kind.now (texts_in words.now)) row.old row.new) }
+{
+    put_text(row, "kind", kind)?;
+    put_text(row, "line", words.line.as_str())?;
+    put_texts(row, "moves", words.moves.as_slice())?;
+    match &words.refutation {
+        Some(reply) => put_text(row, "refutation", reply.as_str()),
+        None => Ok(()),
+    }
+}

@@ -1,0 +1,83 @@
+//! The row of what the first moves of a problem do.
+ghost use Rattle.std.specs.Prelude.{◌≡◌, ◌∷◌, [], ℕ, List, codes, map, IfOk, OnOk};
+ghost use Rattle.std.specs.String.{string_bytes};
+ghost use Rattle.dw_moves.specs.Moves as of;
+ghost use Rattle.dw_first_moves.specs.FirstMoves.{AreEffects, HasEffect};
+ghost use Rattle.dw_first_moves.specs.Telling.{effect_of, told_by};
+ghost use Rattle.dw_json.specs.Rows.{Member};
+ghost use Rattle.dw_json.specs.Writing.{WritesMembers};
+ghost use Rattle.dw_rows.specs.FirstMovesRow.{IsEffectMember, IsFirstMoveObject, IsFirstMovesRow};
+
+use dw_board::{Board, Position, fen_text};
+use dw_first_moves::{Effect, FirstMove, wins_among};
+use dw_json::{PutObject, begin_row, end_row, put_number, put_objects, put_text, put_texts};
+use dw_moves::play::play;
+use dw_notation::text_in;
+use dw_study::move_texts;
+use json::Writer;
+use std::alloc::{AllocError, Global};
+
+/// The row of what `first_moves` answered of a position within so many moves.
+/// Example: at `W:W32:B28`, within 1 move, its members are those of the problem, and `"winning":1,"moves":[..]`.
+pub fn first_moves_row<B: Board>(
+    alloc: Global,
+    number: u32,
+    position: &Position<B>,
+    moves: u8,
+    done: &[FirstMove<B>],
+) -> Result<String, AllocError>
+    requires { (n : ℕ) × (all : List of.Move) × AreEffects B.geometry position.now n all (map told_by done.now) }
+    ensures { IfOk result (λ line. IsFirstMovesRow B.geometry number position.now moves (map told_by done.now)
+        (string_bytes line)) }
+{
+    let mut row = begin_row(alloc)?;
+    put_number(&mut row, "problem", number.into())?;
+    put_text(&mut row, "fen", fen_text(position).as_str())?;
+    put_number(&mut row, "n", moves.into())?;
+    put_number(&mut row, "winning", wins_among(done) as u64)?;
+    put_objects(&mut row, "moves", done, &FirstMovesOf { alloc, position })?;
+    end_row(row)
+}
+
+/// The first moves of a position, as objects.
+#[derive(Clone, Copy)]
+struct FirstMovesOf<'a, B: Board> {
+    alloc: Global,
+    position: &'a Position<B>,
+}
+
+impl<B: Board> PutObject<FirstMove<B>> for FirstMovesOf<'_, B> {
+    ghost asks = { λ it one. (n : ℕ) × HasEffect B.geometry it.position.now n one.mv (effect_of one.effect) };
+
+    ghost says = { λ it one members. IsFirstMoveObject B.geometry it.position.now (told_by one) members };
+
+    fn put(&self, row: &mut Writer, item: &FirstMove<B>) -> Result<(), AllocError> {
+        let text = text_in(self.alloc, self.position, &item.mv)?;
+        let after = play(self.position, &item.mv);
+        put_text(row, "move", text.as_str())?;
+        put_text(row, "fen", fen_text(&after).as_str())?;
+        put_effect(self.alloc, row, &after, &item.effect)
+    }
+}
+
+/// Writes the member that tells what a first move does, by the position after it.
+fn put_effect<B: Board>(
+    alloc: Global,
+    row: &mut Writer,
+    after: &Position<B>,
+    effect: &Effect<B>,
+) -> Result<(), AllocError>
+    requires { (p : _) × (n : ℕ) × (m : of.Move) × HasEffect B.geometry p n m (effect_of effect.now)
+        × (after.now ≡ of.play B.geometry p m) }
+    ensures { (p : _) (m : of.Move) → after.now ≡ of.play B.geometry p m
+        → OnOk result ((one : Member) × IsEffectMember B.geometry p m (effect_of effect.now) one
+        × WritesMembers (one ∷ []) row.old row.new) }
+{
+    match effect {
+        Effect::WinsIn(moves) => put_number(row, "wins_in", (*moves).into()),
+        Effect::RefutedBy(replies) => {
+            let texts = move_texts(alloc, after, replies.as_slice())?;
+            put_texts(row, "refuted_by", texts.as_slice())
+        }
+    }
+}

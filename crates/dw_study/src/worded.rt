@@ -1,0 +1,155 @@
+//! The texts that a remark on an author's solution is told by, one by one.
+ghost use Rattle.std.specs.Prelude.{◌≡◌, [], Some, List, map, IfOk, IfSome, IsSome};
+ghost use Rattle.std.specs.String.{string_bytes};
+ghost use Rattle.dw_board.specs.Lists.{Member};
+ghost use Rattle.dw_moves.specs.Moves.{Legal};
+ghost use Rattle.dw_moves.specs.Moves as of;
+ghost use Rattle.dw_notation.specs.Text.{AreMoveTexts};
+ghost use Rattle.dw_study.specs.RemarkText.{CanBeTold};
+ghost use Rattle.dw_study.specs.RemarkWords.{AreRemarkWords, AreWordsFor};
+ghost use Rattle.dw_study.specs.Remarks.{fails, also};
+ghost use Rattle.dw_study.specs.Telling.{remark_in, texts_in};
+ghost use Rattle.dw_study.specs.inner.Beginnings.{IsBegun};
+
+use crate::beginning::{Beginning, beginning_of};
+use crate::remark::Remark;
+use crate::remark_texts::are_legal;
+use dw_board::{Board, Position};
+use dw_games::Tree;
+use dw_moves::play::play;
+use dw_moves::{Move, is_legal};
+use dw_notation::text_in;
+use std::alloc::{AllocError, Global};
+
+/// The texts of a remark.
+/// Example: `open 1. 32-28: 18-23` has the line `1. 32-28`, the move `18-23` and no refutation.
+#[derive(Drop)]
+pub struct RemarkWords {
+    /// The beginning that it is on, as a line; empty, if that has no move.
+    pub line: String,
+    /// The move that fails, or the moves that are missing; none, if the solution ends there.
+    pub moves: Vec<String>,
+    /// The reply that refutes a move that fails.
+    pub refutation: Option<String>,
+}
+
+/// The texts of a remark on a tree of a position, as `check` makes it; none, if some move that it names can not be
+/// played there, or stands behind more than 39 others.
+/// Example: at `W:W27,32:B18`, within 2 moves, those of the first remark on `1. 32-28 18-22 2. 27x18` are the line
+/// `1. 32-28` and the move `18-23`.
+pub fn remark_words<B: Board>(
+    alloc: Global,
+    position: &Position<B>,
+    tree: &Tree<B>,
+    remark: &Remark<B>,
+) -> Result<Option<RemarkWords>, AllocError>
+    ensures words { (r : _) → remark_in tree.now remark.now ≡ Some r
+        → IfOk result (λ made. IfSome made (λ words. AreRemarkWords B.geometry position.now r (texts_in words))) }
+    ensures some { (r : _) → remark_in tree.now remark.now ≡ Some r → CanBeTold B.geometry position.now r
+        → IfOk result (λ made. IsSome made) }
+{
+    match remark {
+        Remark::Fails { at, mv, reply } => match beginning_of(alloc, position, tree, *at)? {
+            Some(beginning) => fails_words(alloc, &beginning, mv, reply),
+            None => Ok(None),
+        },
+        Remark::Also { at, keys } => match beginning_of(alloc, position, tree, *at)? {
+            Some(beginning) => words_for(alloc, &beginning, keys.as_slice()),
+            None => Ok(None),
+        },
+        Remark::Open { at, replies } => match beginning_of(alloc, position, tree, *at)? {
+            Some(beginning) => words_for(alloc, &beginning, replies.as_slice()),
+            None => Ok(None),
+        },
+        Remark::Ends { at } => match beginning_of(alloc, position, tree, *at)? {
+            Some(beginning) => end_words(alloc, &beginning),
+            None => Ok(None),
+        },
+    }
+}
+
+/// The texts of a move that fails.
+fn fails_words<B: Board>(
+    alloc: Global,
+    beginning: &Beginning<B>,
+    mv: &Move<B>,
+    reply: &Move<B>,
+) -> Result<Option<RemarkWords>, AllocError>
+    ensures words { (p : _) (b : List of.Move) → IsBegun B.geometry p b beginning.now
+        → IfOk result (λ made. IfSome made (λ words. AreRemarkWords B.geometry p (fails b mv.now reply.now)
+        (texts_in words))) }
+    ensures some { (p : _) (b : List of.Move) → IsBegun B.geometry p b beginning.now
+        → CanBeTold B.geometry p (fails b mv.now reply.now) → IfOk result (λ made. IsSome made) }
+{
+    if !is_legal(&beginning.position, mv) {
+        return Ok(None);
+    }
+    let after = play(&beginning.position, mv);
+    if !is_legal(&after, reply) {
+        return Ok(None);
+    }
+    let first = text_in(alloc, &beginning.position, mv)?;
+    let second = text_in(alloc, &after, reply)?;
+    let mut moves = Vec::new(alloc);
+    moves.push(String::from_str(alloc, first.as_str())?)?;
+    Ok(Some(RemarkWords {
+        line: String::from_str(alloc, beginning.line.as_str())?,
+        moves,
+        refutation: Some(String::from_str(alloc, second.as_str())?),
+    }))
+}
+
+/// The texts of moves that are missing.
+fn words_for<B: Board>(
+    alloc: Global,
+    beginning: &Beginning<B>,
+    moves: &[Move<B>],
+) -> Result<Option<RemarkWords>, AllocError>
+    ensures words { (p : _) (b : List of.Move) → IsBegun B.geometry p b beginning.now
+        → IfOk result (λ made. IfSome made (λ words. AreWordsFor B.geometry p b moves.now (texts_in words))) }
+    ensures some { (p : _) (b : List of.Move) → IsBegun B.geometry p b beginning.now
+        → CanBeTold B.geometry p (also b moves.now) → IfOk result (λ made. IsSome made) }
+{
+    if !are_legal(&beginning.position, moves) {
+        return Ok(None);
+    }
+    Ok(Some(RemarkWords {
+        line: String::from_str(alloc, beginning.line.as_str())?,
+        moves: move_texts(alloc, &beginning.position, moves)?,
+        refutation: None,
+    }))
+}
+
+/// The texts of an end.
+fn end_words<B: Board>(
+    alloc: Global,
+    beginning: &Beginning<B>,
+) -> Result<Option<RemarkWords>, AllocError>
+    ensures words { (p : _) (b : List of.Move) → IsBegun B.geometry p b beginning.now
+        → IfOk result (λ made. IfSome made (λ words. AreWordsFor B.geometry p b [] (texts_in words))) }
+    ensures some { IfOk result (λ made. IsSome made) }
+{
+    Ok(Some(RemarkWords {
+        line: String::from_str(alloc, beginning.line.as_str())?,
+        moves: Vec::new(alloc),
+        refutation: None,
+    }))
+}
+
+/// The texts of legal moves of a position, in their order.
+/// Example: at `W:W27,32:B18` those of the first two are `27-21` and `27-22`.
+pub fn move_texts<B: Board>(
+    alloc: Global,
+    position: &Position<B>,
+    moves: &[Move<B>],
+) -> Result<Vec<String>, AllocError>
+    requires { (m : of.Move) → Member m moves.now → Legal B.geometry position.now m }
+    ensures { IfOk result (λ texts. AreMoveTexts B.geometry position.now moves.now (map string_bytes texts.items)) }
+{
+    let mut texts = Vec::new(alloc);
+    'moves: for mv in moves {
+        let text = text_in(alloc, position, mv)?;
+        texts.push(String::from_str(alloc, text.as_str())?)?;
+    }
+    Ok(texts)
+}
