@@ -466,7 +466,7 @@ def check_collection(browser, folder, page):
     open_page(browser, page)
     assert browser.run("t.at('#list').dataset.count") in ("4", None) or browser.name == "firefox"
     browser.run("t.at('#forget').click()")
-    for name, content in (("brackets.pdn", b"[" * 1_000_000), ("random.fen", b"".join(
+    for name, content in (("brackets.pdn", b"[" * 9_900_000), ("random.fen", b"".join(
             random.Random(1).randbytes(40) + b"\n" for _ in range(300))), ("markup.pdn",
             b'[Event "<img src=x onerror=alert(1)>"] [FEN "W:W27:B18"] *')):
         hostile = folder / name
@@ -512,10 +512,12 @@ def check_languages(browser):
         sentences.add(browser.run("t.at('#verdict').textContent"))
         for width in (PHONE, 800):
             browser.resize(width, 740, width == PHONE)
-            wide = browser.run("[document.documentElement.scrollWidth, innerWidth]")
-            assert wide[0] <= wide[1], (language, width, wide)
-        unnamed = browser.run("""t.all('button, input, select, textarea').filter((e) => !e.closest('[hidden]')
-            && !(e.textContent.trim() || e.getAttribute('aria-label') || e.labels?.length)).map((e) => e.outerHTML)""")
+            for tab in ("compare", "improve", "collection", "solve"):
+                browser.run(f"t.at('#tab-{tab}').click()")
+                wide = browser.run("[document.documentElement.scrollWidth, innerWidth]")
+                assert wide[0] <= wide[1], (language, width, tab, wide)
+        unnamed = browser.run("""t.all('button, input, select, textarea').filter((e) =>
+            !(e.textContent.trim() || e.getAttribute('aria-label') || e.labels?.length)).map((e) => e.outerHTML)""")
         assert not unnamed, (language, unnamed)
     browser.resize(1200, 900)
     assert len(sentences) == 4, sentences
