@@ -349,7 +349,15 @@ def check_play(browser, source):
         browser.run("t.at('#play-start').click()")
         browser.wait(f"t.at('#fen').value === {json.dumps(start)}", 10)
     browser.run("t.at('#mode-setup').click()")
-    print(f"{browser.name}: {played} moves played by clicks")
+    browser.run(call("place", 10, "W", of_fen("W:W27,32:B18")))
+    browser.run(call("solve", 5))
+    browser.run("t.at('#mode-play').click()")
+    for place, wanted in ((0, "18"), (1, "27,28"), (4, "27,28")):
+        browser.run(f"t.all('#solution .move')[{place}].click()")
+        browser.wait(f"t.all('.dark.source').map((e) => e.dataset.square).join() === {json.dumps(wanted)}"
+                     if place < 4 else "t.at('#played').textContent.includes('no move left')", 10)
+    browser.run("t.at('#mode-setup').click()")
+    print(f"{browser.name}: {played} moves played by clicks, and on from moves of a solution")
 
 
 def check_stop(browser):
@@ -414,6 +422,12 @@ def check_mend(browser):
     assert [tuple(pair) for pair in said] == wanted, (said, wanted)
     browser.run("t.at('#mend .card').click()")
     browser.wait(f"t.at('#fen').value === {json.dumps(wanted[0][1])}", 10)
+    browser.run(call("read", LONG))
+    browser.run("t.set('#mend-n', '12')")
+    browser.run("t.at('#mend-go').click()")
+    time.sleep(0.3)
+    browser.run("t.at('#mend-stop').click()")
+    browser.wait("t.at('#mend').dataset.state === 'stopped' && !t.at('#mend-go').disabled", 10)
     browser.run("t.at('#tab-solve').click()")
     print(f"{browser.name}: {len(said)} sound neighbours, as dw-desk mend has them")
 
