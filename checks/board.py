@@ -349,7 +349,15 @@ def check_play(browser, source):
         browser.run("t.at('#play-start').click()")
         browser.wait(f"t.at('#fen').value === {json.dumps(start)}", 10)
     browser.run("t.at('#mode-setup').click()")
-    print(f"{browser.name}: {played} moves played by clicks")
+    browser.run(call("place", 10, "W", of_fen("W:W27,32:B18")))
+    browser.run(call("solve", 5))
+    browser.run("t.at('#mode-play').click()")
+    for place, wanted in ((0, "18"), (1, "27,28"), (4, "27,28")):
+        browser.run(f"t.all('#solution .move')[{place}].click()")
+        browser.wait(f"t.all('.dark.source').map((e) => e.dataset.square).join() === {json.dumps(wanted)}"
+                     if place < 4 else "t.at('#played').textContent.includes('no move left')", 10)
+    browser.run("t.at('#mode-setup').click()")
+    print(f"{browser.name}: {played} moves played by clicks, and on from moves of a solution")
 
 
 def check_stop(browser):
@@ -414,6 +422,12 @@ def check_mend(browser):
     assert [tuple(pair) for pair in said] == wanted, (said, wanted)
     browser.run("t.at('#mend .card').click()")
     browser.wait(f"t.at('#fen').value === {json.dumps(wanted[0][1])}", 10)
+    browser.run(call("read", LONG))
+    browser.run("t.set('#mend-n', '12')")
+    browser.run("t.at('#mend-go').click()")
+    time.sleep(0.3)
+    browser.run("t.at('#mend-stop').click()")
+    browser.wait("t.at('#mend').dataset.state === 'stopped' && !t.at('#mend-go').disabled", 10)
     browser.run("t.at('#tab-solve').click()")
     print(f"{browser.name}: {len(said)} sound neighbours, as dw-desk mend has them")
 
@@ -466,7 +480,7 @@ def check_collection(browser, folder, page):
     open_page(browser, page)
     assert browser.run("t.at('#list').dataset.count") in ("4", None) or browser.name == "firefox"
     browser.run("t.at('#forget').click()")
-    for name, content in (("brackets.pdn", b"[" * 1_000_000), ("random.fen", b"".join(
+    for name, content in (("brackets.pdn", b"[" * 9_900_000), ("random.fen", b"".join(
             random.Random(1).randbytes(40) + b"\n" for _ in range(300))), ("markup.pdn",
             b'[Event "<img src=x onerror=alert(1)>"] [FEN "W:W27:B18"] *')):
         hostile = folder / name
@@ -512,10 +526,12 @@ def check_languages(browser):
         sentences.add(browser.run("t.at('#verdict').textContent"))
         for width in (PHONE, 800):
             browser.resize(width, 740, width == PHONE)
-            wide = browser.run("[document.documentElement.scrollWidth, innerWidth]")
-            assert wide[0] <= wide[1], (language, width, wide)
-        unnamed = browser.run("""t.all('button, input, select, textarea').filter((e) => !e.closest('[hidden]')
-            && !(e.textContent.trim() || e.getAttribute('aria-label') || e.labels?.length)).map((e) => e.outerHTML)""")
+            for tab in ("compare", "improve", "collection", "solve"):
+                browser.run(f"t.at('#tab-{tab}').click()")
+                wide = browser.run("[document.documentElement.scrollWidth, innerWidth]")
+                assert wide[0] <= wide[1], (language, width, tab, wide)
+        unnamed = browser.run("""t.all('button, input, select, textarea').filter((e) =>
+            !(e.textContent.trim() || e.getAttribute('aria-label') || e.labels?.length)).map((e) => e.outerHTML)""")
         assert not unnamed, (language, unnamed)
     browser.resize(1200, 900)
     assert len(sentences) == 4, sentences

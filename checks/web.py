@@ -15,6 +15,7 @@ import json
 import pathlib
 import random
 import re
+import shutil
 import subprocess
 import tempfile
 
@@ -80,6 +81,20 @@ def check_committed(page):
     if theirs == ours:
         assert committed == page.read_bytes(), "docs/board.html: the same sources and toolchain, and other bytes"
     print(f"docs/board.html: {'as it is made now' if theirs == ours else f'of other sources or tools, {theirs}'}")
+
+
+def check_tools(folder):
+    """What is missing is named."""
+    path = folder / "path"
+    path.mkdir()
+    for name in ("bash", "dirname", "readlink", "realpath", "rt"):
+        (path / name).symlink_to(shutil.which(name))
+    for words, said in (([], "wasm-opt is not on the PATH; it is in Debian's package binaryen"),
+                        (["a", "b"], "usage: ./board [FILE]"), (["--help"], "usage: ./board [FILE]")):
+        ran = subprocess.run([TOP / "board", *words], capture_output=True, text=True, env={"PATH": str(path)},
+                             check=False)
+        assert (ran.returncode, ran.stdout, ran.stderr) == (3, "", f"board: {said}\n"), ran
+    print("./board: a tool that is missing and wrong arguments are named")
 
 
 def check_scripts():
@@ -188,6 +203,7 @@ def main():
     given = words.parse_args()
     with tempfile.TemporaryDirectory() as name:
         folder = pathlib.Path(name)
+        check_tools(folder)
         check_scripts()
         check_heap(folder)
         if not given.module:

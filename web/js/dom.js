@@ -61,6 +61,25 @@ export function reveal(id, isShown) {
 /** Waits until the page has drawn itself, so that long work does not hold it up. */
 export const breathe = () => new Promise((resolve) => setTimeout(resolve, 0));
 
+/** How long the page may work on at a stretch, in milliseconds. */
+const STRETCH = 20;
+
+/**
+ * Does something with each item, and lets the page draw itself in between.
+ * @template T
+ * @param {T[]} items
+ * @param {(item: T) => void} act
+ */
+export async function piecewise(items, act) {
+    let begun = performance.now();
+    for (const item of items) {
+        act(item);
+        if (performance.now() - begun < STRETCH) continue;
+        await breathe();
+        begun = performance.now();
+    }
+}
+
 /**
  * Lets the browser save a file.
  * @param {string} name

@@ -1,10 +1,10 @@
 /** The collection on the page: opened, judged, shown, saved. */
-import { breathe, byId, control, make, reveal, save } from './dom.js';
-import { rowsOf } from './answers.js';
+import { breathe, byId, control, make, piecewise, reveal, save } from './dom.js';
+import { linesOf, rowsOf } from './answers.js';
 import { chosen, joined, stateOf, titleOf } from './collection.js';
 import { diagramOf } from './diagram.js';
 import { textOf } from './engine.js';
-import { gameOf, gamesIn } from './pdn.js';
+import { gameOf, GameReader } from './pdn.js';
 import { positionOf } from './position.js';
 import { boardOf } from './rules.js';
 import { reportOf } from './search.js';
@@ -18,6 +18,9 @@ import { Stopped } from './workers.js';
 
 /** The largest file, in bytes. */
 const LARGEST = 10_000_000;
+
+/** The longest list that is kept: browsers keep some megabytes for a page. */
+const LONGEST = 20_000;
 
 /** How many problems are shown at first and with each further call, and how many at a stroke. */
 const PAGE = 200, STROKE = 10;
@@ -113,14 +116,13 @@ export class ListView {
                 app.searches.ask([...words('solution'), '-n', '1', '--lines', '1'], bytes),
                 app.searches.ask([...words('find'), '--json', '--most', '1'], bytes),
             ]);
-            const sections = gamesIn(reportOf(games));
-            await breathe();
-            const problems = rowsOf(reportOf(found));
-            await breathe();
-            const more = problems.map((row, i) => ({
-                rows, fen: row.fen ?? '', tags: row.refused ? [] : sections[i]?.tags ?? [],
-                refused: row.refused ?? '', row: null,
-            }));
+            const reader = new GameReader(), more = /** @type {Omit<Item, 'number'>[]} */ ([]);
+            await piecewise(reportOf(games).split('\n'), (line) => reader.add(line));
+            await piecewise(linesOf(reportOf(found)), (line) => {
+                const { fen = '', refused = '' } = JSON.parse(line);
+                const tags = refused ? [] : reader.games[more.length]?.tags ?? [];
+                more.push({ rows, fen, tags, refused, row: null });
+            });
             this.tell('');
             const before = this.items.length;
             this.put(joined(this.items, more));
@@ -163,8 +165,8 @@ export class ListView {
     }
 
     keep() {
-        const { app } = this;
-        byId('kept').textContent = app.say(this.store.put('list', this.items) ? 'kept' : 'notKept');
+        const isKept = this.items.length <= LONGEST && this.store.put('list', this.items);
+        byId('kept').textContent = this.app.say(isKept ? 'kept' : 'notKept');
     }
 
     /** Judges all problems, in the background, over all processors; those that take long come again at the end. */

@@ -16,29 +16,27 @@ export const tagLine = ([name, value]) =>
  */
 export const gameOf = (tags, fen) => [...tags.map(tagLine), tagLine(['FEN', fen]), '', '*', '', ''].join('\n');
 
-/**
- * The games that `solution` writes of problems: their tags and the text of the position, if they have one.
- * @param {string} text
- * @returns {{tags: Tag[], fen: string, game: string}[]}
- */
-export function gamesIn(text) {
-    /** @type {{tags: Tag[], fen: string, game: string}[]} */
-    const games = [];
-    let isInTags = false;
-    for (const line of text.split('\n')) {
+/** @typedef {{tags: Tag[], fen: string}} Game */
+
+/** Reads the games that `solution` writes of problems, line by line: their tags and the text of the position. */
+export class GameReader {
+    constructor() {
+        /** @type {Game[]} */
+        this.games = [];
+        this.isInTags = false;
+    }
+
+    /** @param {string} line */
+    add(line) {
         const isTag = line.startsWith('[');
-        if (isTag && !isInTags) games.push({ tags: [], fen: '', game: '' });
-        isInTags = isTag;
-        const game = games[games.length - 1];
-        if (!game) continue;
-        game.game += `${line}\n`;
+        if (isTag && !this.isInTags) this.games.push({ tags: [], fen: '' });
+        this.isInTags = isTag;
         const said = isTag ? /^\[\s*(\w+)\s*"(.*)"\s*\]\r?$/.exec(line) : null;
-        if (!said) continue;
-        const value = said[2].replace(/\\(["\\])/g, '$1');
+        if (!said) return;
+        const game = this.games[this.games.length - 1], value = said[2].replace(/\\(["\\])/g, '$1');
         if (said[1] === 'FEN') game.fen = value;
         else if (said[1] !== 'GameType') game.tags.push([said[1], value]);
     }
-    return games;
 }
 
 /**

@@ -26,6 +26,8 @@ export class Play {
         this.isOn = false;
         /** @type {string} The position where it began. */
         this.first = '';
+        /** @type {string} The position to which it has come. */
+        this.here = '';
         /** @type {Legal[]} */
         this.played = [];
         /** @type {Legal[]} */
@@ -34,6 +36,9 @@ export class Play {
         byId('take-back').addEventListener('click', () => void this.goTo(this.played.slice(0, -1)));
         byId('play-start').addEventListener('click', () => void this.goTo([]));
         app.on(['edited'], () => void this.begin());
+        app.on(['looked'], () => {
+            if (app.fen !== this.here) void this.begin();
+        });
         app.on(['spoken'], () => this.show());
     }
 
@@ -50,7 +55,7 @@ export class Play {
     /** Begins from the position on the board. */
     async begin() {
         if (!this.isOn) return;
-        this.first = this.app.fen;
+        this.first = this.here = this.app.fen;
         await this.goTo([]);
     }
 
@@ -65,6 +70,7 @@ export class Play {
         const [legal] = await this.app.rules.legal([fen], this.app.position.rows);
         if (this.played !== played) return;
         this.legal = legal;
+        this.here = fen;
         this.app.look(fen);
         this.show();
     }

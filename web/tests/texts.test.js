@@ -3,7 +3,7 @@ import test from 'node:test';
 import { chosen, joined, stateOf, titleOf } from '../js/collection.js';
 import { addressIn, addressOf, Store } from '../js/keep.js';
 import { KEYS, keyOf, languageOf, LANGUAGES, textIn } from '../js/languages.js';
-import { gameOf, gamesIn, tagLine, valueOf } from '../js/pdn.js';
+import { gameOf, GameReader, tagLine, valueOf } from '../js/pdn.js';
 
 test('each text is there in each language, with the same marks', () => {
     for (const key of KEYS) {
@@ -25,7 +25,9 @@ test('the language of the browser comes first', () => {
 test('games are written and read', () => {
     const game = gameOf([['Event', 'A "b" \\ c\nd'], ['White', 'X']], 'W:W27:B18');
     assert.equal(game, '[Event "A \\"b\\" \\\\ c d"]\n[White "X"]\n[FEN "W:W27:B18"]\n\n*\n\n');
-    const read = gamesIn(`${game}[Event "problem 2: refused: 2 no fen"]\n\n*\n\n`);
+    const reader = new GameReader(), refused = '[Event "problem 2: refused: 2 no fen"]\n\n*\n\n';
+    for (const line of `${game}${refused}`.split('\n')) reader.add(line);
+    const read = reader.games;
     assert.deepEqual(read.map(({ tags, fen }) => [tags, fen]), [
         [[['Event', 'A "b" \\ c d'], ['White', 'X']], 'W:W27:B18'], [[['Event', 'problem 2: refused: 2 no fen']], '']]);
     assert.equal(valueOf(read[0].tags, 'event'), 'A "b" \\ c d');
