@@ -168,6 +168,11 @@ def check_memory(module):
     for memory in (0, 1000, 100_000, 1_500_000, 3_000_000):
         status, report, message = module.ask(["dw-desk", "find"], PROBLEMS.encode(), memory=memory)
         assert status in (1, 3) and (status == 1 or "memory" in message), message
+    # More than there can be: addresses have 32 bits.
+    for room in (5_000_000_000, 3_900_000_000, 2 ** 32 - 1):
+        said = module.ask(["dw", "show"], b"", memory=10 ** 10, room=room)
+        assert said == (3, b"", "no memory for the input\n") or said[0] in (0, 3), said
+    assert module.ask(["dw", "show"], b"W:W32:B28\n")[0] == 0
     print(f"{refusals} allocations refused in turn, and bounds on memory: want of memory is said")
 
 

@@ -7,12 +7,16 @@ extern unsigned char __heap_base;
 
 unsigned char *heap_floor(void) { return &__heap_base; }
 
+static int reaches(unsigned char *end) { return (size_t)end <= __builtin_wasm_memory_size(0) * PAGE; }
+
+/* What memory.grow answers differs with the width of addresses, so the size is asked for anew. */
 int heap_reach(unsigned char *end) {
-    size_t has = __builtin_wasm_memory_size(0) * PAGE, lacks;
-    if ((size_t)end <= has) return 1;
-    lacks = ((size_t)end - has + PAGE - 1) / PAGE;
-    if (lacks < FEWEST && __builtin_wasm_memory_grow(0, FEWEST) != (size_t)-1) return 1;
-    return __builtin_wasm_memory_grow(0, lacks) != (size_t)-1;
+    size_t lacks;
+    if (reaches(end)) return 1;
+    lacks = ((size_t)end + PAGE - 1) / PAGE - __builtin_wasm_memory_size(0);
+    __builtin_wasm_memory_grow(0, lacks < FEWEST ? FEWEST : lacks);
+    if (!reaches(end)) __builtin_wasm_memory_grow(0, lacks);
+    return reaches(end);
 }
 
 struct wide {

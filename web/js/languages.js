@@ -114,13 +114,13 @@ const TEXTS = {
         'Дуаль: # начинают и выигрывают в # ходом #, но позже есть выбор.',
     ],
     sayCooked: [
-        'Cooked: # to play win in # by each of #.',
+        'Cooked: # to play and win in # by each of #.',
         'Bijoplossing: # aan zet wint in # met elk van #.',
         'Démoli : # jouent et gagnent en # par chacun de #.',
         'Побочное решение: # выигрывают в # каждым из ходов #.',
     ],
     sayShorter: [
-        'Cooked: # to play win sooner than in #, in #, by #.',
+        'Cooked: # to play and win in less than #, in #, by #.',
         'Bijoplossing: # aan zet wint eerder dan in #, in #, met #.',
         'Démoli : # gagnent plus vite qu’en #, en #, par #.',
         'Побочное решение: # выигрывают быстрее чем в #, в #, ходом #.',

@@ -66,13 +66,13 @@ export class SolutionView {
      * @param {{left: number}} budget
      */
     branch(host, node, budget) {
-        const place = make('span', { class: 'variation' });
+        const place = make('span', { class: 'variation' }), rest = nodesOf(node).length;
         host.append(place, ' ');
-        if (budget.left > 0) {
+        if (budget.left > 0 || rest === 0) {
             this.fill(place, node, budget);
             return;
         }
-        const fold = make('button', { type: 'button', class: 'fold' }, this.nameFold(1 + nodesOf(node).length));
+        const fold = make('button', { type: 'button', class: 'fold' }, this.nameFold(rest));
         fold.addEventListener('click', () => {
             place.replaceChildren();
             this.fill(place, node, { left: FOLD });
