@@ -65,6 +65,7 @@ pub record AsksMend (options : List Row) (asked : MendArgs) : Type 0 where
   pub n : asked.n ≡ moves_within options
   pub each : asked.each ≡ each_given options
   pub part : part_named (text_given options (codes "part")) ≡ Some (asked.part, asked.parts)
+  pub json : asked.json ≡ flag_given options (codes "json")
 
 pub record AsksMoves (options : List Row) (asked : MovesArgs) : Type 0 where
   pub n : asked.n ≡ moves_within options

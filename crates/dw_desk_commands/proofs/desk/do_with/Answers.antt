@@ -90,8 +90,7 @@ returns-in-Mend-clause-does g c =
     let after_text = g.K.Sink.taken c.report_first-in-Mend.new.sink in
     let asked = c.in-Mend.asked in
     let expanded = c.report_first-in-Mend.new.desk.solver.expanded - c.args.desk.now.solver.expanded in
-    let One = λ (game : NumberedGame). IsMendOf geo asked.n asked.each asked.part asked.parts expanded
-    (problem_of game) in
+    let One = λ (game : NumberedGame). IsMendOf geo asked expanded (problem_of game) in
     ok_so (λ ending. (next : Option NumberedGame) × (text : List ℕ)
     × IsNext geo source.coming source.has_ended chosen after next
     × IsReportOnOne One chosen.portion.first (as_list next) ending text × Appends before_text after_text text)
