@@ -44,7 +44,8 @@ AreBounded (Some bound) all undecided before after =
 
 -- What is written of a position: the lines of those of its neighbours that are sound, of the part i of m, and how many
 -- these are.
-pub record IsMendText (w : Wording) (g : Geometry) (p : Placement) (n i m all sound undecided : ℕ) (text : List ℕ) : Type 0 where
+pub record IsMendText (w : Wording) (g : Geometry) (p : Placement) (n i m all sound undecided : ℕ)
+    (text : List ℕ) : Type 0 where
   pub neighbours : List (Change × Placement)
   pub are : AreNeighbours g p neighbours
   pub lines : List ℕ
@@ -53,7 +54,8 @@ pub record IsMendText (w : Wording) (g : Geometry) (p : Placement) (n i m all so
   pub is : text ≡ lines ++ last_line w all sound undecided
 
 -- what is written after a stop: the lines of the first neighbours, some of them
-pub record IsMendStop (w : Wording) (g : Geometry) (n : ℕ) (neighbours : List (Change × Placement)) (text : List ℕ) : Type 0 where
+pub record IsMendStop (w : Wording) (g : Geometry) (n : ℕ) (neighbours : List (Change × Placement))
+    (text : List ℕ) : Type 0 where
   pub some : ℕ
   pub counts : Counts
   pub mended : AreMended w g n (take some neighbours) text counts

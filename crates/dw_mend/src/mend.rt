@@ -113,14 +113,15 @@ pub fn mend<B: Board, M: Memo<B>, G: Guide<B>, W: Watcher, K: Sink>(
     requires room { IfSome bounds.each (λ bound. 1 ≤ bound) }
     requires works { K.is_failed sink.old ≡ false }
     ensures text { IfOk result (λ mended. (text : List ℕ)
-        × IsMendText bounds.wording B.geometry position.now bounds.moves bounds.part.number bounds.part.parts mended.all mended.sound
-        mended.undecided text
+        × IsMendText bounds.wording B.geometry position.now bounds.moves bounds.part.number bounds.part.parts
+        mended.all mended.sound mended.undecided text
         × Appends (K.taken sink.old) (K.taken sink.new) text) }
     ensures bounded { IfOk result (λ mended. AreBounded bounds.each mended.all mended.undecided solver.old.expanded
         solver.new.expanded) }
     ensures stopped { (stop : _) (all : List (Changed × Placement)) → AreNeighbours B.geometry position.now all
         → result ≡ Err (because.Stopped stop)
-        → (text : List ℕ) × IsMendStop bounds.wording B.geometry bounds.moves (part_of bounds.part.number bounds.part.parts all) text
+        → (text : List ℕ)
+        × IsMendStop bounds.wording B.geometry bounds.moves (part_of bounds.part.number bounds.part.parts all) text
         × Appends (K.taken sink.old) (K.taken sink.new) text }
     ensures count { IsCounted solver.old.expanded solver.old.limit solver.new.expanded solver.new.limit }
     ensures stop { result ≡ Err (because.Stopped Limit) → solver.new.expanded ≡ solver.new.limit }
