@@ -191,17 +191,21 @@ def check_errors():
     for words in (["find", "--most", "0"], ["find", "--most", "21"], ["find", "--each", "0"], ["find", "-n", "2"],
                   ["find", "--problem", "2-1"], ["find", "--problem", "0"], ["find", "--problem", "1-"],
                   ["find", "--problem", "1000001"], ["find", "--problem", "a"], ["find", "a", "b"], ["seek"],
-                  ["token"], ["token", "--line", "x", "--problem", "1-2"], ["check", "-n", "21"], ["check", "--json"]):
+                  ["token"], ["token", "--line", "x", "--problem", "1-2"], ["check", "-n", "21"],
+                  ["certify", "-n", "2", "--json"], ["page", "-n", "2", "--json"], ["token", "--line", "x", "--json"],
+                  ["solution"], ["solution", "-n", "2", "--most", "3"], ["solution", "--most", "0"],
+                  ["page", "-n", "2", "--tries", "some"], ["find", "--faults"]):
         ran = subprocess.run([DESK, *words], capture_output=True, text=True, input="", timeout=60, check=False)
         assert (ran.returncode, ran.stdout) == (2, "") and ran.stderr.startswith("error: "), (words, ran)
     for words in (["find"], ["check"], ["solution", "-n", "2"], ["page", "-n", "2"], ["certify", "-n", "2"],
-                  ["mend", "-n", "2"], ["token", "--line", "x"]):
+                  ["mend", "-n", "2"], ["moves", "-n", "2"], ["solution", "--most", "2"], ["check", "--faults"],
+                  ["token", "--line", "x"]):
         assert run(DESK, *words, "--problem", "2", text="W:W32:B28\n", status=1,
                    complaint="dw-desk: no problem 2\n") == "", words
     run(DESK, "find", "/none/there", status=3, complaint="dw-desk: cannot open /none/there\n")
     text = b'[FEN "W:W32:B28"] 1. 32x23 *\n'
     for words in (["find", "--pdn"], ["check"], ["solution", "--pdn", "-n", "1"], ["page", "--pdn", "-n", "1"],
-                  ["certify", "--pdn", "-n", "1"], ["mend", "--pdn", "-n", "1"],
+                  ["certify", "--pdn", "-n", "1"], ["mend", "--pdn", "-n", "1"], ["moves", "--pdn", "-n", "1"],
                   ["token", "--pdn", "--line", "32x23"]):
         with open("/dev/full", "w", encoding="ascii") as full:
             ran = subprocess.run([DESK, *words], input=text, stdout=full, stderr=subprocess.PIPE, timeout=60,

@@ -3,9 +3,10 @@
 
     checks/json_rows.py
 
-Each line of `find`, `check` and `moves` with `--json` has to be valid by docs/dw-desk.schema.json, a JSON Schema of the
-draft 2020-12, and to be written without blanks. The members that the schema knows are those that docs/JSON.md has in
-its tables, and each stands in a line of some example, or in one made here. The validator is python3-jsonschema.
+Each line of `find`, `check`, `moves` and `mend` with `--json` has to be valid by docs/dw-desk.schema.json, a JSON
+Schema of the draft 2020-12, and to be written without blanks. The members that the schema knows are those that
+docs/JSON.md has in its tables, and each stands in a line of some example, or in one made here. The validator is
+python3-jsonschema.
 """
 import json
 import pathlib
@@ -37,6 +38,8 @@ def written():
         found["check"] += lines_of("check", "--json", *more, text=games)
     for number in range(1, len(POSITIONS) + 1):
         found["moves"] += lines_of("moves", "--json", "-n", "2", "--problem", str(number), text=positions)
+    found["mend"] = [line for number in range(1, 7)
+                     for line in lines_of("mend", "--json", "-n", "2", "--problem", str(number), text=positions)]
     for file in sorted(EXAMPLES.glob("*.fen")):
         most = "2" if file.name.startswith("large") else "4"
         found["find"] += lines_of("find", "--json", "--most", most, "--problem", "1-20", str(file))

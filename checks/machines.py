@@ -145,7 +145,8 @@ def on_machines(folder, names, log):
 
 def contest(folder, log):
     """The page's command for a contest, with smaller portions, for two machines, with a log."""
-    commands = recipe("-S one,two,:", program="dw-desk").replace("/full/path/problems.fen", f"{folder}/problems.fen")
+    page = recipe("-S one,two,: --retries 3 '", program="dw-desk")
+    commands = page.replace("/full/path/problems.fen", f"{folder}/problems.fen")
     commands = commands.replace("1 100 $n", f"1 {EACH} $n").replace("+ 99", f"+ {EACH - 1}")
     commands = commands.replace("--each 100000000", CONTEST[1] + " " + CONTEST[2]).replace("one,two,:", "1/one,1/two")
     commands = commands.replace("        dw-desk ", f"        {PROGRAMS.parent.parent / 'dw_desk/out/dw_desk'} ")

@@ -5,9 +5,11 @@
 
 For so many random small positions (8 on each board if not said), within 1 or 2 moves, all changes are gone through as
 docs/DESK.md tells them; the positions that they make are judged in one run of `dw judge`, and the lines of those that
-are sound have to be the same, in the same order, with the same count. So have the parts, put together; with a bound of
-one position a line is a sound one and the rest is counted. At last come the faults of the command.
+are sound have to be the same, in the same order, with the same count. So have the parts, put together, and their lines
+of JSON; with a bound of one position a line is a sound one and the rest is counted. At last come the faults of the
+command.
 """
+import json
 import pathlib
 import random
 import subprocess
@@ -55,6 +57,17 @@ def mend(words, text, status=0):
     return ran.stdout.decode().splitlines()
 
 
+def rows_of(lines, n, count):
+    """What is said in these lines and in the last one, as lines of JSON."""
+    rows = []
+    for line in lines:
+        change, rest = line.split(": ", 1)
+        position, key = rest.split(f", sound in {n}: ")
+        rows.append({"change": change, "fen": position, "n": n, "key": key})
+    rows.append({"sound": len(lines), "of": count, "undecided": 0})
+    return [json.dumps(row, separators=(",", ":")) for row in rows]
+
+
 def judged(words, made, turn):
     """The FEN text and the verdict of each position."""
     text = "".join(fen(cells, turn) + "\n" for _, cells in made)
@@ -82,6 +95,8 @@ def check_random(rows, count):
             those = [line for line in some if line]
             asked = mend([*words, "--part", f"{part}/{PARTS}"], text)
             assert asked == [first, *those, f"sound {len(those)} of {len(some)}"], (text, part, asked)
+            asked = mend([*words, "--json", "--part", f"{part}/{PARTS}"], text)
+            assert asked == rows_of(those, n, len(some)), (text, part, asked)
         sound += len(wanted)
     print(f"board {rows}: the neighbours of {count} positions, {sound} of them sound, whole and in parts", flush=True)
 
@@ -104,8 +119,13 @@ def check_faults():
     assert [lines[1], lines[2], lines[4], lines[44]] == [
         "without 27: W:W32:B18, sound in 2: 32-28", "with W17: W:W17,27,32:B18, sound in 2: 32-28",
         "18 to 11: W:W27,32:B11, sound in 2: 27-21", "32 to 34: W:W27,34:B18, sound in 2: 34-29"], lines
+    rows = mend(["-n", "2", "--json"], ROW)
+    assert rows[0] == '{"change":"without 27","fen":"W:W32:B18","n":2,"key":"32-28"}' and len(rows) == 45, rows
+    assert rows[-1] == '{"sound":44,"of":310,"undecided":0}', rows
     assert mend(["-n", "2", "--problem", "2"], ROW + "W:W3:B20\n", 1) == [
         "problem 2: refused: 1 fen: 7 last row at 4"]
+    assert mend(["-n", "2", "--json", "--problem", "2"], ROW + "W:W3:B20\n", 1) == [
+        '{"problem":2,"refused":"1 fen: 7 last row at 4"}']
     ran = subprocess.run([DESK, "mend", "-n", "2", "--problem", "3"], input=ROW.encode(), capture_output=True,
                          timeout=600, check=False)
     assert (ran.returncode, ran.stdout, ran.stderr) == (1, b"", b"dw-desk: no problem 3\n"), ran

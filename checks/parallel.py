@@ -6,8 +6,9 @@
 The commands are taken from the page: GNU parallel with `-k`, with `--joblog` and `--resume`, and `xargs`. The problems
 are those of examples/problems.fen, two that are refused, and random small ones as judging.py has them, 200 in all. What
 comes has to be the same bytes as the report of one run on the whole file, for `judge` and for `list`, and for the
-portions of a contest by `dw-desk find`. The run that may be interrupted is killed in the middle and started again. A
-run that a limit stops, or `--timeout`, has to be found in the log as the page says.
+portions of a contest by `dw-desk find`, and for the parts of one problem by `dw-desk moves`. The run that may be
+interrupted is killed in the middle and started again. A run that a limit stops, or `--timeout`, has to be found in the
+log as the page says.
 """
 import os
 import pathlib
@@ -133,6 +134,24 @@ def contest(folder):
     follow("rm -r log parts", folder)
 
 
+def hard(folder):
+    """The parts of one problem are what `dw-desk moves` says of it in one run, and its keys are those of `dw judge`."""
+    commands = recipe("grep -h", program="dw-desk")
+    for number in range(1, 9):
+        follow(commands.replace("--problem 1 ", f"--problem {number} ").replace("-n 8", "-n 2"), folder)
+        words = ["-n", "2", "--problem", str(number), "problems.fen"]
+        whole = subprocess.run([TOP / "dw-desk", "moves", *words], cwd=folder, capture_output=True, text=True,
+                               timeout=600, check=True).stdout.splitlines()[1:-1]
+        lines = (folder / "moves").read_text().splitlines()
+        assert lines == whole, (number, lines, whole)
+        judged = subprocess.run([PROGRAMS / "dw", "judge", *words], cwd=folder, capture_output=True, text=True,
+                                timeout=600, check=True).stdout.splitlines()[1]
+        keys = [line.split()[0] for line in lines if " wins in " in line]
+        assert judged.startswith("dual") or judged.split(": ")[1:] == ([", ".join(keys)] if keys else []), judged
+        follow("rm parts moves", folder)
+    print("the first moves of 8 problems, a part for each: joined they are the whole, and the keys those of judge")
+
+
 def main():
     for name in ("dw", "dw-desk"):
         subprocess.run([TOP / name, "--help"], stdout=subprocess.DEVNULL, check=True)  # so that it is built
@@ -150,6 +169,7 @@ def main():
             compare("xargs", words, folder, wanted)
             follow("rm -r parts", folder)
         contest(folder)
+        hard(folder)
         stopped(folder)
 
 

@@ -22,15 +22,15 @@ _dw_desk() {
     done
     case $command in
         find) options="--board --pdn --problem --most --each --json --memo --cache --progress -h --help" ;;
-        check) options="-n --board --pdn --problem --memo --cache --progress -h --help" ;;
-        solution) options="-n --board --pdn --problem --lines --memo --cache --progress -h --help" ;;
+        check) options="-n --board --pdn --problem --faults --json --memo --cache --progress -h --help" ;;
+        solution) options="-n --board --pdn --problem --most --lines --memo --cache --progress -h --help" ;;
         page)
-            options="-n --board --pdn --problem --most --lines --title --lang --solutions --numbers --memo --cache"
-            options="$options --progress -h --help"
+            options="-n --board --pdn --problem --most --lines --title --lang --solutions --tries --numbers --memo"
+            options="$options --cache --progress -h --help"
             ;;
-        moves) options="-n --board --pdn --problem --part --memo --cache --progress -h --help" ;;
+        moves) options="-n --board --pdn --problem --part --json --memo --cache --progress -h --help" ;;
         certify) options="-n --board --pdn --problem --memo --cache --progress -h --help" ;;
-        mend) options="-n --board --pdn --problem --each --part --memo --cache --progress -h --help" ;;
+        mend) options="-n --board --pdn --problem --each --part --json --memo --cache --progress -h --help" ;;
         token) options="--board --pdn --problem --line -h --help" ;;
         help) options="" ;;
         *) options="-h --help -V --version" ;;
@@ -41,6 +41,7 @@ _dw_desk() {
         --memo) COMPREPLY=($(compgen -W "none lru slots deep" -- "$current")) && return ;;
         --lang) COMPREPLY=($(compgen -W "en nl fr ru" -- "$current")) && return ;;
         --solutions) COMPREPLY=($(compgen -W "after end none" -- "$current")) && return ;;
+        --tries) COMPREPLY=($(compgen -W "none all" -- "$current")) && return ;;
         -n | --problem | --most | --each | --part | --lines | --cache | --line | --title) return ;;
     esac
     case $command:$current in

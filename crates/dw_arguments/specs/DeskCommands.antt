@@ -1,6 +1,6 @@
 -- What each command of `dw-desk` asks for, by its options.
-use Rattle.std.specs.Prelude.{◌≡◌, ℕ, true, Result, Ok, Err, IsErr, MatchBool, Option, Some, None, is_some}
-use Rattle.std.specs.Prelude.{unwrap_or, List, [], codes}
+use Rattle.std.specs.Prelude.{◌≡◌, ℕ, true, Result, Ok, Err, IsErr, MatchBool, Option, Some, None, is_some, unwrap_or}
+use Rattle.std.specs.Prelude.{List, [], codes}
 use Rattle.std.specs.Option.{option_or}
 use Rattle.std.specs.Str.{bytes_eq}
 use Rattle.std.specs.Borrow.{Bor}
@@ -65,6 +65,7 @@ pub record AsksMend (options : List Row) (asked : MendArgs) : Type 0 where
   pub n : asked.n ≡ moves_within options
   pub each : asked.each ≡ each_given options
   pub part : part_named (text_given options (codes "part")) ≡ Some (asked.part, asked.parts)
+  pub json : asked.json ≡ flag_given options (codes "json")
 
 pub record AsksMoves (options : List Row) (asked : MovesArgs) : Type 0 where
   pub n : asked.n ≡ moves_within options

@@ -1,6 +1,6 @@
 -- The problems and the parts that texts name.
-use Rattle.std.specs.Prelude.{ℕ, ◌+◌, ◌==◌, nat_le, if◌then◌else◌, Option, Some, None, option_map}
-use Rattle.std.specs.Prelude.{option_and_then, List, take, drop}
+use Rattle.std.specs.Prelude.{ℕ, ◌+◌, ◌==◌, nat_le, if◌then◌else◌, Option, Some, None, option_map, option_and_then}
+use Rattle.std.specs.Prelude.{List, take, drop}
 use Rattle.std.specs.List.{position}
 use Rattle.dw_arguments.specs.Options.{number_within}
 

@@ -3,9 +3,9 @@ ghost use Rattle.std.specs.Prelude.{◌≡◌, ◌≤◌, IfSome, None, codes};
 ghost use Rattle.std.proofs.Props.{props};
 ghost use Rattle.dw_arguments.specs.Numbers.{part_named};
 
-use crate::desk_options::{CACHE_HELP, moves_of, progress};
+use crate::desk_options::{CACHE_HELP, json, moves_of, progress};
 use crate::options::{
-    board, cache, file, memo, one_problem, pdn, positions, positions_given, within,
+    board, cache, file, flag_given, memo, one_problem, pdn, positions, positions_given, within,
 };
 use crate::part::{part, part_given};
 use clap::{ArgMatches, Command};
@@ -23,6 +23,8 @@ pub struct MendArgs {
     pub part: u32,
     /// How many parts there are, at most 1,000,000.
     pub parts: u32,
+    /// Whether lines of JSON are written.
+    pub json: bool,
     pub ghost some_moves: { 1 ≤ n },
     pub ghost few_moves: { n ≤ 20 },
     pub ghost some_positions: { IfSome each (λ positions. 1 ≤ positions) } by { Prim.hlevel props },
@@ -57,6 +59,10 @@ pub(crate) fn mend_command<'a>(alloc: Global) -> Result<Command<'a>, AllocError>
         within(alloc, help).required(true),
         positions(alloc, "each", undecided),
         part(alloc),
+        json(
+            alloc,
+            "Write a line of JSON for each sound position, and one at the end"
+        ),
         memo(alloc, "deep"),
         cache(alloc, CACHE_HELP),
         progress(alloc),
@@ -82,6 +88,7 @@ impl MendArgs {
             each: positions_given(matches, "each"),
             part,
             parts,
+            json: flag_given(matches, "json"),
         })
     }
 }

@@ -3,9 +3,9 @@ use Rattle.std.proofs.Common.{Vec, Global, vec_len, ◌==◌, ◌<◌, arith, le
 use Rattle.std.proofs.lemmas.Bool.{eq-eqb, ne_eqb}
 use Rattle.dw_rows.specs.declared.checked.CheckNumbers.{CheckNumbers}
 use Rattle.dw_desk_commands.specs.Checking.{is_none, numbers_of, holds}
-use Rattle.std.proofs.Common.{◌≡◌, ℕ, zero, suc, ◌+◌, ◌<◌, ◌≤◌, List, [], ◌∷◌, ◌++◌, length, map, take, get_or}
-use Rattle.std.proofs.Common.{Option, Some}
-use Rattle.std.proofs.Common.{Bool, true, false, cond, refl, sym, ap, ◌∙◌, subst, inl, inr, add-zero, arith, take_all}
+use Rattle.std.proofs.Common.{◌≡◌, ℕ, zero, suc, ◌+◌, ◌<◌, ◌≤◌, List, [], ◌∷◌, ◌++◌, length, map, take, get_or, Option}
+use Rattle.std.proofs.Common.{Some, Bool, true, false, cond, refl, sym, ap, ◌∙◌, subst, inl, inr, add-zero, arith}
+use Rattle.std.proofs.Common.{take_all}
 use Rattle.std.specs.List.{count_by}
 use Rattle.std.proofs.lemmas.List.Sums.{sum_by_push}
 use Rattle.std.proofs.lemmas.List.{length-map}
@@ -123,7 +123,7 @@ length_map_some f (x ∷ xs) r said same = omega arith
 pub none_is : {B : Type 0} (f : B → Option Remark) (v : Vec B Global) (said : List Remark) (b : Bool)
     → map f v.items ≡ map (λ r. Some r) said → b ≡ (vec_len v == 0) → b ≡ is_none said
 none_is f v [] b same is =
-    let none : vec_len v ≡ 0 = (let ok = v.ok.0 in let empty = length_map_of f v.items same in omega (arith, ok, empty)) in
-    is ∙ eq-eqb _ _ none
+    let none : vec_len v ≡ 0 = (let ok = v.ok.0 in let empty = length_map_of f v.items same in omega (arith, ok, empty))
+    in is ∙ eq-eqb _ _ none
 none_is f v (r ∷ said) b same is = is ∙ ne_eqb _ _ (λ none. (let ok = v.ok.0 in
     let some = length_map_some f v.items r said same in omega (arith, ok, none, some)))

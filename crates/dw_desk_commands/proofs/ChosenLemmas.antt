@@ -1,15 +1,13 @@
 -- The chosen games: what is handed out in turn is what is defined.
-use Rattle.std.proofs.Common.{◌≡◌, ◌∙◌, ◌+◌, ◌-◌, ◌<◌, ◌≤◌, ◌++◌, ◌∷◌, inl, inr, refl, sym, ap, subst, arith}
-use Rattle.std.proofs.Common.{ℕ, zero, suc, Bool, true, false, List, [], Option, Some, None, length, map, take, cond}
-use Rattle.std.proofs.Common.{ltb, eqb, leb}
-use Rattle.std.proofs.Common.{Ok, append-nil, take_all, zero-le}
+use Rattle.std.proofs.Common.{◌≡◌, ◌∙◌, ◌+◌, ◌-◌, ◌<◌, ◌≤◌, ◌++◌, ◌∷◌, inl, inr, refl, sym, ap, subst, arith, ℕ, zero}
+use Rattle.std.proofs.Common.{suc, Bool, true, false, List, [], Option, Some, None, length, map, take, cond, ltb, eqb}
+use Rattle.std.proofs.Common.{leb, Ok, append-nil, take_all, zero-le}
 use Rattle.std.specs.Prelude.{filter, option_map, IfSome, MatchBool}
 use Rattle.std.specs.Io.KnownBytes.{Consumes, IsAtEnd}
 use Rattle.std.proofs.lemmas.Bool.{cases_Bool, and_right, eqb-true, leb-true, lt-leb, ltb-true}
 use Rattle.dw_board.specs.Geometry.{Geometry}
 use Rattle.dw_desk_commands.specs.Chosen.{as_game, AreChosen, AreChosenOf, AreGamesIn, is_up_to, is_in}
-use Rattle.dw_desk_commands.specs.inner.Choosing.{HandsOut}
-use Rattle.dw_desk_commands.specs.inner.Choosing.{AreAhead, AreComing, AreLeft, Comes, ComesNext, EndIsKnown}
+use Rattle.dw_desk_commands.specs.inner.Choosing.{HandsOut, AreAhead, AreComing, AreLeft, Comes, ComesNext, EndIsKnown}
 use Rattle.dw_desk_commands.specs.inner.Choosing.{AreToCome, IsKnown, IsTextKnown, is_met, up_to}
 use Rattle.dw_desk_commands.specs.inner.NextGame.{IsNext}
 use Rattle.dw_desk_commands.specs.declared.chosen.Chosen.{Chosen}

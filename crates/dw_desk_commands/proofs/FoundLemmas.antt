@@ -57,8 +57,8 @@ judged_told g p k k' verdict word' keys keys' after tries tries' tried tried' n 
 
 -- the members of a verdict and the tries, one after another
 pub judged_written : (n verdict keys tries : Member) (before after : List Member) (w0 w1 w2 w3 w4 w5 w6 : Written)
-    → WritesMembers (n ∷ []) w0 w1 → WritesMembers (verdict ∷ []) w1 w2 → WritesMembers before w2 w3 → WritesMembers (keys ∷ []) w3 w4
-    → WritesMembers after w4 w5 → WritesMembers (tries ∷ []) w5 w6
+    → WritesMembers (n ∷ []) w0 w1 → WritesMembers (verdict ∷ []) w1 w2 → WritesMembers before w2 w3 → WritesMembers
+    (keys ∷ []) w3 w4 → WritesMembers after w4 w5 → WritesMembers (tries ∷ []) w5 w6
     → WritesMembers (n ∷ verdict ∷ before ++ keys ∷ after ++ tries ∷ []) w0 w6
 judged_written n verdict keys tries before after w0 w1 w2 w3 w4 w5 w6 a b c d e f =
     both (n ∷ verdict ∷ before ++ keys ∷ after) (tries ∷ []) w0 w5 w6 (both (n ∷ verdict ∷ before) (keys ∷ after) w0 w3

@@ -13,8 +13,8 @@ use Rattle.std.proofs.lemmas.List.Sums.{count_by-le-length, sum_by_push}
 use Rattle.dw_board.specs.Geometry.{Geometry}
 use Rattle.dw_desk_commands.specs.inner.Choosing.{HandsOut}
 use Rattle.dw_arguments.specs.declared.portion.Portion.{Portion}
-use Rattle.dw_desk_commands.specs.Paging.{IsPage, IsPageOf, IsPart, IsShownIn, Shown, first_of, heading_of, language_for}
-use Rattle.dw_desk_commands.specs.Paging.{source, value}
+use Rattle.dw_desk_commands.specs.Paging.{IsPage, IsPageOf, IsPart, IsShownIn, Shown, first_of, heading_of}
+use Rattle.dw_desk_commands.specs.Paging.{language_for, source, value}
 use Rattle.dw_desk_commands.specs.declared.desk.Counts.{Counts}
 use Rattle.dw_arguments.specs.declared.page.PageArgs.{PageArgs}
 use Rattle.dw_games.specs.Games.{NumberedGame}

@@ -1,6 +1,6 @@
 -- What `check` says of the solution of a game.
-use Rattle.std.specs.Prelude.{◌≡◌, ◌==◌, ◌&&◌, ◌⊎◌, ◌++◌, if◌then◌else◌, Bool, ℕ, List, [], Option, Some}
-use Rattle.std.specs.Prelude.{None, codes, decimal, max, min, true, false, not}
+use Rattle.std.specs.Prelude.{◌≡◌, ◌==◌, ◌&&◌, ◌⊎◌, ◌++◌, if◌then◌else◌, Bool, ℕ, List, [], Option, Some, None, codes}
+use Rattle.std.specs.Prelude.{decimal, max, min, true, false, not}
 use Rattle.std.specs.List.{count_by}
 use Rattle.dw_board.specs.Geometry.{Geometry}
 use Rattle.dw_board.specs.Placement.{Placement}
@@ -139,7 +139,8 @@ abbrev pub IsCheckFor : Geometry → CheckArgs → Numbered → (movetext : List
     → Type 0
 IsCheckFor g asked problem movetext (Ok p) refused text =
     ((tree : List (List Move)) × (n : ℕ) × (remarks : List Remark) × IsTree g p movetext tree
-    × IsNumberFor asked.n tree n × AreRemarks g tree n p [] remarks × IsChecked g asked problem p n remarks refused text)
+    × IsNumberFor asked.n tree n × AreRemarks g tree n p [] remarks
+    × IsChecked g asked problem p n remarks refused text)
     ⊎ ((what : MovetextFaultKind) × (place : ℕ) × IsFirstFault g p movetext what place
     × (text ≡ fault_text g asked.json problem p what place) × (refused ≡ true))
 IsCheckFor g asked problem movetext (Err fault) refused text =

@@ -45,8 +45,7 @@ Tells g portion (task.Certify asked) games ending text =
 Tells g portion (task.Moves asked) games ending text =
     IsReportOnOne (λ game. IsMovesOf g asked (problem_of game)) portion.first games ending text
 Tells g portion (task.Mend asked) games ending text =
-    (expanded : ℕ) × IsReportOnOne (λ game. IsMendOf g asked.n asked.each asked.part asked.parts expanded
-    (problem_of game)) portion.first games ending text
+    (expanded : ℕ) × IsReportOnOne (λ game. IsMendOf g asked expanded (problem_of game)) portion.first games ending text
 Tells g portion (task.Token line) games ending text =
     IsReportOnOne (λ game. IsTokenFor g line.now game.said.found) portion.first games ending text
 

@@ -1,7 +1,7 @@
 -- What `page` writes: a page of problems.
 use Rattle.std.specs.Prelude.{◌≡◌, ◌+◌, ◌*◌, ◌≤◌, ◌⊎◌, ◌++◌, ◌∷◌, ℕ, Bool, true, false, List, [], Option, Some, None}
-use Rattle.std.specs.Prelude.{Ok, Err}
-use Rattle.std.specs.Prelude.{All, MatchBool, codes, decimal, filter_map, flat_map, if◌then◌else◌, length, map, nat_lt}
+use Rattle.std.specs.Prelude.{Ok, Err, All, MatchBool, codes, decimal, filter_map, flat_map, if◌then◌else◌, length, map}
+use Rattle.std.specs.Prelude.{nat_lt}
 use Rattle.std.specs.List.{count_by, join_by}
 use Rattle.dw_board.specs.Geometry.{Geometry}
 use Rattle.dw_board.specs.Placement.{Placement}

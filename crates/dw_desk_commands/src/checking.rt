@@ -308,7 +308,8 @@ fn write_words<B: Board, K: Sink>(
         → map (remark_in solution.now.tree.now) solution.now.checked.now.remarks.items ≡ map (λ r. Some r) said
         → AreRemarks B.geometry solution.now.tree.now solution.now.n solution.now.position.now [] said
         → OnOk result ((text : List ℕ)
-        × IsCheckedText B.geometry (numbered solution.now.problem.now) solution.now.position.now solution.now.n said text
+        × IsCheckedText B.geometry (numbered solution.now.problem.now) solution.now.position.now solution.now.n
+        said text
         × Appends (K.taken sink.old) (K.taken sink.new) text) }
     ensures works { OnOk result (K.is_failed sink.new ≡ false) }
     ensures fails { SinkFails (K.is_failed sink.new) result }

@@ -1,10 +1,14 @@
 //! The command `mend`: the sound problems that are one change away from a problem.
-ghost use Rattle.std.specs.Prelude.{◌≡◌, ◌==◌, if◌then◌else◌, not};
-ghost use Rattle.dw_desk_commands.specs.Mending.{IsMendOf};
+ghost use Rattle.std.specs.Prelude.{◌≡◌, ◌==◌, if◌then◌else◌, false, not, OnOk};
+ghost use Rattle.std.specs.Io.KnownBytes.{Appends};
+ghost use Rattle.dw_desk_commands.specs.Mending.{IsMendOf, front, refusal, wording_for};
+ghost use Rattle.dw_desk_commands.specs.inner.Faults.{SinkFails};
+ghost use Rattle.dw_notation.specs.Problems.{numbered};
 ghost use Rattle.dw_commands.specs.declared.ending.Ending.TheVariants.{Done, Refused};
 ghost use Rattle.dw_games.specs.Games.{problem_of};
 
 use crate::desk::{Desk, DeskFault};
+use crate::json_rows::refused_line;
 use crate::reporting::ReportOne;
 use crate::watcher::DeskWatcher;
 use dw_arguments::MendArgs;
@@ -12,17 +16,17 @@ use dw_board::Board;
 use dw_commands::Ending;
 use dw_games::Game;
 use dw_mend::mend::mend;
-use dw_mend::{MendBounds, Mended, Part};
-use dw_notation::{Sink, write_all};
+use dw_mend::{MendBounds, Mended, Part, Wording};
+use dw_notation::{Problem, ProblemFault, Sink, write_all};
 use dw_report::problem_line;
 use dw_study::Slices;
+use std::alloc::Global;
 
 impl<B: Board, E> ReportOne<B, E> for MendArgs {
-    ghost says = { λ asked expanded game.
-        IsMendOf B.geometry asked.n asked.each asked.part asked.parts expanded (problem_of game) };
+    ghost says = { λ asked expanded game. IsMendOf B.geometry asked expanded (problem_of game) };
 
     /// Writes the neighbours of a problem that are sound, each as soon as it is found, and returns how that ended. A
-    /// refused problem leaves its first line alone.
+    /// refused problem leaves its first line alone, or its row.
     fn report<W: DeskWatcher, K: Sink>(
         &self,
         desk: &mut Desk<B>,
@@ -31,10 +35,14 @@ impl<B: Board, E> ReportOne<B, E> for MendArgs {
         sink: &mut K,
     ) -> Result<Ending<E>, DeskFault> {
         let problem = &game.problem;
-        write_all(sink, problem_line(problem).as_str().as_bytes())?;
-        let Ok(position) = &problem.found else {
-            return Ok(Ending::Refused);
+        let position = match &problem.found {
+            Ok(position) => position,
+            Err(fault) => {
+                write_refusal(desk.alloc, self, problem, *fault, sink)?;
+                return Ok(Ending::Refused);
+            }
         };
+        write_front(self, problem, sink)?;
         let bounds = MendBounds {
             moves: self.n,
             each: self.each,
@@ -42,12 +50,61 @@ impl<B: Board, E> ReportOne<B, E> for MendArgs {
                 number: self.part,
                 parts: self.parts,
             },
+            wording: wording_for(self.json),
         };
         desk.begin(slices, problem.number);
         let mended = mend(desk.alloc, &mut desk.solver, position, bounds, slices, sink);
         slices.watcher.end();
         Ok(ending_with(&mended?))
     }
+}
+
+/// How neighbours are told.
+fn wording_for(json: bool) -> Wording
+    ensures { result ≡ wording_for json }
+{
+    if json { Wording::Row } else { Wording::Words }
+}
+
+/// Writes what stands in front of the neighbours: the problem's first line, or nothing.
+fn write_front<B: Board, K: Sink>(
+    asked: &MendArgs,
+    problem: &Problem<B>,
+    sink: &mut K,
+) -> Result<(), DeskFault>
+    requires { K.is_failed sink.old ≡ false }
+    ensures text { OnOk result (Appends (K.taken sink.old) (K.taken sink.new)
+        (front B.geometry asked.now (numbered problem.now))) }
+    ensures works { OnOk result (K.is_failed sink.new ≡ false) }
+    ensures fails { SinkFails (K.is_failed sink.new) result }
+{
+    if !asked.json {
+        write_all(sink, problem_line(problem).as_str().as_bytes())?;
+    }
+    Ok(())
+}
+
+/// Writes a problem that is refused: its row, or its first line.
+fn write_refusal<B: Board, K: Sink>(
+    alloc: Global,
+    asked: &MendArgs,
+    problem: &Problem<B>,
+    fault: ProblemFault,
+    sink: &mut K,
+) -> Result<(), DeskFault>
+    requires { K.is_failed sink.old ≡ false }
+    ensures text { OnOk result (Appends (K.taken sink.old) (K.taken sink.new)
+        (refusal B.geometry asked.now (numbered problem.now) fault)) }
+    ensures works { OnOk result (K.is_failed sink.new ≡ false) }
+    ensures fails { SinkFails (K.is_failed sink.new) result }
+{
+    if asked.json {
+        let line = refused_line(alloc, problem.number, fault)?;
+        write_all(sink, line.as_str().as_bytes())?;
+        return Ok(());
+    }
+    write_all(sink, problem_line(problem).as_str().as_bytes())?;
+    Ok(())
 }
 
 /// How the command ends: as with a refused problem, if a neighbour stays undecided.

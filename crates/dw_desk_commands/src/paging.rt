@@ -303,7 +303,8 @@ fn push_placed<B: Board>(
     requires verdict { IsVerdict B.geometry task.now.position.now task.now.moves (said_by judged.now.verdict) }
     requires tries { Tries B.geometry task.now.position.now task.now.moves judged.now.tries.items }
     ensures solution { OnOk result ((behind new : List ℕ) × Stands asked.now.solutions (IsSolved B.geometry
-        (language_for asked.now.language) asked.now.lines asked.now.tries task.now.number task.now.position.now task.now.moves) behind
+        (language_for asked.now.language) asked.now.lines asked.now.tries task.now.number
+        task.now.position.now task.now.moves) behind
         new
         × (part.new.items ≡ part.old.items ++ behind) × (later.new.items ≡ later.old.items ++ new)) }
     ensures stop { IsErrOf result Limit → desk.new.solver.expanded ≡ u64.MAX }

@@ -1,6 +1,6 @@
 -- What may not be put on a square would be no position there.
-use Rattle.std.proofs.Common.{◌≡◌, ◌∙◌, ℕ, ◌+◌, ◌-◌, ◌≤◌, ◌<◌, true, false, cond, List, Option, Some, None, length, is_some}
-use Rattle.std.proofs.Common.{get_or, count_by, refl, sym, ap, arith, get_or-set_same, inl, inr}
+use Rattle.std.proofs.Common.{◌≡◌, ◌∙◌, ℕ, ◌+◌, ◌-◌, ◌≤◌, ◌<◌, true, false, cond, List, Option, Some, None, length}
+use Rattle.std.proofs.Common.{is_some, get_or, count_by, refl, sym, ap, arith, get_or-set_same, inl, inr}
 use Rattle.std.specs.Prelude.{nat_le}
 use Rattle.std.proofs.lemmas.Bool.{leb-true}
 use Rattle.std.specs.Prelude.{MatchOption}
@@ -48,7 +48,8 @@ pub no_position : (g : Geometry) (p : Placement) (s : ℕ) (piece : Piece) → l
 no_position g p s piece fifty low high free refused position =
     let within : s - 1 < length p.cells = omega arith in
     let not_taken : is_some (at p s) ≡ false = ap (λ o. is_some o) free in
-    let stands : at (placed p s (Some piece)) s ≡ Some piece = get_or-set_same p.cells (s - 1) (Some piece) None within in
+    let stands : at (placed p s (Some piece)) s ≡ Some piece = get_or-set_same p.cells (s - 1) (Some piece) None within
+    in
     let not_stuck : is_stuck g s (Some piece) ≡ false = sym (ap (is_stuck g s) stands) ∙ position.no_stuck_man s low in
     elim (cases_Bool (nat_le g.side (count p piece.side))) [
       | inl full ↦

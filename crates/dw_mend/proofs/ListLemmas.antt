@@ -1,7 +1,7 @@
 -- Lists that a loop makes, an item at a time.
 use Rattle.std.proofs.Common.{◌≡◌, ◌∙◌, ℕ, ◌+◌, ◌<◌, List, [], ◌∷◌, ◌++◌, length, map, take, get_or, sym, ap}
-use Rattle.std.proofs.Common.{append_assoc, append-nil}
-use Rattle.std.proofs.Common.{zero, suc, arith, add-zero, add-one, length-take, ◌%◌, inl, inr, if◌then◌else◌}
+use Rattle.std.proofs.Common.{append_assoc, append-nil, zero, suc, arith, add-zero, add-one, length-take, ◌%◌, inl, inr}
+use Rattle.std.proofs.Common.{if◌then◌else◌}
 use Rattle.std.specs.Prelude.{◌==◌}
 use Rattle.std.proofs.lemmas.Bool.{cases_Bool, eq-eqb, ne_eqb}
 use Rattle.std.specs.List.{flat_map, range_with_len}

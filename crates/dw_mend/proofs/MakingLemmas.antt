@@ -1,6 +1,6 @@
 -- The neighbours that changes make, one change after another.
-use Rattle.std.proofs.Common.{◌≡◌, ◌∙◌, ℕ, ◌+◌, ◌<◌, List, [], ◌∷◌, ◌++◌, length, map, take, get_or, refl, sym, ap, subst}
-use Rattle.std.proofs.Common.{inl, inr, Some}
+use Rattle.std.proofs.Common.{◌≡◌, ◌∙◌, ℕ, ◌+◌, ◌<◌, List, [], ◌∷◌, ◌++◌, length, map, take, get_or, refl, sym, ap}
+use Rattle.std.proofs.Common.{subst, inl, inr, Some}
 use Rattle.std.proofs.lemmas.List.{map_push}
 use Rattle.dw_board.specs.Geometry.{Geometry}
 use Rattle.dw_board.specs.declared.piece.Piece.{Piece}

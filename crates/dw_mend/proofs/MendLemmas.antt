@@ -1,6 +1,6 @@
 -- What is written of neighbours, one neighbour after another.
-use Rattle.std.proofs.Common.{◌≡◌, ◌∙◌, ℕ, ◌+◌, ◌<◌, List, [], ◌∷◌, ◌++◌, length, map, take, get_or, refl, sym, ap, subst}
-use Rattle.std.proofs.Common.{append_assoc, append-nil, arith, inl, inr, ◌*◌, ◌≤◌, ◌%◌, Option, Some, None}
+use Rattle.std.proofs.Common.{◌≡◌, ◌∙◌, ℕ, ◌+◌, ◌<◌, List, [], ◌∷◌, ◌++◌, length, map, take, get_or, refl, sym, ap}
+use Rattle.std.proofs.Common.{subst, append_assoc, append-nil, arith, inl, inr, ◌*◌, ◌≤◌, ◌%◌, Option, Some, None}
 use Rattle.std.specs.Prelude.{◌==◌, Result, Ok, Err, IfSome}
 use Rattle.std.specs.Result.{IsErrAnd}
 use Rattle.std.proofs.lemmas.Bool.{cases_Bool}
@@ -11,7 +11,8 @@ use Rattle.dw_moves.specs.Moves.{Move}
 use Rattle.dw_solve.specs.Searching.{IsCounted}
 use Rattle.dw_verdict.specs.Verdict.{IsVerdict, sound}
 use Rattle.dw_mend.specs.Changes.{Change, AreNeighbours}
-use Rattle.dw_mend.specs.MendText.{IsSoundLine}
+use Rattle.dw_mend.specs.MendText.{IsLineOf}
+use Rattle.dw_mend.specs.declared.rows.Wording.{Wording}
 use Rattle.dw_mend.specs.Mending.{Counts, AreBounded, AreMended, IsMendStop, part_from, part_of}
 use Rattle.dw_mend.specs.inner.Mending.{Adds}
 use Rattle.dw_mend.specs.declared.mend.Soundness as finds
@@ -20,41 +21,54 @@ use Rattle.dw_mend.proofs.ListLemmas.{one_more}
 use Rattle.dw_mend.proofs.MakingLemmas.{one_list}
 
 -- ---- one neighbour
-pub one_sound : (g : Geometry) (n : ℕ) (x : Change × Placement) (key : Move) (line : List ℕ)
-    → IsVerdict g x.1 n (sound key) × IsSoundLine g n x key line
-    → AreMended g n (x ∷ []) line (record { sound = 1; undecided = 0 })
-one_sound g n x key line is =
-    ([], record { sound = 0; undecided = 0 }, (refl, refl, refl), inl (key, line, is.0, is.1, sym (append-nil line), refl, refl))
+pub one_sound : (w : Wording) (g : Geometry) (n : ℕ) (x : Change × Placement) (key : Move) (line : List ℕ)
+    → IsVerdict g x.1 n (sound key) × IsLineOf w g n x key line
+    → AreMended w g n (x ∷ []) line (record { sound = 1; undecided = 0 })
+one_sound w g n x key line is = (
+  [],
+  record { sound = 0; undecided = 0 },
+  (refl, refl, refl),
+  inl (
+    key,
+    line,
+    is.0,
+    is.1,
+    sym (append-nil line),
+    refl,
+    refl,
+  ),
+)
 
-pub one_unsound : (g : Geometry) (n : ℕ) (x : Change × Placement) (line : List ℕ)
+pub one_unsound : (w : Wording) (g : Geometry) (n : ℕ) (x : Change × Placement) (line : List ℕ)
     → ((key : Move) → IsVerdict g x.1 n (sound key) → ⊥) × (line ≡ [])
-    → AreMended g n (x ∷ []) line (record { sound = 0; undecided = 0 })
-one_unsound g n x line is =
+    → AreMended w g n (x ∷ []) line (record { sound = 0; undecided = 0 })
+one_unsound w g n x line is =
     ([], record { sound = 0; undecided = 0 }, (refl, refl, refl), inr (inl (is.0, is.1, refl, refl)))
 
-pub one_undecided : (g : Geometry) (n : ℕ) (x : Change × Placement) (line : List ℕ) → line ≡ []
-    → AreMended g n (x ∷ []) line (record { sound = 0; undecided = 1 })
-one_undecided g n x line is =
+pub one_undecided : (w : Wording) (g : Geometry) (n : ℕ) (x : Change × Placement) (line : List ℕ) → line ≡ []
+    → AreMended w g n (x ∷ []) line (record { sound = 0; undecided = 1 })
+one_undecided w g n x line is =
     ([], record { sound = 0; undecided = 0 }, (refl, refl, refl), inr (inr (is, refl, refl)))
 
 -- ---- several
-mended_both : (g : Geometry) (n : ℕ) (xs ys : List (Change × Placement)) (text more : List ℕ) (counts others : Counts)
-    (s u : ℕ) → AreMended g n xs text counts → AreMended g n ys more others → s ≡ counts.sound + others.sound
+mended_both : (w : Wording) (g : Geometry) (n : ℕ) (xs ys : List (Change × Placement)) (text more : List ℕ) (counts
+    others : Counts)
+    (s u : ℕ) → AreMended w g n xs text counts → AreMended w g n ys more others → s ≡ counts.sound + others.sound
     → u ≡ counts.undecided + others.undecided
-    → AreMended g n (xs ++ ys) (text ++ more) (record { sound = s; undecided = u })
-mended_both g n [] ys text more counts others s u none are es eu =
+    → AreMended w g n (xs ++ ys) (text ++ more) (record { sound = s; undecided = u })
+mended_both w g n [] ys text more counts others s u none are es eu =
     let no_sound = none.1 in
     let no_undecided = none.2 in
     let so : s ≡ others.sound = omega arith in
     let un : u ≡ others.undecided = omega arith in
-    subst (λ z. AreMended g n ys z (record { sound = s; undecided = u })) (sym (ap (λ z. z ++ more) none.0))
-    (subst (λ z. AreMended g n ys more (record { sound = z; undecided = u })) (sym so)
-    (subst (λ z. AreMended g n ys more (record { sound = others.sound; undecided = z })) (sym un) are))
-mended_both g n (x ∷ xs) ys text more counts others s u
+    subst (λ z. AreMended w g n ys z (record { sound = s; undecided = u })) (sym (ap (λ z. z ++ more) none.0))
+    (subst (λ z. AreMended w g n ys more (record { sound = z; undecided = u })) (sym so)
+    (subst (λ z. AreMended w g n ys more (record { sound = others.sound; undecided = z })) (sym un) are))
+mended_both w g n (x ∷ xs) ys text more counts others s u
     (rest, behind, are', inl (key, line, is, told, t, cs, cu)) are es eu = (
       rest ++ more,
       record { sound = behind.sound + others.sound; undecided = behind.undecided + others.undecided },
-      mended_both g n xs ys rest more behind others _ _ are' are refl refl,
+      mended_both w g n xs ys rest more behind others _ _ are' are refl refl,
       inl (
         key,
         line,
@@ -65,10 +79,10 @@ mended_both g n (x ∷ xs) ys text more counts others s u
         (let e : u ≡ behind.undecided + others.undecided = omega arith in e),
       ),
     )
-mended_both g n (x ∷ xs) ys text more counts others s u (rest, behind, are', inr (inl (never, t, cs, cu))) are es eu = (
+mended_both w g n (x ∷ xs) ys text more counts others s u (rest, behind, are', inr (inl (never, t, cs, cu))) are es eu = (
   rest ++ more,
   record { sound = behind.sound + others.sound; undecided = behind.undecided + others.undecided },
-  mended_both g n xs ys rest more behind others _ _ are' are refl refl,
+  mended_both w g n xs ys rest more behind others _ _ are' are refl refl,
   inr (inl (
     never,
     ap (λ z. z ++ more) t,
@@ -76,10 +90,10 @@ mended_both g n (x ∷ xs) ys text more counts others s u (rest, behind, are', i
     (let e : u ≡ behind.undecided + others.undecided = omega arith in e),
   )),
 )
-mended_both g n (x ∷ xs) ys text more counts others s u (rest, behind, are', inr (inr (t, cs, cu))) are es eu = (
+mended_both w g n (x ∷ xs) ys text more counts others s u (rest, behind, are', inr (inr (t, cs, cu))) are es eu = (
   rest ++ more,
   record { sound = behind.sound + others.sound; undecided = behind.undecided + others.undecided },
-  mended_both g n xs ys rest more behind others _ _ are' are refl refl,
+  mended_both w g n xs ys rest more behind others _ _ are' are refl refl,
   inr (inr (
     ap (λ z. z ++ more) t,
     (let e : s ≡ behind.sound + others.sound = omega arith in e),
@@ -88,31 +102,31 @@ mended_both g n (x ∷ xs) ys text more counts others s u (rest, behind, are', i
 )
 
 -- the next neighbour of a list
-pub mended_next : {X : Type 0} (f : X → Change × Placement) (g : Geometry) (n : ℕ) (xs : List X) (i : ℕ) (x : X)
-    (text line : List ℕ) (counts one : Counts) (s u : ℕ) → i < length xs → x ≡ get_or xs i x
-    → AreMended g n (map f (take i xs)) text counts → AreMended g n (f x ∷ []) line one
+pub mended_next : {X : Type 0} (f : X → Change × Placement) (w : Wording) (g : Geometry) (n : ℕ) (xs : List X) (i : ℕ)
+    (x : X) (text line : List ℕ) (counts one : Counts) (s u : ℕ) → i < length xs → x ≡ get_or xs i x
+    → AreMended w g n (map f (take i xs)) text counts → AreMended w g n (f x ∷ []) line one
     → s ≡ counts.sound + one.sound → u ≡ counts.undecided + one.undecided
-    → AreMended g n (map f (take (i + 1) xs)) (text ++ line) (record { sound = s; undecided = u })
-mended_next f g n xs i x text line counts one s u low is so_far here es eu =
-    subst (λ z. AreMended g n z (text ++ line) (record { sound = s; undecided = u }))
+    → AreMended w g n (map f (take (i + 1) xs)) (text ++ line) (record { sound = s; undecided = u })
+mended_next f w g n xs i x text line counts one s u low is so_far here es eu =
+    subst (λ z. AreMended w g n z (text ++ line) (record { sound = s; undecided = u }))
     (sym (ap (map f) (one_more xs i x low is) ∙ map_push f (take i xs) x))
-    (mended_both g n (map f (take i xs)) (f x ∷ []) text line counts one s u so_far here es eu)
+    (mended_both w g n (map f (take i xs)) (f x ∷ []) text line counts one s u so_far here es eu)
 
 -- ---- what is found of a neighbour
-pub adds_sound : {B : Type 0} (g : Geometry) (n : ℕ) (x : Change × Placement) (found : finds.Soundness B) (key : Move)
-    (line : List ℕ) → found ≡ Sound key → Adds g n x found line
-    → AreMended g n (x ∷ []) line (record { sound = 1; undecided = 0 })
-adds_sound g n x found key line is adds = one_sound g n x key line (subst (λ z. Adds g n x z line) is adds)
+pub adds_sound : {B : Type 0} (w : Wording) (g : Geometry) (n : ℕ) (x : Change × Placement) (found : finds.Soundness B)
+    (key : Move) (line : List ℕ) → found ≡ Sound key → Adds w g n x found line
+    → AreMended w g n (x ∷ []) line (record { sound = 1; undecided = 0 })
+adds_sound w g n x found key line is adds = one_sound w g n x key line (subst (λ z. Adds w g n x z line) is adds)
 
-pub adds_unsound : {B : Type 0} (g : Geometry) (n : ℕ) (x : Change × Placement) (found : finds.Soundness B)
-    (line : List ℕ) → found ≡ Unsound → Adds g n x found line
-    → AreMended g n (x ∷ []) line (record { sound = 0; undecided = 0 })
-adds_unsound g n x found line is adds = one_unsound g n x line (subst (λ z. Adds g n x z line) is adds)
+pub adds_unsound : {B : Type 0} (w : Wording) (g : Geometry) (n : ℕ) (x : Change × Placement) (found : finds.Soundness
+    B) (line : List ℕ) → found ≡ Unsound → Adds w g n x found line
+    → AreMended w g n (x ∷ []) line (record { sound = 0; undecided = 0 })
+adds_unsound w g n x found line is adds = one_unsound w g n x line (subst (λ z. Adds w g n x z line) is adds)
 
-pub adds_undecided : {B : Type 0} (g : Geometry) (n : ℕ) (x : Change × Placement) (found : finds.Soundness B)
-    (line : List ℕ) → found ≡ Undecided → Adds g n x found line
-    → AreMended g n (x ∷ []) line (record { sound = 0; undecided = 1 })
-adds_undecided g n x found line is adds = one_undecided g n x line (subst (λ z. Adds g n x z line) is adds)
+pub adds_undecided : {B : Type 0} (w : Wording) (g : Geometry) (n : ℕ) (x : Change × Placement) (found : finds.Soundness
+    B) (line : List ℕ) → found ≡ Undecided → Adds w g n x found line
+    → AreMended w g n (x ∷ []) line (record { sound = 0; undecided = 1 })
+adds_undecided w g n x found line is adds = one_undecided w g n x line (subst (λ z. Adds w g n x z line) is adds)
 
 more_times : (u bound : ℕ) → (u + 1) * bound ≡ u * bound + bound
 more_times u bound = grind arith
@@ -155,30 +169,30 @@ pub same_fault : {T E : Type 0} (r : Result T E) (d f : E) → IsErrAnd r (λ z.
 same_fault (Ok x) d f is e = absurd is
 same_fault (Err z) d f is e = cc
 
-pub stop_at : {X : Type 0} (f : X → Change × Placement) (g : Geometry) (n : ℕ) (xs : List X) (i s u : ℕ)
-    (text : List ℕ) → AreMended g n (map f (take i xs)) text (record { sound = s; undecided = u })
-    → IsMendStop g n (map f xs) text
-stop_at f g n xs i s u text are = record {
+pub stop_at : {X : Type 0} (f : X → Change × Placement) (w : Wording) (g : Geometry) (n : ℕ) (xs : List X) (i s u : ℕ)
+    (text : List ℕ) → AreMended w g n (map f (take i xs)) text (record { sound = s; undecided = u })
+    → IsMendStop w g n (map f xs) text
+stop_at f w g n xs i s u text are = record {
   some = i;
   counts = record { sound = s; undecided = u };
-  mended = subst (λ z. AreMended g n z text (record { sound = s; undecided = u })) (sym (take-map f i xs)) are;
+  mended = subst (λ z. AreMended w g n z text (record { sound = s; undecided = u })) (sym (take-map f i xs)) are;
 }
 
 -- before the first neighbour
-pub stop_at_once : (g : Geometry) (n : ℕ) (xs : List (Change × Placement)) → IsMendStop g n xs []
-stop_at_once g n xs = record {
+pub stop_at_once : (w : Wording) (g : Geometry) (n : ℕ) (xs : List (Change × Placement)) → IsMendStop w g n xs []
+stop_at_once w g n xs = record {
   some = 0;
   counts = record { sound = 0; undecided = 0 };
   mended = (refl, refl, refl);
 }
 
 -- after the last one
-pub stop_at_end : (g : Geometry) (n : ℕ) (xs : List (Change × Placement)) (text : List ℕ) (counts : Counts)
-    → AreMended g n xs text counts → IsMendStop g n xs text
-stop_at_end g n xs text counts are = record {
+pub stop_at_end : (w : Wording) (g : Geometry) (n : ℕ) (xs : List (Change × Placement)) (text : List ℕ) (counts :
+    Counts) → AreMended w g n xs text counts → IsMendStop w g n xs text
+stop_at_end w g n xs text counts are = record {
   some = length xs;
   counts = counts;
-  mended = subst (λ z. AreMended g n z text counts) (sym (take_all (length xs) xs (omega arith))) are;
+  mended = subst (λ z. AreMended w g n z text counts) (sym (take_all (length xs) xs (omega arith))) are;
 }
 
 -- ---- a part

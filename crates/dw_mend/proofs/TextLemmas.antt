@@ -32,8 +32,8 @@ joined_inside a b c d e f g h = simp (append_assoc, append-nil)
 -- some are undecided
 pub counted : (all sound undecided : ℕ) (one two three line : List ℕ) → (undecided ≡ 0 → ⊥) → one ≡ decimal sound
     → two ≡ decimal all → three ≡ decimal undecided
-    → line ≡ codes "sound " ++ (one ++ (codes " of " ++ (two ++ (codes ", " ++ (three ++ (codes " undecided\n" ++ []))))))
-    → line ≡ count_line all sound undecided
+    → line ≡ codes "sound " ++ (one ++ (codes " of " ++ (two ++ (codes ", " ++ (three ++ (codes " undecided\n" ++
+    [])))))) → line ≡ count_line all sound undecided
 counted all sound undecided one two three line some s a u e =
     e ∙ (joined_inside (codes "sound ") one (codes " of ") two (codes ", ") three (codes " undecided") (codes "\n")
     ∙ ((λ i. codes "sound " ++ s i ++ codes " of " ++ a i ++ (codes ", " ++ u i ++ codes " undecided") ++ codes "\n")

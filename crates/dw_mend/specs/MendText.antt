@@ -1,5 +1,5 @@
 -- What is written of neighbours.
-use Rattle.std.specs.Prelude.{◌≡◌, ℕ, List, [], ◌++◌, ◌==◌, if◌then◌else◌, codes, decimal}
+use Rattle.std.specs.Prelude.{◌≡◌, ℕ, List, [], ◌∷◌, ◌++◌, ◌==◌, if◌then◌else◌, codes, decimal}
 use Rattle.dw_board.specs.Geometry.{Geometry}
 use Rattle.dw_board.specs.Placement.{Placement}
 use Rattle.dw_board.specs.FenText.{written, side_text}
@@ -7,6 +7,10 @@ use Rattle.dw_board.specs.declared.piece.Kind.{Kind}
 use Rattle.dw_board.specs.declared.piece.Kind.TheVariants.{Man, King}
 use Rattle.dw_moves.specs.Moves.{Move}
 use Rattle.dw_notation.specs.Text.{IsMoveText}
+use Rattle.json.specs.Json.{string}
+use Rattle.dw_json.specs.Rows.{count, row}
+use Rattle.dw_mend.specs.declared.rows.Wording.{Wording}
+use Rattle.dw_mend.specs.declared.rows.Wording.TheVariants.{Words, Row}
 use Rattle.dw_mend.specs.Changes.{Change, without, with_piece, set, made}
 
 -- a king has a K before it
@@ -40,3 +44,24 @@ undecided_text undecided = if undecided == 0 then [] else codes ", " ++ decimal 
 abbrev pub count_line : (all sound undecided : ℕ) → List ℕ
 count_line all sound undecided =
     codes "sound " ++ decimal sound ++ codes " of " ++ decimal all ++ undecided_text undecided ++ codes "\n"
+
+-- the same as a row of JSON
+abbrev pub IsSoundRow : Geometry → ℕ → Change × Placement → Move → List ℕ → Type 0
+IsSoundRow g n x key line = (move : List ℕ) × IsMoveText g x.1 key move
+    × (line ≡ row ((codes "change", string (change_text x.0)) ∷ (codes "fen", string (written g x.1))
+    ∷ (codes "n", count n) ∷ (codes "key", string move) ∷ []))
+
+-- the last line as a row of JSON
+abbrev pub count_row : (all sound undecided : ℕ) → List ℕ
+count_row all sound undecided =
+    row ((codes "sound", count sound) ∷ (codes "of", count all) ∷ (codes "undecided", count undecided) ∷ [])
+
+-- the line of a neighbour that is sound, in words or as a row
+abbrev pub IsLineOf : Wording → Geometry → ℕ → Change × Placement → Move → List ℕ → Type 0
+IsLineOf Words g n x key line = IsSoundLine g n x key line
+IsLineOf Row g n x key line = IsSoundRow g n x key line
+
+-- the last line, in words or as a row
+abbrev pub last_line : Wording → (all sound undecided : ℕ) → List ℕ
+last_line Words all sound undecided = count_line all sound undecided
+last_line Row all sound undecided = count_row all sound undecided

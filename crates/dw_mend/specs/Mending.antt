@@ -1,12 +1,13 @@
 -- The neighbours of a position that are sound.
-use Rattle.std.specs.Prelude.{◌≡◌, ℕ, ◌+◌, ◌*◌, ◌%◌, ◌==◌, ◌≤◌, ◌⊎◌, if◌then◌else◌, Option, Some, None}
-use Rattle.std.specs.Prelude.{List, [], ◌∷◌, ◌++◌, length, take}
+use Rattle.std.specs.Prelude.{◌≡◌, ℕ, ◌+◌, ◌*◌, ◌%◌, ◌==◌, ◌≤◌, ◌⊎◌, if◌then◌else◌, Option, Some, None, List, [], ◌∷◌}
+use Rattle.std.specs.Prelude.{◌++◌, length, take}
 use Rattle.dw_board.specs.Geometry.{Geometry}
 use Rattle.dw_board.specs.Placement.{Placement}
 use Rattle.dw_moves.specs.Moves.{Move}
 use Rattle.dw_verdict.specs.Verdict.{IsVerdict, sound}
 use Rattle.dw_mend.specs.Changes.{Change, AreNeighbours}
-use Rattle.dw_mend.specs.MendText.{IsSoundLine, count_line}
+use Rattle.dw_mend.specs.MendText.{IsLineOf, last_line}
+use Rattle.dw_mend.specs.declared.rows.Wording.{Wording}
 
 -- those of a list whose place leaves the same rest as i when it is divided by m; the first one has this place
 abbrev pub part_from : {X : Type 0} → (place i m : ℕ) → List X → List X
@@ -25,10 +26,10 @@ pub record Counts : Type 0 where
 
 -- What is written of neighbours, and what is counted: of each one that is sound its line, in their order; nothing of
 -- one that is not, or that is undecided.
-abbrev pub AreMended : Geometry → (n : ℕ) → List (Change × Placement) → List ℕ → Counts → Type 0
-AreMended g n [] text counts = (text ≡ []) × (counts.sound ≡ 0) × (counts.undecided ≡ 0)
-AreMended g n (x ∷ xs) text counts = (rest : List ℕ) × (others : Counts) × AreMended g n xs rest others
-    × (((key : Move) × (line : List ℕ) × IsVerdict g x.1 n (sound key) × IsSoundLine g n x key line
+abbrev pub AreMended : Wording → Geometry → (n : ℕ) → List (Change × Placement) → List ℕ → Counts → Type 0
+AreMended w g n [] text counts = (text ≡ []) × (counts.sound ≡ 0) × (counts.undecided ≡ 0)
+AreMended w g n (x ∷ xs) text counts = (rest : List ℕ) × (others : Counts) × AreMended w g n xs rest others
+    × (((key : Move) × (line : List ℕ) × IsVerdict g x.1 n (sound key) × IsLineOf w g n x key line
     × (text ≡ line ++ rest) × (counts.sound ≡ others.sound + 1) × (counts.undecided ≡ others.undecided))
     ⊎ ((((key : Move) → IsVerdict g x.1 n (sound key) → ⊥) × (text ≡ rest) × (counts.sound ≡ others.sound)
     × (counts.undecided ≡ others.undecided))
@@ -43,16 +44,18 @@ AreBounded (Some bound) all undecided before after =
 
 -- What is written of a position: the lines of those of its neighbours that are sound, of the part i of m, and how many
 -- these are.
-pub record IsMendText (g : Geometry) (p : Placement) (n i m all sound undecided : ℕ) (text : List ℕ) : Type 0 where
+pub record IsMendText (w : Wording) (g : Geometry) (p : Placement) (n i m all sound undecided : ℕ)
+    (text : List ℕ) : Type 0 where
   pub neighbours : List (Change × Placement)
   pub are : AreNeighbours g p neighbours
   pub lines : List ℕ
-  pub mended : AreMended g n (part_of i m neighbours) lines (record { sound = sound; undecided = undecided })
+  pub mended : AreMended w g n (part_of i m neighbours) lines (record { sound = sound; undecided = undecided })
   pub count : all ≡ length (part_of i m neighbours)
-  pub is : text ≡ lines ++ count_line all sound undecided
+  pub is : text ≡ lines ++ last_line w all sound undecided
 
 -- what is written after a stop: the lines of the first neighbours, some of them
-pub record IsMendStop (g : Geometry) (n : ℕ) (neighbours : List (Change × Placement)) (text : List ℕ) : Type 0 where
+pub record IsMendStop (w : Wording) (g : Geometry) (n : ℕ) (neighbours : List (Change × Placement))
+    (text : List ℕ) : Type 0 where
   pub some : ℕ
   pub counts : Counts
-  pub mended : AreMended g n (take some neighbours) text counts
+  pub mended : AreMended w g n (take some neighbours) text counts

@@ -11,6 +11,7 @@ pub mod laws;
 pub mod mend;
 pub mod neighbours;
 pub mod part;
+pub mod rows;
 pub mod soundness;
 pub mod text;
 
@@ -18,5 +19,6 @@ pub use change::{Change, changed};
 pub use mend::{MendBounds, MendFault, Mended};
 pub use neighbours::Neighbour;
 pub use part::Part;
+pub use rows::Wording;
 pub use soundness::sound_key;
 pub use text::{change_text, count_line, sound_line};

@@ -18,8 +18,8 @@ ghost use Rattle.dw_mend.specs.inner.Mending.{IsSoundnessOf, IsUndecided, Adds, 
 
 use crate::neighbours::{Neighbour, neighbours};
 use crate::part::{Part, part_of};
+use crate::rows::{Wording, last_line, line_of};
 use crate::soundness::sound_key;
-use crate::text::{count_line, sound_line};
 use dw_board::{Board, Position};
 use dw_memo::Memo;
 use dw_moves::Move;
@@ -40,6 +40,8 @@ pub struct MendBounds {
     pub each: Option<u64>,
     /// Which of the neighbours are looked at.
     pub part: Part,
+    /// How neighbours are told.
+    pub wording: Wording,
 }
 
 /// What was found of the neighbours that were looked at.
@@ -111,14 +113,15 @@ pub fn mend<B: Board, M: Memo<B>, G: Guide<B>, W: Watcher, K: Sink>(
     requires room { IfSome bounds.each (λ bound. 1 ≤ bound) }
     requires works { K.is_failed sink.old ≡ false }
     ensures text { IfOk result (λ mended. (text : List ℕ)
-        × IsMendText B.geometry position.now bounds.moves bounds.part.number bounds.part.parts mended.all mended.sound
-        mended.undecided text
+        × IsMendText bounds.wording B.geometry position.now bounds.moves bounds.part.number bounds.part.parts
+        mended.all mended.sound mended.undecided text
         × Appends (K.taken sink.old) (K.taken sink.new) text) }
     ensures bounded { IfOk result (λ mended. AreBounded bounds.each mended.all mended.undecided solver.old.expanded
         solver.new.expanded) }
     ensures stopped { (stop : _) (all : List (Changed × Placement)) → AreNeighbours B.geometry position.now all
         → result ≡ Err (because.Stopped stop)
-        → (text : List ℕ) × IsMendStop B.geometry bounds.moves (part_of bounds.part.number bounds.part.parts all) text
+        → (text : List ℕ)
+        × IsMendStop bounds.wording B.geometry bounds.moves (part_of bounds.part.number bounds.part.parts all) text
         × Appends (K.taken sink.old) (K.taken sink.new) text }
     ensures count { IsCounted solver.old.expanded solver.old.limit solver.new.expanded solver.new.limit }
     ensures stop { result ≡ Err (because.Stopped Limit) → solver.new.expanded ≡ solver.new.limit }
@@ -133,7 +136,7 @@ pub fn mend<B: Board, M: Memo<B>, G: Guide<B>, W: Watcher, K: Sink>(
     let all = neighbours(alloc, position)?;
     let some = part_of(alloc, all.as_slice(), bounds.part)?;
     let mended = mend_these(alloc, solver, some.as_slice(), bounds, slices, sink)?;
-    let line = count_line(alloc, &mended)?;
+    let line = last_line(alloc, bounds.wording, &mended)?;
     slices.watcher.make_way();
     write_all(sink, line.as_str().as_bytes())?;
     Ok(mended)
@@ -151,14 +154,14 @@ fn mend_these<B: Board, M: Memo<B>, G: Guide<B>, W: Watcher, K: Sink>(
     requires asks { CanAsk bounds.moves bounds.each }
     requires works { K.is_failed sink.old ≡ false }
     ensures text { IfOk result (λ mended. (text : List ℕ)
-        × AreMended B.geometry bounds.moves (map told_by some.now) text
+        × AreMended bounds.wording B.geometry bounds.moves (map told_by some.now) text
         (record { sound = mended.sound; undecided = mended.undecided })
         × Appends (K.taken sink.old) (K.taken sink.new) text) }
     ensures all { IfOk result (λ mended. mended.all ≡ length some.now) }
     ensures bounded { IfOk result (λ mended. AreBounded bounds.each mended.all mended.undecided solver.old.expanded
         solver.new.expanded) }
     ensures stopped { (stop : _) → result ≡ Err (because.Stopped stop)
-        → (text : List ℕ) × IsMendStop B.geometry bounds.moves (map told_by some.now) text
+        → (text : List ℕ) × IsMendStop bounds.wording B.geometry bounds.moves (map told_by some.now) text
         × Appends (K.taken sink.old) (K.taken sink.new) text }
     ensures leaves { Leaves B.geometry M.content solver.old solver.new result }
     ensures sink { OnOk result (K.is_failed sink.new ≡ false) }
@@ -218,7 +221,7 @@ fn write_found<B: Board, M: Memo<B>, G: Guide<B>, W: Watcher, K: Sink>(
     requires asks { CanAsk bounds.moves bounds.each }
     requires works { K.is_failed sink.old ≡ false }
     ensures text { IfOk result (λ found. (text : List ℕ)
-        × Adds B.geometry bounds.moves (told_by neighbour.now) found text
+        × Adds bounds.wording B.geometry bounds.moves (told_by neighbour.now) found text
         × Appends (K.taken sink.old) (K.taken sink.new) text) }
     ensures goes { Goes bounds.each solver.old.expanded solver.old.limit solver.new.expanded solver.new.limit result }
     ensures stopped { (stop : _) → result ≡ Err (because.Stopped stop) → K.taken sink.new ≡ K.taken sink.old }
@@ -229,7 +232,7 @@ fn write_found<B: Board, M: Memo<B>, G: Guide<B>, W: Watcher, K: Sink>(
 {
     let found = found_of(alloc, solver, &neighbour.position, bounds, slices)?;
     if let Soundness::Sound(key) = &found {
-        let line = sound_line(alloc, neighbour, bounds.moves, key)?;
+        let line = line_of(alloc, bounds.wording, neighbour, bounds.moves, key)?;
         slices.watcher.make_way();
         write_all(sink, line.as_str().as_bytes())?;
     }

@@ -19,7 +19,6 @@ mod looking;
 mod question;
 pub mod remark;
 mod remark_texts;
-
 mod seen;
 pub mod sliced;
 pub mod slices;
@@ -31,8 +30,8 @@ pub use finding::{FindBounds, Finding};
 pub use judging::{judge_in_slices, judge_resuming, verdict_in_slices, verdict_resuming};
 pub use remark::{Checked, Remark};
 pub use remark_texts::remark_text;
-pub use worded::{RemarkWords, move_texts, remark_words};
 pub use sliced::{wins_in_slices, wins_resuming};
 pub use slices::{Slices, Unwatched, Watcher};
 pub use text::found_text;
 pub use turns::turns_of;
+pub use worded::{RemarkWords, move_texts, remark_words};

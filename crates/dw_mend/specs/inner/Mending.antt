@@ -10,7 +10,8 @@ use Rattle.dw_solve.specs.Solving.{Solving}
 use Rattle.dw_solve.specs.declared.stop.Stop.TheVariants.{Limit}
 use Rattle.dw_verdict.specs.Verdict.{IsVerdict, sound}
 use Rattle.dw_mend.specs.Changes.{Change}
-use Rattle.dw_mend.specs.MendText.{IsSoundLine}
+use Rattle.dw_mend.specs.MendText.{IsLineOf}
+use Rattle.dw_mend.specs.declared.rows.Wording.{Wording}
 use Rattle.dw_mend.specs.declared.mend.Soundness as finds
 use Rattle.dw_mend.specs.declared.mend.Soundness.TheVariants.{Sound, Unsound, Undecided}
 use Rattle.dw_mend.specs.declared.mend.MendFault.{MendFault}
@@ -29,10 +30,10 @@ IsUndecided Unsound = ⊥
 IsUndecided Undecided = Unit {0}
 
 -- what is written of a neighbour of which this is found
-abbrev pub Adds : {B : Type 0} → Geometry → ℕ → Change × Placement → finds.Soundness B → List ℕ → Type 0
-Adds g n x (Sound key) text = IsVerdict g x.1 n (sound key) × IsSoundLine g n x key text
-Adds g n x Unsound text = ((key : Move) → IsVerdict g x.1 n (sound key) → ⊥) × (text ≡ [])
-Adds g n x Undecided text = text ≡ []
+abbrev pub Adds : {B : Type 0} → Wording → Geometry → ℕ → Change × Placement → finds.Soundness B → List ℕ → Type 0
+Adds w g n x (Sound key) text = IsVerdict g x.1 n (sound key) × IsLineOf w g n x key text
+Adds w g n x Unsound text = ((key : Move) → IsVerdict g x.1 n (sound key) → ⊥) × (text ≡ [])
+Adds w g n x Undecided text = text ≡ []
 
 -- what can be asked about each neighbour: a win within 1 to 20 moves, and one position at least
 pub record CanAsk (n : ℕ) (each : Option ℕ) : Type 0 where

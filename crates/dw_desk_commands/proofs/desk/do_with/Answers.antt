@@ -47,8 +47,8 @@ returns-in-Certify-clause-does g c =
     × IsNext geo source.coming source.has_ended chosen after next
     × IsReportOnOne One chosen.portion.first (as_list next) ending text × Appends before_text after_text text)
     (DoesIt geo words (source.coming (source_of chosen.text)) before_text after_text) c.report_first.result
-    (λ ending told. does_one {Known = IsKnown source.coming source.has_ended chosen} geo words (form_for words.task words.form)
-    (source.coming (source_of chosen.text)) before_text after_text One
+    (λ ending told. does_one {Known = IsKnown source.coming source.has_ended chosen} geo words (form_for words.task
+    words.form) (source.coming (source_of chosen.text)) before_text after_text One
     (AreToCome geo source.coming source.has_ended chosen) (AreToCome geo source.coming source.has_ended after)
     chosen.portion.first ending refl (ap (λ z. z.first) fresh.portion)
     fresh.all fresh.known told
@@ -70,8 +70,8 @@ returns-in-Moves-clause-does g c =
     × IsNext geo source.coming source.has_ended chosen after next
     × IsReportOnOne One chosen.portion.first (as_list next) ending text × Appends before_text after_text text)
     (DoesIt geo words (source.coming (source_of chosen.text)) before_text after_text) c.report_first-in-Moves.result
-    (λ ending told. does_one {Known = IsKnown source.coming source.has_ended chosen} geo words (form_for words.task words.form)
-    (source.coming (source_of chosen.text)) before_text after_text One
+    (λ ending told. does_one {Known = IsKnown source.coming source.has_ended chosen} geo words (form_for words.task
+    words.form) (source.coming (source_of chosen.text)) before_text after_text One
     (AreToCome geo source.coming source.has_ended chosen) (AreToCome geo source.coming source.has_ended after)
     chosen.portion.first ending refl (ap (λ z. z.first) fresh.portion)
     fresh.all fresh.known told
@@ -90,14 +90,13 @@ returns-in-Mend-clause-does g c =
     let after_text = g.K.Sink.taken c.report_first-in-Mend.new.sink in
     let asked = c.in-Mend.asked in
     let expanded = c.report_first-in-Mend.new.desk.solver.expanded - c.args.desk.now.solver.expanded in
-    let One = λ (game : NumberedGame). IsMendOf geo asked.n asked.each asked.part asked.parts expanded
-    (problem_of game) in
+    let One = λ (game : NumberedGame). IsMendOf geo asked expanded (problem_of game) in
     ok_so (λ ending. (next : Option NumberedGame) × (text : List ℕ)
     × IsNext geo source.coming source.has_ended chosen after next
     × IsReportOnOne One chosen.portion.first (as_list next) ending text × Appends before_text after_text text)
     (DoesIt geo words (source.coming (source_of chosen.text)) before_text after_text) c.report_first-in-Mend.result
-    (λ ending told. does_one {Known = IsKnown source.coming source.has_ended chosen} geo words (form_for words.task words.form)
-    (source.coming (source_of chosen.text)) before_text after_text One
+    (λ ending told. does_one {Known = IsKnown source.coming source.has_ended chosen} geo words (form_for words.task
+    words.form) (source.coming (source_of chosen.text)) before_text after_text One
     (AreToCome geo source.coming source.has_ended chosen) (AreToCome geo source.coming source.has_ended after)
     chosen.portion.first ending refl (ap (λ z. z.first) fresh.portion)
     fresh.all fresh.known told
@@ -119,8 +118,8 @@ returns-in-Token-clause-does g c =
     × IsNext geo source.coming source.has_ended chosen after next
     × IsReportOnOne One chosen.portion.first (as_list next) ending text × Appends before_text after_text text)
     (DoesIt geo words (source.coming (source_of chosen.text)) before_text after_text) c.report_first-in-Token.result
-    (λ ending told. does_one {Known = IsKnown source.coming source.has_ended chosen} geo words (form_for words.task words.form)
-    (source.coming (source_of chosen.text)) before_text after_text One
+    (λ ending told. does_one {Known = IsKnown source.coming source.has_ended chosen} geo words (form_for words.task
+    words.form) (source.coming (source_of chosen.text)) before_text after_text One
     (AreToCome geo source.coming source.has_ended chosen) (AreToCome geo source.coming source.has_ended after)
     chosen.portion.first ending refl (ap (λ z. z.first) fresh.portion)
     fresh.all fresh.known told

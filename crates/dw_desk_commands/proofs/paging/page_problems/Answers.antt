@@ -1,8 +1,7 @@
 use Rattle.std.proofs.Common.{◌≡◌, ◌⊎◌, ◌∙◌, ℕ, List, [], true, false, inl, ap, subst}
 use Rattle.std.specs.Prelude.{option_map}
 use Rattle.dw_games.specs.GameReading.{numbered_game}
-use Rattle.dw_desk_commands.specs.inner.Choosing.{HandsOut}
-use Rattle.dw_desk_commands.specs.inner.Choosing.{AreToCome}
+use Rattle.dw_desk_commands.specs.inner.Choosing.{HandsOut, AreToCome}
 use Rattle.std.specs.Io.KnownBytes.{Appends}
 use Rattle.dw_desk_commands.specs.Paging.{IsPage}
 use Rattle.dw_desk_commands.proofs.ProblemLemmas.{ok_so}

@@ -9,7 +9,8 @@ returns-in_ok-push_solved-in-After-clause-solution g c =
     let s = c.in_ok-push_solved-in-After.ensures.solution in (
       s.0,
       [],
-      subst (λ z. Stands z (IsSolved g.B.Board.geometry (language_for asked.language) asked.lines asked.tries task.number
+      subst (λ z. Stands z (IsSolved g.B.Board.geometry (language_for asked.language) asked.lines asked.tries
+          task.number
           task.position.now task.moves) s.0 []) (sym c.in-After.is) (s.1, refl),
       s.2,
       sym (append-nil c.args.later.now.items),
@@ -22,7 +23,8 @@ returns-in_ok-push_solved-in-End-clause-solution g c =
     let s = c.in_ok-push_solved-in-End.ensures.solution in (
       [],
       s.0,
-      subst (λ z. Stands z (IsSolved g.B.Board.geometry (language_for asked.language) asked.lines asked.tries task.number
+      subst (λ z. Stands z (IsSolved g.B.Board.geometry (language_for asked.language) asked.lines asked.tries
+          task.number
           task.position.now task.moves) [] s.0) (sym c.in-End.is) (refl, s.1),
       sym (append-nil c.args.part.now.items),
       s.2,
@@ -34,7 +36,8 @@ returns-in-None-clause-solution g c =
     let asked = c.args.asked.now in (
       [],
       [],
-      subst (λ z. Stands z (IsSolved g.B.Board.geometry (language_for asked.language) asked.lines asked.tries task.number
+      subst (λ z. Stands z (IsSolved g.B.Board.geometry (language_for asked.language) asked.lines asked.tries
+          task.number
           task.position.now task.moves) [] []) (sym c.in-None.is) (refl, refl),
       sym (append-nil c.args.part.now.items),
       sym (append-nil c.args.later.now.items),

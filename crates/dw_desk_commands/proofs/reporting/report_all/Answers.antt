@@ -1,8 +1,7 @@
 use Rattle.std.proofs.Common.{◌∙◌, refl, subst}
 use Rattle.std.specs.Prelude.{option_map}
 use Rattle.dw_games.specs.GameReading.{numbered_game}
-use Rattle.dw_desk_commands.specs.inner.Choosing.{HandsOut}
-use Rattle.dw_desk_commands.specs.inner.Choosing.{AreToCome}
+use Rattle.dw_desk_commands.specs.inner.Choosing.{HandsOut, AreToCome}
 use Rattle.dw_desk_commands.proofs.ReportLemmas.{all_written, none_yet, then_one}
 use Rattle.dw_desk_commands.proofs.reporting.report_all.Goals as goal
 

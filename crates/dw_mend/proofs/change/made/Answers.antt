@@ -17,6 +17,6 @@ returns g c =
     made_so geo p c.args.square c.args.kind piece c.with.result c.keeps_its_rules.ensures.fifty board.0 high
     (sym c.in_ok-piece.ensures.value) (λ e. true≢false (sym (c.if-is_same.ensures.1 e)))
     (subst (λ z. MatchOption c.with.result
-    ((q : Placement) → IsNeighbour geo z (with_piece c.args.square (record { side = piece.side; kind = c.args.kind })) q → ⊥)
-    (λ q. IsNeighbour geo z (with_piece c.args.square (record { side = piece.side; kind = c.args.kind })) q))
+    ((q : Placement) → IsNeighbour geo z (with_piece c.args.square (record { side = piece.side; kind = c.args.kind })) q
+    → ⊥) (λ q. IsNeighbour geo z (with_piece c.args.square (record { side = piece.side; kind = c.args.kind })) q))
     c.clear.ensures.after c.with.ensures)

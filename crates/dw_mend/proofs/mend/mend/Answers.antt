@@ -3,19 +3,27 @@ use Rattle.std.proofs.lemmas.List.{length-map}
 use Rattle.std.specs.Io.KnownBytes.{Appends}
 use Rattle.std.proofs.KnownBytes.{Appends-nil, Appends-trans}
 use Rattle.dw_mend.specs.Mending.{AreMended, IsMendStop, part_of}
-use Rattle.dw_mend.specs.MendText.{count_line}
+use Rattle.dw_mend.specs.MendText.{last_line}
 use Rattle.dw_mend.specs.Telling.{told_by}
 use Rattle.dw_mend.specs.declared.mend.MendFault.TheVariants as because
 use Rattle.dw_mend.proofs.MendLemmas.{part_told, same_fault, stop_at_end, stop_at_once}
 use Rattle.dw_mend.proofs.mend.mend.Goals as goal
 
 pub returns-in_err-all-clause-stopped : goal.returns-in_err-all-clause-stopped
-returns-in_err-all-clause-stopped g c = λ stop all are e.
-    ([], stop_at_once g.B.Board.geometry c.args.bounds.moves _, Appends-nil (g.K.Sink.taken c.args.sink.now))
+returns-in_err-all-clause-stopped g c = λ stop all are e. (
+  [],
+  stop_at_once c.args.bounds.wording g.B.Board.geometry c.args.bounds.moves _,
+  Appends-nil (g.K.Sink.taken
+      c.args.sink.now),
+)
 
 pub returns-in_err-some-clause-stopped : goal.returns-in_err-some-clause-stopped
-returns-in_err-some-clause-stopped g c = λ stop all are e.
-    ([], stop_at_once g.B.Board.geometry c.args.bounds.moves _, Appends-nil (g.K.Sink.taken c.args.sink.now))
+returns-in_err-some-clause-stopped g c = λ stop all are e. (
+  [],
+  stop_at_once c.args.bounds.wording g.B.Board.geometry c.args.bounds.moves _,
+  Appends-nil (g.K.Sink.taken
+      c.args.sink.now),
+)
 
 pub returns-in_err-mended-clause-stopped : goal.returns-in_err-mended-clause-stopped
 returns-in_err-mended-clause-stopped g c = λ stop all are e.
@@ -29,7 +37,7 @@ returns-in_err-mended-clause-stopped g c = λ stop all are e.
     let s = c.in_err-mended.ensures.stopped stop
     (ap (λ z. Err z) (same_fault c.from_residual-in_err-mended.result c.in_err-mended.field-0.0 (because.Stopped stop)
     c.from_residual-in_err-mended.ensures.1 e)) in
-    (s.0, subst (λ z. IsMendStop geo n z s.0) told s.1, s.2)
+    (s.0, subst (λ z. IsMendStop c.args.bounds.wording geo n z s.0) told s.1, s.2)
 
 pub returns-in_err-line-clause-stopped : goal.returns-in_err-line-clause-stopped
 returns-in_err-line-clause-stopped g c = λ stop all are e.
@@ -43,7 +51,8 @@ returns-in_err-line-clause-stopped g c = λ stop all are e.
     let t = c.in_ok-mended.ensures.text in
     let counts = c.in_ok-mended.mended in (
       t.0,
-      subst (λ z. IsMendStop geo n z t.0) told (stop_at_end geo n (map told_by c.as_slice-2.result.now) t.0
+      subst (λ z. IsMendStop c.args.bounds.wording geo n z t.0) told (stop_at_end c.args.bounds.wording geo n (map
+          told_by c.as_slice-2.result.now) t.0
           (record { sound = counts.sound; undecided = counts.undecided }) t.1),
       t.2,
     )
@@ -61,14 +70,17 @@ returns-clause-text g c =
     c.in_ok-all.ensures
     (c.as_slice-2.ensures.value ∙ (c.in_ok-some.ensures ∙ ap (part_of i m) c.as_slice.ensures.value)) in
     let t = c.in_ok-mended.ensures.text in
-    let line = count_line counts.all counts.sound counts.undecided in (
+    let line = last_line c.args.bounds.wording counts.all counts.sound counts.undecided in (
       t.0 ++ line,
       record {
         neighbours = map told_by items;
         are = c.in_ok-all.ensures;
         lines = t.0;
-        mended = subst (λ z. AreMended geo n z t.0 (record { sound = counts.sound; undecided = counts.undecided })) told
-            t.1;
+        mended = subst (λ z. AreMended c.args.bounds.wording geo n z t.0 (record {
+          sound = counts.sound;
+          undecided =
+              counts.undecided;
+        })) told t.1;
         count = c.in_ok-mended.ensures.all ∙ (sym (length-map some told_by) ∙ ap length told);
         is = refl;
       },

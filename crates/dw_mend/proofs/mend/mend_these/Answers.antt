@@ -4,8 +4,8 @@ use Rattle.std.proofs.KnownBytes.{Appends-trans}
 use Rattle.dw_mend.specs.Telling.{told_by}
 use Rattle.dw_mend.specs.declared.mend.MendFault.TheVariants as because
 use Rattle.dw_mend.specs.inner.Mending.{IsUndecided}
-use Rattle.dw_mend.proofs.MendLemmas.{counted_on, mended_next, adds_sound, adds_unsound, adds_undecided, bounded_more, bounded_open}
-use Rattle.dw_mend.proofs.MendLemmas.{stop_at, same_fault}
+use Rattle.dw_mend.proofs.MendLemmas.{counted_on, mended_next, adds_sound, adds_unsound, adds_undecided, bounded_more}
+use Rattle.dw_mend.proofs.MendLemmas.{bounded_open, stop_at, same_fault}
 use Rattle.dw_mend.proofs.mend.mend_these.Goals as goal
 use Rattle.dw_mend.proofs.mend.mend_these.Goals.{in-Sound, in-Unsound, in-Undecided}
 
@@ -13,10 +13,12 @@ pub returns-in_err-write_found-clause-stopped : goal.returns-in_err-write_found-
 returns-in_err-write_found-clause-stopped g c = λ stop e.
     let t = c.neighbours.invariant.text in (
       t.0,
-      stop_at told_by g.B.Board.geometry c.args.bounds.moves c.args.some.now c.neighbours.neighbour-index
+      stop_at told_by c.args.bounds.wording g.B.Board.geometry c.args.bounds.moves c.args.some.now
+          c.neighbours.neighbour-index
           c.neighbours.mended.sound c.neighbours.mended.undecided t.0 t.1,
       subst (λ z. Appends (g.K.Sink.taken c.args.sink.now) z t.0) (sym (c.in_err-write_found.ensures.stopped stop
-          (ap (λ z. Err z) (same_fault c.from_residual.result c.in_err-write_found.field-0.0 (because.Stopped stop) c.from_residual.ensures.1 e)))) t.2,
+          (ap (λ z. Err z) (same_fault c.from_residual.result c.in_err-write_found.field-0.0 (because.Stopped stop)
+          c.from_residual.ensures.1 e)))) t.2,
     )
 
 pub neighbours-preserved : goal.neighbours-preserved
@@ -41,21 +43,24 @@ neighbours-preserved g c =
       text = (
         t.0 ++ new.0,
         elim c.match-branch-2.branch [
-          | in-Sound w ↦ mended_next told_by geo n c.args.some.now c.neighbours.neighbour-index x t.0 new.0
+          | in-Sound w ↦ mended_next told_by c.args.bounds.wording geo n c.args.some.now c.neighbours.neighbour-index x
+              t.0 new.0
               (record { sound = was.sound; undecided = was.undecided }) (record { sound = 1; undecided = 0 }) now.sound
               now.undecided c.neighbours-test.true c.neighbour-item.is t.1
-              (adds_sound geo n (told_by x) found _ new.0 w.in-Sound.is new.1) (ap (λ z. z.sound) w.mended-is)
-              (ap (λ z. z.undecided) w.mended-is ∙ sym (add-zero was.undecided))
-          | in-Unsound w ↦ mended_next told_by geo n c.args.some.now c.neighbours.neighbour-index x t.0 new.0
+              (adds_sound c.args.bounds.wording geo n (told_by x) found _ new.0 w.in-Sound.is new.1) (ap (λ z. z.sound)
+              w.mended-is) (ap (λ z. z.undecided) w.mended-is ∙ sym (add-zero was.undecided))
+          | in-Unsound w ↦ mended_next told_by c.args.bounds.wording geo n c.args.some.now c.neighbours.neighbour-index
+              x t.0 new.0
               (record { sound = was.sound; undecided = was.undecided }) (record { sound = 0; undecided = 0 }) now.sound
               now.undecided c.neighbours-test.true c.neighbour-item.is t.1
-              (adds_unsound geo n (told_by x) found new.0 w.in-Unsound.is new.1)
+              (adds_unsound c.args.bounds.wording geo n (told_by x) found new.0 w.in-Unsound.is new.1)
               (ap (λ z. z.sound) w.mended-is ∙ sym (add-zero was.sound))
               (ap (λ z. z.undecided) w.mended-is ∙ sym (add-zero was.undecided))
-          | in-Undecided w ↦ mended_next told_by geo n c.args.some.now c.neighbours.neighbour-index x t.0 new.0
+          | in-Undecided w ↦ mended_next told_by c.args.bounds.wording geo n c.args.some.now
+              c.neighbours.neighbour-index x t.0 new.0
               (record { sound = was.sound; undecided = was.undecided }) (record { sound = 0; undecided = 1 }) now.sound
               now.undecided c.neighbours-test.true c.neighbour-item.is t.1
-              (adds_undecided geo n (told_by x) found new.0 w.in-Undecided.is new.1)
+              (adds_undecided c.args.bounds.wording geo n (told_by x) found new.0 w.in-Undecided.is new.1)
               (ap (λ z. z.sound) w.mended-is ∙ sym (add-zero was.sound)) (ap (λ z. z.undecided) w.mended-is)
         ],
         Appends-trans (g.K.Sink.taken c.args.sink.now) (g.K.Sink.taken c.neighbours.sink)
@@ -67,9 +72,12 @@ neighbours-preserved g c =
         | in-Undecided w ↦ ap (λ z. z.all) w.mended-is ∙ c.neighbours.invariant.all
       ];
       few = elim c.match-branch-2.branch [
-        | in-Sound w ↦ let s = ap (λ z. z.sound) w.mended-is in let u = ap (λ z. z.undecided) w.mended-is in omega (arith, few, s, u)
-        | in-Unsound w ↦ let s = ap (λ z. z.sound) w.mended-is in let u = ap (λ z. z.undecided) w.mended-is in omega (arith, few, s, u)
-        | in-Undecided w ↦ let s = ap (λ z. z.sound) w.mended-is in let u = ap (λ z. z.undecided) w.mended-is in omega (arith, few, s, u)
+        | in-Sound w ↦ let s = ap (λ z. z.sound) w.mended-is in let u = ap (λ z. z.undecided) w.mended-is in omega
+            (arith, few, s, u)
+        | in-Unsound w ↦ let s = ap (λ z. z.sound) w.mended-is in let u = ap (λ z. z.undecided) w.mended-is in omega
+            (arith, few, s, u)
+        | in-Undecided w ↦ let s = ap (λ z. z.sound) w.mended-is in let u = ap (λ z. z.undecided) w.mended-is in omega
+            (arith, few, s, u)
       ];
       bounded = elim c.match-branch-2.branch [
         | in-Sound w ↦ bounded_more each c.neighbours.neighbour-index was.undecided now.undecided base before after

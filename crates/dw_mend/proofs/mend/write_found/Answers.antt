@@ -3,8 +3,8 @@ use Rattle.dw_mend.proofs.SoundLemmas.{sound_legal}
 use Rattle.dw_mend.specs.inner.Mending.{IsSoundnessOf}
 use Rattle.dw_mend.proofs.mend.write_found.Goals as goal
 
-pub sound_line-requires : goal.sound_line-requires
-sound_line-requires g c =
+pub line_of-requires : goal.line_of-requires
+line_of-requires g c =
     let geo = g.B.Board.geometry in
     let p = c.args.neighbour.now.position in
     sound_legal geo p c.args.bounds.moves c.in-Sound.key

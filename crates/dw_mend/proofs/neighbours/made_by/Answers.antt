@@ -15,7 +15,8 @@ changes-preserved g c =
       | in-Some+in_ok-push w ↦ made_next told geo p c.args.changes.now (map told_by c.changes.all.items)
           (map told_by c.match-changed.all.items) i c.change-item.result w.in-Some.made
           c.changes-test.true c.change-item.is c.changes.invariant w.in-Some.ensures
-          (ap (λ v. map told_by v.items) w.all-is ∙ (ap (map told_by) w.in_ok-push.ensures.items ∙ map_push told_by _ _))
+          (ap (λ v. map told_by v.items) w.all-is ∙ (ap (map told_by) w.in_ok-push.ensures.items ∙ map_push told_by _
+          _))
       | in_default w ↦ subst (λ v. AreMade geo p (map told (take (i + 1) c.args.changes.now)) (map told_by v.items))
           (sym w.all-is) (none_next told geo p c.args.changes.now (map told_by c.changes.all.items) i
           c.change-item.result c.changes-test.true c.change-item.is c.changes.invariant w.in_default.ensures)

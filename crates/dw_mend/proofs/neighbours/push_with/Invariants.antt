@@ -5,4 +5,5 @@ use Rattle.dw_mend.specs.Telling.{told}
 use Rattle.dw_mend.proofs.neighbours.push_with.Given as goal
 
 abbrev pub invariant-squares : goal.invariant-squares
-invariant-squares g l = map told l.list.items ≡ map told l.fn.list.items ++ flat_map (λ s. map (with_piece s) pieces) (take l.square-index l.squares)
+invariant-squares g l = map told l.list.items ≡ map told l.fn.list.items ++ flat_map (λ s. map (with_piece s) pieces)
+    (take l.square-index l.squares)

@@ -1,5 +1,4 @@
-use Rattle.std.proofs.Common.{◌+◌, ◌∙◌, ◌++◌, ◌∷◌, [], sym, ap}
-use Rattle.std.proofs.Common.{◌<◌, ◌*◌, arith, subst}
+use Rattle.std.proofs.Common.{◌+◌, ◌∙◌, ◌++◌, ◌∷◌, [], sym, ap, ◌<◌, ◌*◌, arith, subst}
 use Rattle.dw_board.specs.Geometry.{squares}
 use Rattle.dw_mend.proofs.ListLemmas.{range_next}
 use Rattle.dw_mend.proofs.neighbours.squares.Goals as goal

@@ -5,4 +5,5 @@ use Rattle.dw_commands.proofs.memo.LeakedMemoMemo.skip_one_move.Goals as goal
 
 pub returns-clause-same : goal.returns-clause-same
 returns-clause-same g c =
-    subst (λ m. SameEntries (content_of m) (content_of c.skip_one_move.new.self)) c.self.view_is c.skip_one_move.ensures.same
+    subst (λ m. SameEntries (content_of m) (content_of c.skip_one_move.new.self)) c.self.view_is
+    c.skip_one_move.ensures.same
