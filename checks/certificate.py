@@ -1,11 +1,14 @@
 #!/usr/bin/env python3
 """Reads a certificate of dw-desk, from FILE or standard input, and says whether it is right.
 
+It is installed as dw-certificate.
+
 It knows the rules of the game and nothing of the programs: no search is made, and no other module is used. It writes
 `right`, status 0, or the first line that is not right, its number and why, status 1. Status 3: it can not be read.
 """
 
 import functools
+import os
 import re
 import sys
 
@@ -180,14 +183,18 @@ def check(text):
 
 
 def main():
-    if len(sys.argv) > 2 or sys.argv[1:2] in (['-h'], ['--help']):
-        print('Usage: certificate.py [FILE]')
+    name = os.path.basename(sys.argv[0])
+    if sys.argv[1:] in (['-h'], ['--help']):
+        print(f'Usage: {name} [FILE]')
+        return 0
+    if len(sys.argv) > 2:
+        print(f'Usage: {name} [FILE]', file=sys.stderr)
         return 2
     try:
         with open(sys.argv[1] if len(sys.argv) == 2 else 0, 'rb') as stream:
             check(stream.read().decode('ascii', 'backslashreplace'))  # no form has a backslash
     except OSError as fault:
-        print(f'certificate.py: {fault}', file=sys.stderr)
+        print(f'{name}: {fault}', file=sys.stderr)
         return 3
     except Wrong as wrong:
         print(f'line {wrong.args[0]}: {wrong.args[1]}')

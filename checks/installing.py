@@ -16,6 +16,7 @@ import pathlib
 import re
 import shutil
 import subprocess
+import sys
 import tempfile
 
 TOP = pathlib.Path(__file__).resolve().parent.parent
@@ -24,7 +25,9 @@ PROGRAMS = {"dw": TOP / "crates/dw/out/dw", "dw-desk": TOP / "crates/dw_desk/out
 PROGRAM = PROGRAMS["dw"]
 FILES = {place: source for name, program in PROGRAMS.items() for place, source in (
     (f"bin/{name}", program), (f"share/man/man1/{name}.1", TOP / "docs" / f"{name}.1"),
-    (f"share/bash-completion/completions/{name}", TOP / "docs" / f"{name}.bash"))}
+    (f"share/bash-completion/completions/{name}", TOP / "docs" / f"{name}.bash"))} | {
+        "bin/dw-certificate": TOP / "checks/certificate.py",
+        "share/man/man1/dw-certificate.1": TOP / "docs/dw-certificate.1"}
 NOBODY = ["setpriv", "--reuid=65534", "--regid=65534", "--clear-groups"]
 LIBRARIES = {"libc.so.6", "ld-linux-x86-64.so.2"}
 
@@ -65,6 +68,12 @@ def check_run(folder):
                              input=(TOP / "examples" / problems).read_text(), capture_output=True, text=True,
                              timeout=600, check=False)
         assert (ran.returncode, ran.stdout, ran.stderr) == (0, (TOP / "examples" / wanted).read_text(), ""), ran
+
+
+    certify = run([folder / "dw-desk", "certify", "-n", "2", TOP / "examples" / "problems.fen"])
+    ran = subprocess.run([sys.executable, folder / "dw-certificate"], input=certify.stdout, capture_output=True,
+                         text=True, timeout=60, check=False)
+    assert (ran.returncode, ran.stdout, ran.stderr) == (0, "right\n", ""), (certify, ran)
 
 
 def check_libraries():
@@ -163,12 +172,14 @@ def package(room):
     ran = run([*dpkg, "-i", file], env=paths)
     assert ran.returncode == 0, ran
     documents = root / "usr/share/doc/dw"
-    for name, program in PROGRAMS.items():
+    for name in [*PROGRAMS, "dw-certificate"]:
         manual = root / f"usr/share/man/man1/{name}.1.gz"
         assert gzip.decompress(manual.read_bytes()) == (TOP / "docs" / f"{name}.1").read_bytes()
-        assert (root / "usr/bin" / name).read_bytes() == program.read_bytes()
+        assert (root / "usr/bin" / name).read_bytes() == FILES[f"bin/{name}"].read_bytes()
     for page in ("README.md", "CHANGELOG.md"):
         assert (documents / page).read_bytes() == (TOP / page).read_bytes(), page
+    for link in re.findall(r"\]\(([^)#:]+)", (TOP / "README.md").read_text()):
+        assert (documents / link).exists(), f"the package's README links to {link}, which is not in it"
     for path in (TOP / "examples").iterdir():
         assert (documents / "examples" / path.name).read_bytes() == path.read_bytes(), path
     assert "licence" in (documents / "copyright").read_text()
