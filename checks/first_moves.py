@@ -140,7 +140,7 @@ def check_rows():
 
 
 def main():
-    count = count_asked(150)
+    count = count_asked(30)
     check_rows()
     for rows in (10, 8):
         check_random(rows, count)
