@@ -3,7 +3,7 @@
 
     checks/first_moves.py [--count POSITIONS]
 
-For so many random small positions (150 on each board if not said), within 1, 2 or 3 moves, the recursion of judging.py
+For so many random small positions (30 on each board if not said), within 1, 2 or 3 moves, the recursion of judging.py
 tells of each legal move the least number of moves with which it wins, or all replies that refute it. The lines have to
 be the same, in the same order, with the same count, whatever memo is taken, and so has the line of JSON. So have those
 of each part; the parts put together are the whole, and the moves that win are the keys of `dw judge`. At last come the
