@@ -333,8 +333,8 @@ def check_play(browser, source):
         browser.run("t.at('#mode-play').click()")
         start = browser.run("t.at('#fen').value")
         for _ in range(12):
-            sources = browser.run("t.until(() => t.at('#played').textContent !== 'x').then(() => "
-                                  "t.all('.dark.source').map((e) => e.dataset.square))")
+            browser.wait("t.all('.dark.source').length || t.at('#played').textContent.includes('no move left')", 10)
+            sources = browser.run("t.all('.dark.source').map((e) => e.dataset.square)")
             if not sources:
                 break
             browser.run(f"t.at('[data-square=\"{source.choice(sources)}\"]').click()")
@@ -344,7 +344,6 @@ def check_play(browser, source):
             if browser.run("!t.at('#choice').hidden"):
                 browser.run("t.at('#choice button').click()")
             browser.wait(f"t.at('#fen').value !== {json.dumps(before)}", 10)
-            time.sleep(0.02)
             played += 1
         browser.run("t.at('#play-start').click()")
         browser.wait(f"t.at('#fen').value === {json.dumps(start)}", 10)

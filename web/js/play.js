@@ -60,12 +60,14 @@ export class Play {
     }
 
     /**
-     * Goes to the position after some moves.
+     * Goes to the position after some moves. Until its moves are known no square can be clicked.
      * @param {Legal[]} played
      */
     async goTo(played) {
         this.played = played;
+        this.legal = [];
         this.chosen = 0;
+        this.app.tell('looked');
         const fen = played[played.length - 1]?.fen ?? this.first;
         const [legal] = await this.app.rules.legal([fen], this.app.position.rows);
         if (this.played !== played) return;
