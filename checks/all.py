@@ -1,13 +1,13 @@
 #!/usr/bin/env python3
-"""all.py: runs all checks of this folder, and says of each what it is for, how long it took and whether it passed.
+"""all.py: runs the checks of this folder, and reports for each its purpose, its time and its result.
 
     checks/all.py [--slow] [--jobs N] [NAME ..]
 
-Without a name it runs all but those that ask the prover for hours. With --slow it runs these too, and those that draw
-random positions draw more. With names, as `judging` or `judging.py`, it runs just these. As many run side by side as
-there are processors, or as --jobs says, the longest first; what one of them says is shown when it has ended. What a
-check is for stands in the first paragraph of its own text, and nowhere else. Of a check that failed the last lines are
-shown. The last line has the numbers of those that passed and failed; it ends with 0 if all that it ran passed.
+Without names it runs all checks except those that need the prover for hours. --slow adds these, and draws more random
+positions. With names, such as `judging` or `judging.py`, it runs only these. It runs one check for each processor at a
+time, or as many as --jobs says, the longest first. The purpose of a check is the first paragraph of its own text. A
+failed check shows its last lines. The last line counts the checks that passed and failed. The status is 0 if all
+passed.
 """
 import argparse
 import ast
@@ -50,6 +50,8 @@ CHECKS = [
     Check("mends", slow=("--count", "100")),
     Check("first_moves", slow=("--count", "2000")),
     Check("board", slow=("--count", "400")),
+    Check("board_ways"),
+    Check("board_making"),
     Check("web", slow=("--count", "1500")),
     Check("refused_memory"),
     Check("long_list"),
@@ -71,6 +73,7 @@ CHECKS = [
     Check("gate"),
     Check("options"),
     Check("docs"),
+    Check("prose"),
     Check("definitions"),
     Check("layers"),
     Check("calls"),
@@ -83,7 +86,9 @@ SLOW = [
 # What is no check of this repository, but for whom reads what the programs write.
 READERS = ["certificate"]
 # What is a part of a check.
-PARTS = ["browsers", "draughts", "man_pages", "reading_order"]
+PARTS = ["board_page", "browsers", "draughts", "man_pages", "reading_order"]
+# What takes pictures and measures, for the documents.
+FIGURES = ["board_figures", "board_pictures"]
 
 
 def purpose(check):
@@ -124,7 +129,7 @@ def report(check, slow):
 def chosen(names, slow):
     """The checks of these names, or all."""
     known = {check.name: check for check in CHECKS + SLOW}
-    there = {path.stem for path in HERE.glob("*.py")} - {"all", *READERS, *PARTS}
+    there = {path.stem for path in HERE.glob("*.py")} - {"all", *READERS, *PARTS, *FIGURES}
     assert set(known) == there, f"all.py lacks, or has too much: {sorted(set(known) ^ there)}"
     if not names:
         return CHECKS + SLOW * slow
@@ -139,7 +144,7 @@ def build(checks):
     subprocess.run([TOP / "dw", "--help"], stdout=subprocess.DEVNULL, check=True)
     if any(check.name == "refused_search" for check in checks):
         refused_search.build()
-    if any(check.name in ("board", "web") for check in checks):
+    if any(check.name in ("board", "board_ways", "web") for check in checks):
         subprocess.run([TOP / "board", os.devnull], stderr=subprocess.DEVNULL, check=True)
 
 

@@ -1,11 +1,11 @@
 #!/usr/bin/env python3
-"""arguments.py: runs `dw` with arguments of each kind, and compares what they ask for and how the program ends.
+"""arguments.py: runs `dw` with arguments of each kind, and compares the output and the exit status.
 
     checks/arguments.py
 
-Each row has the arguments, the exit status, and what is written on standard output and on standard error. Standard
-input has three problems; so has the file `three`, and a file `--pdn` has one. What is no command ends with status 2,
-writes nothing on standard output, and says on standard error what is wrong. Each of a token's six faults has its line.
+Each row has the arguments, the exit status, and the text on standard output and on standard error. Standard input has
+three problems; so has the file `three`, and a file `--pdn` has one. Wrong arguments end with status 2, write nothing to
+standard output, and give the error on standard error. Each of a token's six faults has a row.
 """
 import pathlib
 import subprocess

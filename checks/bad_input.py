@@ -4,7 +4,7 @@
     checks/bad_input.py
 
 Bad texts and very long ones go to `dw show`; wrong arguments to each command that has them; tokens, refused problems
-and limits to `dw judge` and `dw list`; and streams that fail to all of them.
+and limits to `dw judge` and `dw list`; and failing streams to all of them.
 """
 import os
 import pathlib

@@ -1,11 +1,11 @@
 #!/usr/bin/env python3
-"""borrow.py: tries uses that must not compile. The borrow check has to refuse each.
+"""borrow.py: tries uses that the borrow checker must refuse.
 
     checks/borrow.py
 
-They stand in checks/edits/CRATE/NAME.borrow, in the form of an edit. Each is put into a copy of the tracked files, as
-they are now, and `rt check --only=` is run in its crate. That stops before any proof, so nothing has to be built
-first. Each error that it names has to be one of the borrow check, at a line that the edit changed.
+They are files checks/edits/CRATE/NAME.borrow, in the form of an edit. Each is put into a copy of the tracked files, and
+`rt check --only=` runs in its crate. It stops before any proof, so nothing needs to be built. Each error must come from
+the borrow checker, at a line that the edit changed.
 """
 import pathlib
 import re

@@ -1,7 +1,7 @@
 #!/usr/bin/env python3
 """browsers.py: drives Chromium by its DevTools protocol, and Firefox by WebDriver BiDi, without a window.
 
-Both offer the same calls. What a page asks of the network and what it says on the console as an error is kept.
+Both offer the same calls. Network requests and console errors of a page are recorded.
 """
 import base64
 import json
@@ -16,9 +16,16 @@ import tempfile
 import time
 
 STARTS_WITHIN, ANSWERS_WITHIN = 60, 300
+# Firefox saves files without asking where.
+PREFERENCES = """user_pref("browser.download.folderList", 2);
+user_pref("browser.download.dir", "{folder}");
+user_pref("browser.download.always_ask_before_handling_new_types", false);
+user_pref("browser.download.alwaysOpenPanel", false);
+"""
 # What lies in the page's own file or memory.
 OWN = ("file:", "blob:", "data:", "about:", "chrome:", "resource:", "moz-extension:")
-KEYS = {"Enter": ("\ue006", 13), "Tab": ("\ue004", 9), "ArrowLeft": ("\ue012", 37), "ArrowUp": ("\ue013", 38),
+KEYS = {"Enter": ("\ue006", 13), "Backspace": ("\ue003", 8),
+        "Tab": ("\ue004", 9), "ArrowLeft": ("\ue012", 37), "ArrowUp": ("\ue013", 38),
         "ArrowRight": ("\ue014", 39), "ArrowDown": ("\ue015", 40), "Delete": ("\ue017", 46), " ": (" ", 32),
         "Home": ("\ue011", 36)}
 
@@ -86,6 +93,7 @@ class Browser:
         home = pathlib.Path(self.folder.name)
         self.downloads = home / "downloads"
         self.downloads.mkdir()
+        (home / "user.js").write_text(PREFERENCES.format(folder=self.downloads))
         log = home / "log"
         with log.open("w", encoding="utf-8") as out:
             words = [word.replace("{home}", str(home)) for word in words]
@@ -132,14 +140,45 @@ class Browser:
         assert said, (self.name, "not within", seconds, "s:", condition)
 
     def middle(self, selector):
-        """Where the middle of an element is."""
-        place = self.run(f"""(() => {{
+        """Where the middle of an element is, once it is in sight and the page has drawn itself."""
+        place = self.run(f"""(async () => {{
             const found = document.querySelector({json.dumps(selector)});
             found.scrollIntoView({{block: 'center'}});
+            const drawn = new Promise((resolve) => requestAnimationFrame(() => requestAnimationFrame(resolve)));
+            await Promise.race([drawn, new Promise((resolve) => setTimeout(resolve, 500))]);
             const box = found.getBoundingClientRect();
             return [box.left + box.width / 2, box.top + box.height / 2];
         }})()""")
         return tuple(round(number) for number in place)
+
+    def type(self, text):
+        self.press(*text)
+
+    def replace(self, selector, text):
+        """Types a text into a field, in place of what stands there."""
+        self.click(selector)
+        self.select_all()
+        self.press("Backspace")
+        self.type(text)
+
+    def choose(self, selector, value):
+        """Chooses an option of a list by keys. A click on the words beside it leaves it shut."""
+        self.click(f"label:has({selector}) span")
+        keys = self.run(f"""(() => {{
+            const found = document.querySelector({json.dumps(selector)});
+            const step = [...found.options].findIndex((option) => option.value === {json.dumps(value)});
+            return step - found.selectedIndex;
+        }})()""")
+        self.press(*["ArrowDown" if keys > 0 else "ArrowUp"] * abs(keys))
+        self.wait(f"document.querySelector({json.dumps(selector)}).value === {json.dumps(value)}", 10)
+
+    def saved(self, name):
+        """What the page has saved under a name."""
+        file, until = self.downloads / name, time.monotonic() + STARTS_WITHIN
+        while not file.exists() or not file.stat().st_size:
+            assert time.monotonic() < until, (self.name, name, "is not saved")
+            time.sleep(0.05)
+        return file
 
     def fetched(self):
         """What was asked of the network."""
@@ -190,6 +229,10 @@ class Chromium(Browser):
             self.errors.append(json.dumps(params["args"])[:600])
         elif method == "Network.requestWillBeSent":
             self.requests.append(params["request"]["url"])
+        elif method == "Tracing.dataCollected":
+            self.traced += params["value"]
+        elif method == "Tracing.tracingComplete":
+            self.traced.append(None)
 
     def goto(self, url):
         self.ask("Page.navigate", self.session, url=url)
@@ -199,6 +242,21 @@ class Chromium(Browser):
                         timeout=ANSWERS_WITHIN * 1000)
         assert "exceptionDetails" not in said, (script[:300], said["exceptionDetails"])
         return said["result"].get("value")
+
+    def longest_task(self, act):
+        """The longest task of the page's own thread while something is done, in milliseconds of the processor."""
+        self.traced = []
+        self.ask("Tracing.start", traceConfig={"includedCategories": ["toplevel", "__metadata"],
+                                               "excludedCategories": ["*"]})
+        act()
+        self.ask("Tracing.end")
+        while None not in self.traced:
+            self.run("0")
+        events = [event for event in self.traced if event]
+        threads = {(event["pid"], event["tid"]) for event in events if event["name"] == "thread_name"
+                   and event["args"]["name"] == "CrRendererMain"}
+        return max(event.get("tdur", 0) / 1000 for event in events if event["ph"] == "X"
+                   and (event["pid"], event["tid"]) in threads and "RunTask" in event["name"])
 
     def resize(self, width, height, is_phone=False):
         self.ask("Emulation.setDeviceMetricsOverride", self.session, width=width, height=height, deviceScaleFactor=1,
@@ -231,12 +289,32 @@ class Chromium(Browser):
 
     def press(self, *keys):
         for key in keys:
-            code = KEYS.get(key, ("", 0))[1] or ord(key.upper()[0])
+            code = KEYS.get(key, ("", 0))[1] or (ord(key.upper()) if key.isalnum() and key.isascii() else 0)
             text = {"Enter": "\r"}.get(key, key if len(key) == 1 else "")
             more = {"key": key, "windowsVirtualKeyCode": code, "modifiers": 8 if key.isupper() and len(key) == 1 else 0}
             kind = "keyDown" if text else "rawKeyDown"
             self.ask("Input.dispatchKeyEvent", self.session, type=kind, text=text, **more)
             self.ask("Input.dispatchKeyEvent", self.session, type="keyUp", **more)
+
+    def select_all(self):
+        """Selects all of the text where the cursor is."""
+        for kind in ("rawKeyDown", "keyUp"):
+            more = {"commands": ["selectAll"]} if kind == "rawKeyDown" else {}
+            self.ask("Input.dispatchKeyEvent", self.session, type=kind, key="a", windowsVirtualKeyCode=65, modifiers=2,
+                     **more)
+
+    def tab_back(self):
+        """Goes to the control before."""
+        for kind in ("rawKeyDown", "keyUp"):
+            self.ask("Input.dispatchKeyEvent", self.session, type=kind, key="Tab", windowsVirtualKeyCode=9, modifiers=8)
+
+    def finger(self, *places):
+        """A finger that comes down, moves, and goes up."""
+        for kind, (x, y) in zip(("touchStart", *["touchMove"] * len(places)), (*places, places[-1])):
+            self.ask("Input.dispatchTouchEvent", self.session, type=kind, touchPoints=[{"x": x, "y": y}])
+            # One that goes up while it moves is a fling, and the browser takes the next tap as its end.
+            time.sleep(0.05)
+        self.ask("Input.dispatchTouchEvent", self.session, type="touchEnd", touchPoints=[])
 
     def upload(self, selector, file):
         root = self.ask("DOM.getDocument", self.session)["root"]["nodeId"]
@@ -326,6 +404,23 @@ class Firefox(Browser):
             actions += [{"type": "keyDown", "value": value}, {"type": "keyUp", "value": value}]
         self.ask("input.performActions", context=self.context,
                  actions=[{"type": "key", "id": "keys", "actions": actions}])
+
+    def press_with(self, held, key):
+        keys = [("keyDown", held), ("keyDown", key), ("keyUp", key), ("keyUp", held)]
+        self.ask("input.performActions", context=self.context, actions=[
+            {"type": "key", "id": "keys", "actions": [{"type": kind, "value": value} for kind, value in keys]}])
+
+    def select_all(self):
+        self.press_with("\ue009", "a")
+
+    def tab_back(self):
+        self.press_with("\ue008", KEYS["Tab"][0])
+
+    def finger(self, *places):
+        (x, y), *others = places
+        moves = [{"type": "pointerMove", "x": a, "y": b, "duration": 20} for a, b in others]
+        self.pointer([{"type": "pointerMove", "x": x, "y": y}, {"type": "pointerDown", "button": 0}, *moves,
+                      {"type": "pointerUp", "button": 0}], "touch")
 
     def upload(self, selector, file):
         found = self.ask("browsingContext.locateNodes", context=self.context,

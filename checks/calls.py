@@ -1,10 +1,10 @@
 #!/usr/bin/env python3
-"""calls.py: compares docs/CALLS.md, the list of what each call promises, with the source.
+"""calls.py: compares docs/CALLS.md, the index of all functions with a contract, with the source.
 
-    checks/calls.py [--write]      with --write the page is written anew
+    checks/calls.py [--write]      with --write the page is written again
 
-The page has each public function of each crate that has a contract, and of a program those that its modules share. It
-has the first sentence of the function's own comment, and the names of the clauses that the gate proves.
+The page has each public function of each crate that has a contract, and for a program those that its modules share.
+Each of them needs a comment.
 """
 import dataclasses
 import pathlib
@@ -15,13 +15,11 @@ import textwrap
 TOP = pathlib.Path(__file__).resolve().parent.parent
 CRATES, PAGE = TOP / "crates", TOP / "docs/CALLS.md"
 WIDTH = 120
-HEAD = """# Calls
+HEAD = """# Functions with a contract
 
-Each row is a function whose contract the gate proves, with the first sentence of its comment and the names of its
-clauses. A clause without a name is a contract of one clause. Follow the link for the contract itself. `checks/calls.py
---write` makes this page from the source.
-
-[PROVED.md](PROVED.md) says what the headline contract means, and lists what no clause says.
+This index has each public function with a contract, and the methods of the crates' own traits. `rt ci` proves them all.
+Follow a link to the file: a comment above each function says what it does, and its clauses state it exactly.
+[CONTRACTS.md](CONTRACTS.md) explains the notation. `checks/calls.py --write` makes this page from the source.
 """
 # Crates that only test, measure or show the others.
 LEFT_OUT = re.compile(r"dw_(tests_\w+|bench|example)$")
@@ -34,34 +32,22 @@ BLOCK = re.compile(
 class Call:
     name: str
     file: pathlib.Path
-    comment: str
-    clauses: list
-
-    def row(self):
-        link = f"[`{self.name}`](../{self.file.relative_to(TOP)})"
-        names = ", ".join(f"`{name}`" for name in self.clauses if name)
-        clauses = f" Clauses: {names}." if names else ""
-        text = f"{link}: {self.comment}{clauses}"
-        return textwrap.fill(text, WIDTH, initial_indent="- ", subsequent_indent="  ", break_long_words=False,
-                             break_on_hyphens=False)
 
 
-def first_sentence(comment):
-    """Up to the first full stop that ends a sentence; what is in backquotes ends none."""
-    text = " ".join(comment)
-    text = re.split(r" ?(?:Example:|See \[|# Errors)", text)[0].strip()
-    masked = re.sub(r"`[^`]*`", lambda found: "x" * len(found[0]), text)
-    end = re.search(r"[.:](?= |$)", masked)
-    text = text[: end.start()] if end else text
-    return re.sub(r"\[(`[^`]*`)\]\([^)]*\)", r"\1", text).replace("[`", "`").replace("`]", "`") + "."
+def row(file, calls):
+    """A file with its functions."""
+    shown = file.relative_to(TOP).parts[3:]
+    names = ", ".join(f"`{call.name}`" for call in calls)
+    return textwrap.fill(f"[{'/'.join(shown)}](../{file.relative_to(TOP)}): {names}", WIDTH, initial_indent="- ",
+                         subsequent_indent="  ", break_long_words=False, break_on_hyphens=False)
 
 
 def calls_of(file, is_program):
-    found, comment, block, lines = [], [], "", file.read_text().splitlines()
+    found, has_comment, block, lines = [], False, "", file.read_text().splitlines()
     for number, line in enumerate(lines):
         stripped = line.strip()
         if stripped.startswith("///"):
-            comment.append(stripped[3:].strip())
+            has_comment = True
             continue
         if named := BLOCK.match(line):
             # Of a trait's implementation the contract is the trait's.
@@ -73,27 +59,24 @@ def calls_of(file, is_program):
             inside = bool(function[1])
             is_shown = function[2] == "pub " or (is_program and function[2]) or (inside and block and is_trait)
             if is_shown and not (inside and is_impl_of_trait):
-                clauses = ensured(lines, number)
-                if clauses and comment:
+                if is_ensured(lines, number):
                     name = f"{block}::{function[3]}" if inside and block else function[3]
-                    found.append(Call(name, file, first_sentence(comment), clauses))
+                    assert has_comment, f"{file}: {name} has no comment"
+                    found.append(Call(name, file))
         if not stripped.startswith("#["):
-            comment = []
+            has_comment = False
     return found
 
 
-def ensured(lines, number):
-    """The names of the clauses of the function that begins there; '' for a clause without a name."""
-    names = []
+def is_ensured(lines, number):
+    """Whether the function that begins there has a clause."""
     for line in lines[number:]:
         stripped = line.strip()
-        if clause := re.match(r"ensures (?:(\w+) )?\{", stripped):
-            names.append(clause[1] or "")
-        if stripped == "{" or stripped.endswith(" {") and not stripped.startswith(("ensures", "requires")):
-            break
-        if stripped == "{}" or (names and stripped.endswith(";") and not stripped.startswith("ghost")):
-            break
-    return names
+        if re.match(r"ensures (?:(\w+) )?\{", stripped):
+            return True
+        if stripped in ("{", "{}") or stripped.endswith(" {") and not stripped.startswith("requires"):
+            return False
+    return False
 
 
 def crates():
@@ -108,10 +91,13 @@ def page():
         src = CRATES / crate / "src"
         is_program = (src / "main.rt").is_file()
         root = (src / ("main.rt" if is_program else "lib.rt")).read_text()
-        title = re.search(r"^//! (.*?)[.:]?$", root, re.MULTILINE)[1]
-        calls = [call for file in sorted(src.rglob("*.rt")) for call in calls_of(file, is_program)]
-        if calls:
-            parts.append(f"## {crate}\n\n{title}.\n\n" + "\n".join(call.row() for call in calls) + "\n")
+        front = re.match(r"(?:#!\[.*\n|\n)*((?://! .*\n)+)", root)[1]
+        title = " ".join(line.removeprefix("//! ") for line in front.splitlines()).rstrip(".:")
+        files = [(file, calls_of(file, is_program)) for file in sorted(src.rglob("*.rt"))]
+        rows = [row(file, calls) for file, calls in files if calls]
+        if rows:
+            about = textwrap.fill(f"{title}.", WIDTH, break_long_words=False, break_on_hyphens=False)
+            parts.append(f"## {crate}\n\n{about}\n\n" + "\n".join(rows) + "\n")
     return "\n".join(parts)
 
 

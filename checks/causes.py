@@ -1,11 +1,11 @@
 #!/usr/bin/env python3
-"""causes.py: runs `dw list` with each pair of causes that end it otherwise than well, and compares how it ends.
+"""causes.py: runs `dw list` with each pair of causes that end it early, and compares how it ends.
 
     checks/causes.py
 
-The causes come in this order: the words are wrong, the token can not be read, there is no memory for the memo, the file
-can not be opened; then, in the run, a read fails, a write fails, the limit stops the search. A problem that is refused
-or is not there, and a line that is refused, count only if the run ends by itself.
+The causes come in this order: the arguments are wrong, the token cannot be read, there is no memory for the cache, the
+file cannot be opened; then, in the run, a read fails, a write fails, the limit stops the search. A refused or missing
+problem and a refused line count only if the run ends by itself.
 """
 import itertools
 import pathlib

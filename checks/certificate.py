@@ -1,10 +1,10 @@
 #!/usr/bin/env python3
-"""Reads a certificate of dw-desk, from FILE or standard input, and says whether it is right.
+"""Checks a certificate of dw-desk from FILE or standard input.
 
 It is installed as dw-certificate.
 
-It knows the rules of the game and nothing of the programs: no search is made, and no other module is used. It writes
-`right`, status 0, or the first line that is not right, its number and why, status 1. Status 3: it can not be read.
+It has its own rules of the game, makes no search and uses no other module. It prints `right`, status 0, or the first
+wrong line with its number and the reason, status 1. Status 3: the file cannot be read.
 """
 
 import functools

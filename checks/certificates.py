@@ -1,15 +1,15 @@
 #!/usr/bin/env python3
-"""certificates.py: has certificate.py check the certificates that `dw-desk certify` writes, and refuse broken ones.
+"""certificates.py: lets certificate.py check the certificates of `dw-desk certify`, and refuse broken ones.
 
     checks/certificates.py [--count POSITIONS | --sizes]
 
-The problems of examples/ are certified within a few moves, and so many random small positions (100 on each board if not
-said) within 1 to 3: each certificate has to be right, and to answer as the recursion of wins.py does. Then lines are
-changed, doubled and left out: certificate.py has to refuse each of these, at the right line. At last come the faults
-of the command, with their statuses: nothing is written then.
+It certifies the problems of examples/ within a few moves, and random small positions (100 on each board by default)
+within 1 to 3. Each certificate must be right and give the answer of the recursion in wins.py. Then lines are changed,
+doubled and removed, and certificate.py must refuse each text at the right line. The errors of the command come last:
+they write nothing to standard output.
 
-With --sizes it has the certificates of the forty problems of `dw_bench` checked, of a win and of none in a move less,
-and writes the table of their sizes in docs/BENCHMARKS.md.
+--sizes checks the certificates of the forty problems of `dw_bench`, for a win and for none in a move less, and prints
+the table of their sizes in docs/BENCHMARKS.md.
 """
 import pathlib
 import random

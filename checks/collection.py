@@ -3,17 +3,17 @@
 
     checks/collection.py [--count PROBLEMS]
 
-It prints the first five problems, or as many as are asked for. The whole file is what it prints with --count 100.
+It prints the first five problems, or --count of them. The whole file is its output with --count 100.
 
-The problems are grown backwards. A position that White wins in one move is drawn at random. Then a last move of Black's
-and one of White's before it are taken back at random, and `dw judge` says whether White wins from there in one move
-more, and how. What is sound grows on. An endgame begins with up to five scattered pieces. A combination begins with a
-path of five captures or more by one piece of White's, and each turn that is taken back left Black one reply alone.
+Problems grow backwards. A random position that White wins in one move is the start. Random last moves of Black and
+White are taken back, and `dw judge` says whether White wins from there in one move more. Sound positions grow on. An
+ending starts with up to five scattered pieces. A combination starts with a path of at least five captures by one white
+piece, and each earlier turn left Black only one reply.
 
-KINDS has what is chosen: so many of each growth, verdict and number of moves, with so many pieces on each side. Keys
-that are no capture come before others, problems with a try before those without, fewer pieces before more, and more
-tries before fewer. No two problems of a kind have the same numbers of men and kings. No two problems grew from the same
-beginning. No solution has more than MOST_LINES lines. Each fifth problem is turned round, so that Black wins.
+KINDS says how many problems of each growth, verdict and number of moves are chosen, with how many pieces a side. Quiet
+keys come first, then problems with tries, fewer pieces and more tries. No two problems of a kind have the same numbers
+of men and kings, and no two grew from the same start. No solution has more than MOST_LINES lines. Each fifth problem is
+turned round, so that Black wins.
 """
 import collections
 import dataclasses
@@ -279,7 +279,7 @@ def turned(cells):
 def section(number, one):
     """A problem as a section of a PDN file."""
     text = fen(turned(one.cells), "B") if number % 5 == 0 else one.text
-    return f'[Event "Fombakir collection"]\n[Round "{number}"]\n[White "Search, seed {SEED}"]\n[FEN "{text}"]\n*\n'
+    return f'[Event "Fombakir collection"]\n[Round "{number}"]\n[FEN "{text}"]\n*\n'
 
 
 def collection(count):

@@ -1,19 +1,17 @@
 #!/usr/bin/env python3
-"""definitions.py: counts the definitions that a reader of the main contracts has to believe, and compares
-docs/PROVED.md and docs/DEFINITIONS.md.
+"""definitions.py: counts the definitions of the main contracts, and compares docs/PROVED.md and docs/DEFINITIONS.md.
 
     checks/definitions.py [--list] [--write]      with --list it prints the names, file by file
 
-A contract names definitions of specs/, these name others, and so on: all of them count, with their comments, without
-imports and blank lines. The table in docs/PROVED.md has to give the same numbers. The files of one contract are told
-by their lines, too. docs/DEFINITIONS.md has those of `run` with their comments, as reading_order.py makes it of specs/
-and src/; with --write it is written anew.
+A contract names definitions of specs/, these name others, and so on. All of them count, with their comments, without
+imports and blank lines. The table in docs/PROVED.md must have the same numbers. docs/DEFINITIONS.md has those of `run`
+with their comments, as reading_order.py makes it; --write writes it again.
 
-No contract of a public item of a layer may lead to a definition of specs/inner, and each other definition has to be one
-that some public contract leads to. The exception is a definition that is sealed, as its comment says: contracts name
-it, but say themselves all that is to be known of it, and so it is not followed; no other crate may unfold it. What
-public contracts lead to names no type of the code that is not public, and no crate cites the proofs of another one.
-Beside that no line in src and specs of any crate may have more than 120 columns.
+No public contract of a layer may lead to a definition of specs/inner, and every other definition must be reached by
+some public contract. The exception is a sealed definition, as its comment says: contracts name it and state everything
+that is known of it, so it is not followed, and no other crate may unfold it. Definitions of public contracts name only
+public types of the code, and no crate cites the proofs of another one. No line in src and specs may have more than 120
+columns.
 """
 import dataclasses
 import pathlib

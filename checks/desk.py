@@ -1,14 +1,13 @@
 #!/usr/bin/env python3
-"""desk.py: compares `dw-desk find` with calls of `dw judge`, looks at its portions, bounds, errors and progress, and
-goes on with lists by `dw-desk token`.
+"""desk.py: compares `dw-desk find` with `dw judge`, and tests portions, bounds, errors, progress and tokens.
 
     checks/desk.py [--count POSITIONS]
 
-For random small positions (250 on each board if not said) `dw judge` is asked for 1 move, 2 and so on; the first
-verdict with a win, or the last one, has to be what `find` writes, byte for byte, and what its lines of JSON say. The
-portions of a file that are joined in order are the whole. A bound on the positions of each problem leaves some
-undecided, each at a number at which there is no win; and it counts from the beginning of each problem, whatever came
-before. At a terminal a line shows how far a long search is, and is gone at the end; nothing of it comes to a file.
+For random small positions (250 on each board by default) it asks `dw judge` for 1 move, 2 and so on. The first verdict
+with a win, or the last one, must be the output of `find`, byte for byte, and agree with its JSON. The joined portions
+of a file must be the whole. A bound on each problem leaves some undecided, each at a number without a win, whatever
+came before. At a terminal a line shows the progress of a long search, and disappears at the end; it never reaches a
+file.
 """
 import json
 import os
@@ -199,13 +198,14 @@ def check_errors():
         assert (ran.returncode, ran.stdout) == (2, "") and ran.stderr.startswith("error: "), (words, ran)
     for words in (["find"], ["check"], ["solution", "-n", "2"], ["page", "-n", "2"], ["certify", "-n", "2"],
                   ["mend", "-n", "2"], ["moves", "-n", "2"], ["solution", "--most", "2"], ["check", "--faults"],
-                  ["token", "--line", "x"]):
+                  ["solution", "-n", "2", "--json"], ["token", "--line", "x"]):
         assert run(DESK, *words, "--problem", "2", text="W:W32:B28\n", status=1,
                    complaint="dw-desk: no problem 2\n") == "", words
     run(DESK, "find", "/none/there", status=3, complaint="dw-desk: cannot open /none/there\n")
     text = b'[FEN "W:W32:B28"] 1. 32x23 *\n'
     for words in (["find", "--pdn"], ["check"], ["solution", "--pdn", "-n", "1"], ["page", "--pdn", "-n", "1"],
-                  ["certify", "--pdn", "-n", "1"], ["mend", "--pdn", "-n", "1"], ["moves", "--pdn", "-n", "1"],
+                  ["solution", "--pdn", "-n", "1", "--json"], ["certify", "--pdn", "-n", "1"],
+                  ["mend", "--pdn", "-n", "1"], ["moves", "--pdn", "-n", "1"],
                   ["token", "--pdn", "--line", "32x23"]):
         with open("/dev/full", "w", encoding="ascii") as full:
             ran = subprocess.run([DESK, *words], input=text, stdout=full, stderr=subprocess.PIPE, timeout=60,

@@ -1,17 +1,16 @@
 #!/usr/bin/env python3
-"""docs.py: compares what the documents name with what is there: links, definitions, the headline, FEN texts, verdicts.
+"""docs.py: compares the documents with the repository: links, definitions, the headline, examples with their answers.
 
     checks/docs.py
 
-Each link of the pages has to lead to a file, and to a heading of it, and each file named there has to exist. No line
-there has more than 120 columns. The contract in docs/PROVED.md has to be that of `run`, word for word, and each
-definition in docs/DEFINITIONS.md has to stand in the file that is named for it. The rows on FEN texts in
-docs/FORMATS.md have to be what `dw show` answers, the program in docs/LIBRARY.md that of the crate `dw_example`, and
-the problems in docs/REPORT.md have to have the diagrams, verdicts and lines that stand there. Where README.md,
-docs/DESK.md and docs/COMPOSERS.md show a call as `$ echo FEN | ./PROGRAM WORDS` and its answer below, it has to answer
-that; other calls there are not tried. The diagram docs/diagram.svg has to be what `dw-desk page` draws of its position,
-in the page's style. Each function on the ways in docs/ARCHITECTURE.md has to be in the file that is named
-for it; each crate has to be named there, with files that it has.
+Every link must lead to a file and a heading, and every named file must exist. No line has more than 120 columns. The
+contract in docs/PROVED.md must be that of `run`, word for word, the quoted contracts in docs/CONTRACTS.md must stand in
+their files, and each definition in docs/DEFINITIONS.md in its file. `dw show` must give the answers to the FEN texts of
+docs/FORMATS.md. The program in docs/LIBRARY.md must be the crate `dw_example`. The problems in docs/REPORT.md must have
+their diagrams, verdicts and tries. Each call `$ echo FEN | ./PROGRAM WORDS` in README.md, docs/DESK.md and
+docs/COMPOSERS.md must give the answer below it. docs/diagram.svg must be the diagram that `dw-desk page` draws. Each
+function on the ways in docs/ARCHITECTURE.md must be in its file, and each crate must be named there, with files that it
+has.
 """
 import pathlib
 import re
@@ -20,10 +19,12 @@ import subprocess
 
 TOP = pathlib.Path(__file__).resolve().parent.parent
 DW = TOP / "dw"
-TEXTS = [TOP / "README.md", TOP / "CHANGELOG.md", TOP / "examples/README.md", *sorted((TOP / "docs").glob("*.md"))]
+TEXTS = [*(TOP / name for name in ("README.md", "CONTRIBUTING.md", "CHANGELOG.md", "examples/README.md")),
+         *sorted((TOP / "docs").glob("*.md"))]
 README, PROVED, DEFINITIONS, FORMATS, REPORT, DESK, COMPOSERS = TOP / "README.md", *(
     TOP / f"docs/{name}.md" for name in ("PROVED", "DEFINITIONS", "FORMATS", "REPORT", "DESK", "COMPOSERS"))
 RUN = TOP / "crates/dw_report/src/run.rt"
+CONTRACTS = TOP / "docs/CONTRACTS.md"
 ARCHITECTURE, LIBRARY, EXAMPLE = TOP / "docs/ARCHITECTURE.md", TOP / "docs/LIBRARY.md", TOP / "crates/dw_example"
 DIAGRAM = TOP / "docs/diagram.svg"
 LINK = re.compile(r"\[[^\]]*\]\(([^)\s]+)\)")
@@ -74,6 +75,19 @@ def check_headline():
     differing = [pair for pair in zip(contract, block) if pair[0] != pair[1]]
     assert contract == block, f"docs/PROVED.md has another contract of run: {differing[:1]}"
     print(f"the contract of run: {len(block)} words, the same")
+
+
+def check_quotes():
+    """Each line that docs/CONTRACTS.md quotes stands in the file that the text before it links to last."""
+    text, count = CONTRACTS.read_text(), 0
+    for block in re.finditer(r"^```\n(.*?)^```", text, re.MULTILINE | re.DOTALL):
+        link = [name for name in LINK.findall(text[: block.start()]) if name.endswith((".rt", ".antt"))][-1]
+        lines = (TOP / "docs" / link).read_text().splitlines()
+        for line in block[1].splitlines():
+            assert line in lines, f"docs/CONTRACTS.md: {link} has no line {line}"
+            count += 1
+    assert count > 10, count
+    print(f"docs/CONTRACTS.md: {count} lines, each in its file")
 
 
 def blocks(text):
@@ -179,7 +193,7 @@ def check_diagram():
 
 def check_ways():
     """Each function on the way of a problem stands in the file that is named for it."""
-    ways = ARCHITECTURE.read_text().split("\nWhat `dw-desk check` does")
+    ways = ARCHITECTURE.read_text().split("\n### The way of a solution")
     for way, most in zip(ways, (30, 45), strict=True):
         rows = re.findall(r"^\| `([\w:]+)` \| `([\w/.]+)` \| ", way, re.MULTILINE)
         assert 20 < len(rows) <= most, f"ARCHITECTURE.md: {len(rows)} functions on a way"
@@ -221,6 +235,7 @@ def main():
     check_crates()
     check_example()
     check_headline()
+    check_quotes()
     check_definitions()
     check_fen_texts()
     check_verdicts()

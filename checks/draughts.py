@@ -1,8 +1,8 @@
-"""draughts.py: the rules of the game, as docs/RULES.md tells them, for the checks that compare the programs with plain
-recursion. It shares nothing with the programs.
+"""draughts.py: the rules of the game as in docs/RULES.md, for checks that compare the programs with plain recursion. It
+shares nothing with the programs.
 
 A position is a dict from squares to pieces, and the side to move, `W` or `B`. A piece is its side and whether it is a
-king. A move is the square that it starts from, the one that it ends on, and the frozen set of squares that it takes.
+king. A move is its start, its end, and the frozen set of the squares that it takes.
 """
 
 WAYS = [(-1, -1), (-1, 1), (1, -1), (1, 1)]

@@ -1,16 +1,15 @@
 #!/usr/bin/env python3
-"""edits.py: tries the edits that the gate leaves out. The prover has to refuse each.
+"""edits.py: tries the edits that the gate leaves out. The prover must refuse each.
 
     python3 checks/edits.py [CRATE ..]      without a name: each crate that has a folder in checks/edits
 
 `rt ci` tries those in crates/CRATE/must-fail; more of them would take it too long. Those in checks/edits/CRATE have the
-same form. This program copies the tracked files, as they are now, to a temporary folder, puts these edits in the place
-of the gate's, and runs `rt must-fail` there over all of them, which tries as many side by side as there are processors
-and memory for, and says at its end what came of each. This program ends with 0 if the prover refused every edit. What
-`rt lib` or `rt check` kept in crates/*/out is copied too. `rt lib` is run first in the crates named and in those that
-they stand on, lowest first, which takes minutes for each of which nothing is kept. After that an edit takes 15 to 40 s.
+same form. This program copies the tracked files to a temporary folder, puts these edits in place of the gate's, and
+runs `rt must-fail` over all of them. The status is 0 if the prover refused every edit. The kept work of `rt lib` and
+`rt check` in crates/*/out is copied too. First `rt lib` runs in the crates and those below them, which takes minutes
+for each crate without kept work. After that an edit takes 15 to 40 s.
 
-Files there that end in .borrow hold uses that must not compile, which borrow.py tries.
+borrow.py tries the files that end in .borrow.
 """
 import concurrent.futures
 import os

@@ -1,16 +1,14 @@
 #!/usr/bin/env python3
-"""examples.py: compares the answers in examples/ with what the programs write, and runs the examples of their helps.
+"""examples.py: compares the answers in examples/ with the programs' output, and runs the examples of the help texts.
 
     checks/examples.py
 
-The tables in examples/README.md have each answer and its command. It has to be what the program writes, and what the
-bare recursion of judging.py makes of the positions, or that of solutions.py of the solutions; of examples/games.pdn
-bad_input.py tells these, and what is refused. Each file of problems has to have an answer. Each example of `dw --help`,
-`dw show --help` and so on, a line that begins with two blanks and `dw` or `echo`, has to end with status 0 or 1 and
-with nothing on standard error; so has each of `dw-desk`.
+examples/README.md has each answer and its command. The answer must be the output of the command, and that of the plain
+recursion in judging.py or solutions.py; for examples/games.pdn bad_input.py has the refusals. Each problem file needs
+an answer. Each example of a help text must end with status 0 or 1 and nothing on standard error.
 
-In examples/collection.pdn `dw-desk find` has to find the verdicts that stand there, and `dw-desk check` nothing. Those
-that the bare recursion can judge have to be what it says. The page beside it has to be that of its command.
+In examples/collection.pdn `dw-desk find` must find the stated verdicts, and `dw-desk check` nothing to remark. Plain
+recursion must agree for those that it can judge. The page beside it must be the output of its command.
 """
 import argparse
 import pathlib

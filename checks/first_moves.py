@@ -1,13 +1,12 @@
 #!/usr/bin/env python3
-"""first_moves.py: compares what `dw-desk moves` says with a recursion over all moves on a generator of its own.
+"""first_moves.py: compares `dw-desk moves` with a recursion over all moves on an independent generator.
 
     checks/first_moves.py [--count POSITIONS]
 
-For so many random small positions (30 on each board if not said), within 1, 2 or 3 moves, the recursion of judging.py
-tells of each legal move the least number of moves with which it wins, or all replies that refute it. The lines have to
-be the same, in the same order, with the same count, whatever memo is taken, and so has the line of JSON. So have those
-of each part; the parts put together are the whole, and the moves that win are the keys of `dw judge`. At last come the
-worked position, and the faults of the command.
+For random small positions (30 on each board by default), within 1, 2 or 3 moves, the recursion of judging.py finds for
+each legal move the least number of moves in which it wins, or all replies that refute it. The output must be the same,
+in the same order, with the same count, with each cache, as text and as JSON. The parts joined must be the whole, and
+the winning moves the keys of `dw judge`. The errors of the command come last.
 """
 import json
 import pathlib

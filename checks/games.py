@@ -1,13 +1,15 @@
 #!/usr/bin/env python3
-"""games.py: compares the games that `dw-desk solution` writes with lists of lines, and reads them again.
+"""games.py: compares the games of `dw-desk solution` with lists of lines, and reads them again.
 
     checks/games.py [--count POSITIONS]
 
-For random small positions (100 on each board if not said) with a win, and some without one, a movetext is put together
-here from the lines that `dw list` writes: what `solution` writes has to be the same, byte for byte, with all lines and
-with a few. The reader of solutions.py finds just these lines in it, and `dw-desk check` has nothing to remark. A game
-keeps the tags of its section. A solution that is too long is cut behind the last line with which it is not.
+For random small positions (100 on each board by default) it makes a movetext from the lines of `dw list`. The output of
+`solution` must be the same, byte for byte, with all lines and with a few. The reader of solutions.py must find exactly
+these lines in it, and `dw-desk check` nothing to remark. The JSON must have the moves of the movetext, each with its
+depth and the position after it. A game keeps the tags of its section. A solution that is too long is cut after the last
+line that fits.
 """
+import json
 import pathlib
 import random
 import re
@@ -15,7 +17,7 @@ import subprocess
 import tempfile
 
 import solutions
-from draughts import Board, fen
+from draughts import Board, fen, other, play
 from judging import Problems, TooMany, count_asked
 from wins import drawn
 
@@ -49,6 +51,13 @@ KEPT = """[Event "a \\"b\\""]
 {sound in 2} 1... 29-33 2. 43-38 (2. 43-39 33x44) 2... 33x42 0-2
 
 """
+ROW = ('{"problem":1,"fen":"W:W27,32:B18","n":2,"verdict":"dual","more":false,"moves":[{"depth":1,"move":"32-28","fen":'
+       '"B:W27,28:B18"},{"depth":2,"move":"18-22","fen":"W:W27,28:B22"},{"depth":3,"move":"27x18","fen":"B:W18,28:B"},'
+       '{"depth":3,"move":"28x17","fen":"B:W17,27:B"},{"depth":2,"move":"18-23","fen":"W:W27,28:B23"},{"depth":3,'
+       '"move":"28x19","fen":"B:W19,27:B"}]}\n')
+ROW_CUT = ('{"problem":1,"fen":"W:W27,32:B18","n":2,"verdict":"dual","more":true,"moves":[{"depth":1,"move":"32-28",'
+           '"fen":"B:W27,28:B18"},{"depth":2,"move":"18-22","fen":"W:W27,28:B22"},{"depth":3,"move":"27x18","fen":'
+           '"B:W18,28:B"}]}\n')
 CUT = '[GameType "20"]\n[FEN "W:W27,32:B18"]\n\n{dual in 2} 1. 32-28 18-22 2. 27x18 (2. 28x17) {more} 2-0\n\n'
 
 
@@ -102,6 +111,24 @@ def movetext(verdict, lines, more, turn):
     result = ("2-0" if turn == "W" else "0-2") if lines else "*"
     words = words_of(tree, int(turn == "B"), True)
     return filled([f"{{{verdict}}}", *words, *(["{more}"] if more else []), result])
+
+
+def placed(problems, tree, cells, turn, depth=1):
+    """The moves of a tree of texts: each before all that go on after it, with the position after it."""
+    moves = {problems.text(cells, turn, move): move for move, _ in problems.moves(cells, turn)}
+    for text, rest in tree.items():
+        after = play(problems.board, cells, moves[text])
+        yield {"depth": depth, "move": text, "fen": fen(after, other(turn))}
+        yield from placed(problems, rest, after, other(turn), depth + 1)
+
+
+def row(number, entry, game, lines, more):
+    """The line of JSON of a position with these lines, whose game this is."""
+    cells, turn, problems = entry
+    verdict, n = re.search(r"\{(\w+) in (\d+)\}", game).groups()
+    moves = list(placed(problems, solutions.tree_of(lines), cells, turn))
+    return json.dumps({"problem": number, "fen": fen(cells, turn), "n": int(n), "verdict": verdict, "more": more,
+                       "moves": moves}, separators=(",", ":")) + "\n"
 
 
 def expected(positions, rows, n, most):
@@ -159,6 +186,12 @@ def check_random(rows, count, source):
                 least = ["--most", str(MOST), "--board", str(rows), "--lines", str(most)]
                 assert run(DESK, "solution", *least, text=text) == games, (rows, n)
             parts = GAME.findall(written)
+            wanted = "".join(row(number, entry, game, [moves_of(line) for line in lines], end.startswith("more"))
+                             for number, (entry, (_, game), (lines, end)) in
+                             enumerate(zip(entries, parts, lists, strict=True), 1))
+            said = run(DESK, "solution", "--json", *words, "--lines", str(most), text=text)
+            assert said == wanted, next(pair for pair in zip(said.splitlines(), wanted.splitlines())
+                                        if pair[0] != pair[1])
             for (cells, turn, problems), (_, game), (lines, _) in zip(entries, parts, lists):
                 assert all(len(row) <= COLUMNS for row in game.splitlines()), game
                 if lines:
@@ -180,6 +213,12 @@ def check_rows():
     """Tags that are kept, a refused problem, Black's win, and a list that is cut."""
     assert run(DESK, "solution", "-n", "2", "--pdn", text=TAGGED, status=1) == KEPT
     assert run(DESK, "solution", "-n", "2", "--lines", "2", text="W:W27,32:B18\n") == CUT
+    assert run(DESK, "solution", "-n", "2", "--json", text="W:W27,32:B18\n") == ROW
+    assert run(DESK, "solution", "--most", "6", "--json", "--lines", "1", text="W:W27,32:B18\n") == ROW_CUT
+    assert run(DESK, "solution", "-n", "1", "--json", text="W:W27,32:B18\n") == (
+        '{"problem":1,"fen":"W:W27,32:B18","n":1,"verdict":"unsolvable","more":false,"moves":[]}\n')
+    assert run(DESK, "solution", "-n", "2", "--json", "--pdn", "--problem", "2", text=TAGGED, status=1) == (
+        '{"problem":2,"refused":"1 fen: 7 last row at 4"}\n')
     part = run(DESK, "solution", "-n", "2", "--pdn", "--problem", "3-9", text=TAGGED)
     assert KEPT.endswith(part) and part.startswith("[GameType"), part
     print("tags, a refused problem, Black's win, a list that is cut: as worked")
@@ -196,7 +235,11 @@ def check_long(folder):
     lines = texts_of(run(DW, "list", "-n", str(LONG_MOVES), "--lines", str(many + 1), str(file)))[0].splitlines()[:-1]
     assert game == movetext(verdict, lines[:many], True, "W") and len(game) <= MOST_BYTES, (len(game), many)
     assert len(movetext(verdict, lines, True, "W")) > MOST_BYTES, many
-    print(f"{LONG}: cut behind {many} lines, with {len(game)} bytes")
+    said = json.loads(run(DESK, "solution", "--json", "-n", str(LONG_MOVES), "--lines", "1000000", str(file)))
+    words = [word.strip("()") for word in re.sub(r"\{[^}]*\}", "", game).split()]
+    moves = [word for word in words if not word.endswith(".") and word not in solutions.RESULTS]
+    assert said["more"] and sorted(move["move"] for move in said["moves"]) == sorted(moves), many
+    print(f"{LONG}: cut after {many} lines, with {len(game)} bytes; its line of JSON has the same {len(moves)} moves")
 
 
 def main():

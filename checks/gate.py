@@ -1,13 +1,13 @@
 #!/usr/bin/env python3
-"""gate.py: calls `./check` in copies whose `rt ci` and checks only say numbers, and compares its last line, its end,
-and what it says if a Debian package is missing.
+"""gate.py: runs `./check` in copies whose `rt ci` and checks only print numbers, and compares its last line, its
+status, and its message if a Debian package is missing.
 
     checks/gate.py
 
-Each row has what `rt ci` and checks/all.py say last and how they end, and what `./check` has to make of it. Of missing
-packages those that can not be installed have to be named, and nothing is run then; those that can are installed by an
-`apt-get` that only writes down what it is asked for, behind an update if the first try fails, and no server may be
-started by that. What stands in checks/packages.txt has to be names of packages.
+Each row has the last lines and statuses of `rt ci` and checks/all.py, and the right result of `./check`. Missing
+packages that cannot be installed must be named, and nothing runs then. Others are installed by an `apt-get` that only
+records its arguments, after an update if the first try fails, and no server may start. checks/packages.txt must have
+names of packages only.
 """
 import os
 import pathlib

@@ -1,14 +1,13 @@
 #!/usr/bin/env python3
-"""installing.py: installs the programs into folders of their own, by `./install` and as a Debian package, runs them
-there with nothing but the C library, and takes them away again.
+"""installing.py: installs the programs by `./install` and as a Debian package, runs them with only the C library, and
+uninstalls them.
 
     checks/installing.py
 
-What is installed has to be the files that belong there and no more, with the bytes of the repository. The programs run
-there with no environment, as another user, and give the answers of examples/. After `--uninstall`, and after the
-package is removed, nothing of it is left, and what lay there before is. The package is installed into a root of its
-own, whose C library is the one of this machine, so that what it depends on counts. To run as another user this has to
-be started by root, or by a user who may call `sudo` without a password.
+The installed files must be exactly the right ones, with the bytes of the repository. The programs run without an
+environment, as another user, and give the answers of examples/. After `--uninstall`, and after the package is removed,
+nothing is left, and other files are untouched. The package is installed into a root of its own with the C library of
+this machine, so its dependencies count. This needs root, or `sudo` without a password.
 """
 import gzip
 import os

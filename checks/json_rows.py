@@ -1,12 +1,11 @@
 #!/usr/bin/env python3
-"""json_rows.py: looks at the lines of JSON that `dw-desk` writes of all examples with a validator of Debian.
+"""json_rows.py: validates the JSON of `dw-desk` for all examples with a validator of Debian.
 
     checks/json_rows.py
 
-Each line of `find`, `check`, `moves` and `mend` with `--json` has to be valid by docs/dw-desk.schema.json, a JSON
-Schema of the draft 2020-12, and to be written without blanks. The members that the schema knows are those that
-docs/JSON.md has in its tables, and each stands in a line of some example, or in one made here. The validator is
-python3-jsonschema.
+Each line of JSON must be valid by docs/dw-desk.schema.json, a JSON Schema of the draft 2020-12, and have no blanks
+between its parts. The members of the schema are those in the tables of docs/JSON.md, and each occurs in a line of some
+example, or in one made here. The validator is python3-jsonschema.
 """
 import json
 import pathlib
@@ -32,10 +31,13 @@ def written():
     """The lines of all commands, by command."""
     positions = "".join(position + "\n" for position in POSITIONS)
     games = "".join(f'[FEN "W:W27,32:B18"]{movetext}\n\n' for movetext in MOVETEXTS)
-    found = {"find": lines_of("find", "--json", "--most", "3", text=positions), "check": [], "moves": []}
+    found = {"find": lines_of("find", "--json", "--most", "3", text=positions), "check": [],
+             "solution": [], "moves": []}
     found["find"] += lines_of("find", "--json", "--most", "3", "--each", "3", text=positions)
     for more in ([], ["-n", "2"], ["--faults"]):
         found["check"] += lines_of("check", "--json", *more, text=games)
+    for more in (["-n", "3"], ["--most", "3", "--lines", "1"]):
+        found["solution"] += lines_of("solution", "--json", *more, text=positions)
     for number in range(1, len(POSITIONS) + 1):
         found["moves"] += lines_of("moves", "--json", "-n", "2", "--problem", str(number), text=positions)
     found["mend"] = [line for number in range(1, 7)
@@ -43,9 +45,11 @@ def written():
     for file in sorted(EXAMPLES.glob("*.fen")):
         most = "2" if file.name.startswith("large") else "4"
         found["find"] += lines_of("find", "--json", "--most", most, "--problem", "1-20", str(file))
+        found["solution"] += lines_of("solution", "--json", "-n", "2", "--problem", "1-20", str(file))
         found["moves"] += lines_of("moves", "--json", "-n", "2", str(file))
     for file in sorted(EXAMPLES.glob("*.pdn")):
         found["check"] += lines_of("check", "--json", "--problem", "1-20", str(file))
+        found["solution"] += lines_of("solution", "--json", "-n", "2", "--pdn", "--problem", "1-20", str(file))
         found["moves"] += lines_of("moves", "--json", "-n", "2", "--pdn", str(file))
     return found
 

@@ -1,12 +1,12 @@
 #!/usr/bin/env python3
-"""judging.py: compares `dw judge` and `dw list` with reports made here, by bare recursion over all moves.
+"""judging.py: compares `dw judge` and `dw list` with reports made here, by plain recursion over all moves.
 
     checks/judging.py [--count POSITIONS]
 
 It uses the rules of draughts.py and follows docs/REPORT.md. It shares nothing with the solver: it orders no moves and
-cuts nothing. For so many random small positions (500 if not said; two thirds of them with a win) on the boards of 10
-and of 8 rows, and for wins in 1 to 3 moves, it makes the whole report of each command, with all lines and with the
-first one or two, and the rest after a token; each has to be the same bytes as the program's.
+cuts nothing. For random small positions (500 by default; two thirds of them with a win) on both boards, and for wins in
+1 to 3 moves, it makes the whole report of each command, with all lines, with the first one or two, and with the rest
+after a token. Each must be the program's report, byte for byte.
 """
 import argparse
 import itertools

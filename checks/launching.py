@@ -1,12 +1,12 @@
 #!/usr/bin/env python3
-"""launching.py: calls the launcher `./dw` in copies with a toolchain that only writes files, and looks at what it does
-when it is called again, twice at once, interrupted, or when a proof fails.
+"""launching.py: runs the launcher `./dw` in copies with a toolchain that only writes files: again, twice at once,
+interrupted, and with a failing proof.
 
     checks/launching.py
 
-A copy has the launcher, crates.txt and a source of each crate. Its `rt`, the first on the PATH, names a kit whose
-prover writes a library of two files, one after another, or a program that says which time it was built. So no proof is
-made here, and a build takes seconds. What the prover was asked for stands in a file, a line each.
+A copy has the launcher, crates.txt and a source of each crate. Its `rt` names a kit whose prover writes a library of
+two files, one after another, or a program that prints how often it was built. So nothing is proved, and a build takes
+seconds. A file records each call of the prover.
 """
 import contextlib
 import os

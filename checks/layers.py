@@ -1,10 +1,10 @@
 #!/usr/bin/env python3
 """layers.py: compares docs/layers.svg, the map of the crates, with crates.txt.
 
-    checks/layers.py [--write]      with --write the picture is made anew
+    checks/layers.py [--write]      with --write it draws the picture again
 
-Each crate stands in a row above all crates that it stands on. An arrow goes from it to each of those that it does not
-reach by other arrows. Crates that only test, measure or show the others are left out.
+Each crate is in a row above all crates that it uses. An arrow leads to each of those that other arrows do not reach.
+Crates that only test, measure or show the others are left out.
 """
 import pathlib
 import re

@@ -1,14 +1,13 @@
 #!/usr/bin/env python3
-"""long_list.py: lists over a million lines, measures speed and memory, and goes on after lines of the list.
+"""long_list.py: lists over a million lines, measures speed and memory, and continues after lines of the list.
 
     checks/long_list.py
 
-With each memo it prints how many lines a second `dw list` writes and its greatest resident size, for the whole list and
-for its first 10,000 lines; the size may not grow by more than 1 MB. The memos hold 1,000 positions there, so that they
-are full in both runs; with the usual 100,000 the size is printed only. Then it stops the list by --lines after 20 of
-its lines, from the first to the last but one, and goes on with the token that is named: what comes is the rest of the
-list, byte for byte, and `complete` tells its number. The token is also made here, from the text of the line. Behind the
-last line nothing comes.
+For each cache it prints the lines a second and the greatest resident size of `dw list`, for the whole list and for its
+first 10,000 lines; the size may not grow by more than 1 MB. The caches hold 1,000 positions there, so they are full in
+both runs; with the default of 100,000 it only prints the size. Then it stops the list after 20 of its lines by --lines,
+and continues with the token: the output must be the rest of the list, byte for byte. The token is also made here, from
+the text of the line. After the last line nothing comes.
 """
 import hashlib
 import os

@@ -1,14 +1,13 @@
 #!/usr/bin/env python3
-"""machines.py: follows docs/MANY.md on several machines, two ssh servers of its own, one of which goes away in the
-middle, and compares what comes with one run's report.
+"""machines.py: follows docs/MANY.md on several machines, two ssh servers of its own, one of which fails in the middle,
+and compares the result with the report of one run.
 
     checks/machines.py
 
-The command is taken from the page, with fewer problems a job. The servers listen on loopback addresses of this
-machine, with keys, lists of keys and settings in a temporary folder, and are reached by settings there; the folder
-~/.ssh is neither read nor written. The 200 problems are those of parallel.py. First both machines and this one solve
-them, and the log has to name all three. Then the two do it, and one of them is ended with all that it started once some
-jobs are done: the other has to do the rest. The portions of a contest go the same way, by `dw-desk`.
+The commands come from the page, with fewer problems a job. The servers listen on loopback addresses of this machine,
+with keys and settings in a temporary folder; ~/.ssh is neither read nor written. The 200 problems are those of
+parallel.py. First both machines and this one solve them, and the log must name all three. Then the two do it, and one
+of them is killed after some jobs: the other must do the rest. The portions of a contest go the same way, by `dw-desk`.
 """
 import contextlib
 import getpass

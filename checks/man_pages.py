@@ -1,8 +1,8 @@
-"""man_pages.py: the parts of the man pages that tell commands and options, made of the helps of the programs.
+"""man_pages.py: makes the parts of the man pages with commands and options, from the help texts of the programs.
 
 checks/options.py writes these parts, and compares them. Each stands between two comment lines. The synopsis has each
-command with its options, those that have to be given first. A command comes with what its help says, but for the
-examples. An option stands once; if it is not one of all commands, or not the same in all, the commands are named.
+command with its options, required ones first. A command comes with its help, without the examples. An option comes
+once; if it does not belong to all commands, or differs among them, the commands are named.
 """
 import dataclasses
 import itertools

@@ -1,13 +1,12 @@
 #!/usr/bin/env python3
-"""mends.py: compares what `dw-desk mend` writes with the neighbours that are made here, each judged by `dw judge`.
+"""mends.py: compares `dw-desk mend` with all changes made here, each judged by `dw judge`.
 
     checks/mends.py [--count POSITIONS]
 
-For so many random small positions (8 on each board if not said), within 1 or 2 moves, all changes are gone through as
-docs/DESK.md tells them; the positions that they make are judged in one run of `dw judge`, and the lines of those that
-are sound have to be the same, in the same order, with the same count. So have the parts, put together, and their lines
-of JSON; with a bound of one position a line is a sound one and the rest is counted. At last come the faults of the
-command.
+For random small positions (8 on each board by default), within 1 or 2 moves, it makes all changes as docs/DESK.md
+describes them. One run of `dw judge` judges the new positions, and the lines of the sound ones must be the same, in the
+same order, with the same count. So must the parts, joined, and the JSON. With a bound of one position each line is
+still a sound one, and the rest is counted. The errors of the command come last.
 """
 import json
 import pathlib

@@ -1,14 +1,14 @@
 #!/usr/bin/env python3
-"""options.py: compares man pages, bash completions and a table of options with the helps and the version of programs.
+"""options.py: compares man pages, bash completions and a table of options with the help texts of the programs.
 
     checks/options.py [--write] [--programs FOLDER]
 
-The commands and options are read from `dw --help` and `dw COMMAND --help`. What docs/dw.1 says of them between comment
-lines has to be what man_pages.py makes of the helps; with --write it is written anew. The rest of the page names no
-option that is in no help. docs/dw.bash has to offer each command and option, the values that an option takes if they
-are listed, and files for FILE; and nothing that is in no help. The same is looked at for `dw-desk`. The table in
-docs/REPORT.md has to have the options of `dw`, with their commands, values and defaults. The version that the programs
-tell is that of the man pages and the first one in CHANGELOG.md. With --programs the programs are those in this folder.
+The commands and options come from `dw --help` and `dw COMMAND --help`. The part of docs/dw.1 between comment lines must
+be what man_pages.py makes of the help; --write writes it again. The rest of the page names only options of the help.
+docs/dw.bash must offer each command and option, the values of an option if they are listed, and files for FILE, and
+nothing else. The same holds for `dw-desk`. The table in docs/REPORT.md must have the options of `dw`, with their
+commands, values and defaults. The version of the programs must be that of the man pages and the first one in
+CHANGELOG.md. --programs names the folder of the programs.
 """
 import argparse
 import pathlib
@@ -84,7 +84,7 @@ def check_version(folder, program):
     version = ran.stdout.removeprefix(f"{program} ").strip()
     head = shlex.split((TOP / "docs" / f"{program}.1").read_text().splitlines()[0])
     assert head == [".TH", program.upper(), "1", "", f"dw {version}", "User commands"], (version, head)
-    newest = re.search(r"^## (\S+)$", CHANGES.read_text(), re.MULTILINE)[1]
+    newest = re.search(r"^## (\d+\.\d+\.\d+)\b", CHANGES.read_text(), re.MULTILINE)[1]
     assert newest == version, f"CHANGELOG.md begins with {newest}, and {program} is {version}"
     print(f"{program} {version}: so docs/{program}.1 and CHANGELOG.md")
 

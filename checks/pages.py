@@ -1,13 +1,14 @@
 #!/usr/bin/env python3
-"""pages.py: looks at the pages that `dw-desk page` writes in a browser without a window.
+"""pages.py: opens the pages of `dw-desk page` in a browser without a window.
 
     checks/pages.py [--count POSITIONS]
 
-For random positions (100 on each board if not said) the pixels of each square's middle have to tell what `dw show`
-tells. A click on a move shows the position after it, and so do the arrow keys; that position is told by a move
-generator of this folder. On paper six problems stand on a page, and none is cut. A telephone's width needs no sideways
-scrolling. A page of 2,000 problems opens within seconds. Nothing is asked of the network, the console has no error, and
-no fault is found in the HTML. Texts of tags, also those that are no UTF-8, are shown as they are.
+For random positions (100 on each board by default) the pixels in the middle of each square must show the pieces of `dw
+show`. A click on a move shows the position after it, and so do the arrow keys; a move generator of this folder finds
+that position. On paper six problems fill a page, and none is cut. A telephone's width needs no sideways scrolling. A
+page of 2,000 problems opens within seconds. There is no network request, no console error and no HTML error. Tag values
+appear as they are, also those that are not UTF-8. The tries must be those of the recursion in judging.py, and --tries
+none must leave out just these.
 """
 import html
 import json
@@ -20,7 +21,7 @@ import tempfile
 import time
 
 from draughts import Board, fen, other, play
-from judging import Problems, count_asked
+from judging import Problems, TooMany, count_asked
 from solutions import RESULTS, named_moves, tokens
 from wins import drawn
 
@@ -205,6 +206,31 @@ def check_print(source, folder):
     print("paper: six problems a sheet, and the frame of each diagram whole")
 
 
+def check_tries(rows, count, source):
+    """The tries of each problem are those of the recursion of judging.py; with --tries none a page lacks just these."""
+    board, entries = Board(rows), []
+    while len(entries) < count:
+        cells, turn, n = drawn(source, board), source.choice("WB"), source.randint(1, 2)
+        try:
+            _, *tries = Problems(board).judged(cells, turn, n)
+        except TooMany:
+            continue
+        tries = [re.sub(r"try (.*) refuted by (.*)", r"\1? \2", one) for one in tries]
+        entries.append((n, f"{fen(cells, turn)}\n", tries))
+    told_of = 0
+    for n in (1, 2):
+        of_number = [entry for entry in entries if entry[0] == n]
+        text, words = "".join(line for _, line, _ in of_number), ["-n", str(n), "--board", str(rows)]
+        page = page_of(text, *words)
+        said = [[html.unescape(one) for one in re.findall(r'<span class="try">(.*?)</span>', part)]
+                for part in page.split('<section class="problem"')[1:]]
+        assert said == [tries for _, _, tries in of_number], next(
+            pair for pair in zip(said, of_number) if pair[0] != pair[1][2])
+        assert page_of(text, *words, "--tries", "none") == re.sub(r"<p[^>]*>Tries: .*</p>\n", "", page), (rows, n)
+        told_of += sum(map(len, said))
+    print(f"{rows} rows: {told_of} tries of {count} problems, as in the recursion; none with --tries none", flush=True)
+
+
 def check_rest(source, folder):
     """A telephone, a long page, the network, texts of tags, and the HTML."""
     board = Board(10)
@@ -237,6 +263,7 @@ def main():
         for rows in (10, 8):
             check_pixels(rows, count, source, folder)
             check_play(rows, 40, source, folder)
+            check_tries(rows, count, source)
         check_print(source, folder)
         check_rest(source, folder)
 

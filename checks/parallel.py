@@ -1,14 +1,13 @@
 #!/usr/bin/env python3
-"""parallel.py: follows docs/MANY.md on one machine, a run for each problem, and compares that with one run's report.
+"""parallel.py: follows docs/MANY.md on one machine, and compares the result with the report of one run.
 
     checks/parallel.py
 
-The commands are taken from the page: GNU parallel with `-k`, with `--joblog` and `--resume`, and `xargs`. The problems
-are those of examples/problems.fen, two that are refused, and random small ones as judging.py has them, 200 in all. What
-comes has to be the same bytes as the report of one run on the whole file, for `judge` and for `list`, and for the
-portions of a contest by `dw-desk find`, and for the parts of one problem by `dw-desk moves`. The run that may be
-interrupted is killed in the middle and started again. A run that a limit stops, or `--timeout`, has to be found in the
-log as the page says.
+The commands come from the page: GNU parallel with `-k`, with `--joblog` and `--resume`, and `xargs`. The problems are
+those of examples/problems.fen, two refused ones, and random small ones, 200 in all. The result must be the report of
+one run, byte for byte, for `judge`, `list`, the portions of a contest by `dw-desk find`, and the parts of one problem
+by `dw-desk moves`. The interruptible run is killed in the middle and started again. The log must show a run that a
+limit or `--timeout` stopped, as the page says.
 """
 import os
 import pathlib
@@ -148,7 +147,7 @@ def hard(folder):
                                 timeout=600, check=True).stdout.splitlines()[1]
         keys = [line.split()[0] for line in lines if " wins in " in line]
         assert judged.startswith("dual") or judged.split(": ")[1:] == ([", ".join(keys)] if keys else []), judged
-        follow("rm parts moves", folder)
+        follow("rm effects moves", folder)
     print("the first moves of 8 problems, a part for each: joined they are the whole, and the keys those of judge")
 
 

@@ -1,11 +1,11 @@
 #!/usr/bin/env python3
-"""perft.py: counts lines of play by the plain rules of draughts.py, and compares them with those of dw_bench.
+"""perft.py: counts lines of play by the plain rules of draughts.py, and compares the counts with those of dw_bench.
 
     checks/perft.py [ROWS TURN WHITE BLACK DEPTH]     as in 6 W 13-18 1-6 7
 
-It prints how many lines of 1, 2, 3 and more moves there are from a position: without an argument from one on the board
-of six rows, one on the board of eight, and the three of dw_bench. The counts of these three have to be those in the
-stored run of dw_bench, crates/dw_bench/stdout.
+It prints the number of lines of 1, 2, 3 and more moves from a position: without arguments from one on the board of six
+rows, one on the board of eight, and the three of dw_bench. The counts of these three must be those in
+crates/dw_bench/stdout.
 """
 import pathlib
 import sys

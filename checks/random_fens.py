@@ -1,12 +1,11 @@
 #!/usr/bin/env python3
-"""random_fens.py: sends random FEN texts through `dw show`, and reads again what it wrote.
+"""random_fens.py: sends random FEN texts through `dw show`, and reads its output again.
 
     checks/random_fens.py [--count COUNT]
 
-COUNT texts of random bytes and COUNT of random tokens (100,000 of each, if none is given) go through the program, a
-line each, on both boards. Each has to be answered by one problem, in order: a written FEN with its diagram, or a
-refusal. What was written is sent through again and has to come back the same. The exit status has to be that of the
-report.
+COUNT texts of random bytes and COUNT of random tokens (100,000 of each by default) go through the program, one a line,
+on both boards. Each must give one problem, in order: a written FEN with its diagram, or a refusal. The written FEN must
+give itself again. The exit status must fit the report.
 """
 import pathlib
 import random

@@ -3,10 +3,9 @@
 
     checks/random_moves.py [--count POSITIONS]
 
-It uses the rules of draughts.py and follows docs/REPORT.md. For so many random positions (100,000 if not said), half of
-them on each board, from two pieces to full boards and with few or many kings, it makes the whole report of `dw moves`:
-each legal move in order with the position after it, their number, and how many pieces each takes. It has to be the same
-bytes as the program's.
+It uses the rules of draughts.py and follows docs/REPORT.md. For random positions (100,000 by default), half of them on
+each board, from two pieces to full boards, with few or many kings, it makes the whole report of `dw moves`. The report
+must be the same, byte for byte.
 """
 import itertools
 import pathlib

@@ -1,8 +1,7 @@
-"""reading_order.py: the page docs/DEFINITIONS.md, made from the comments on the definitions of a contract.
+"""reading_order.py: makes the page docs/DEFINITIONS.md from the comments on the definitions of a contract.
 
-checks/definitions.py writes the page, and compares it. Each definition stands there with the comment above it in
-specs/, file by file. The types and constants of the code that definitions name follow with theirs, and at the end the
-laws of all crates.
+checks/definitions.py writes the page, and compares it. Each definition has the comment above it in specs/, file by
+file. The types and constants of the code that definitions name follow.
 """
 import pathlib
 import re
@@ -12,32 +11,28 @@ TOP = pathlib.Path(__file__).resolve().parent.parent
 CRATES, PAGE = TOP / "crates", TOP / "docs/DEFINITIONS.md"
 WIDTH = 120
 HEAD = [
-    "The contract of `run` is worth as much as its definitions, and these are all of them, those that it names and "
-    "those that others name ([PROVED.md](PROVED.md#how-much-there-is-to-believe) counts them). They go from the report "
-    "down to boards. In a file what is used comes before what uses it, so the definition for which a file is there "
-    "mostly comes last. `g` is a board in all of them, `p` or `q` what stands on it, and `n` a number of moves.",
-    "Each text here is the comment above the definition, and says in words what stands below it in its file. "
-    "`checks/definitions.py --write` makes the page.",
+    "These are all definitions that the contract of `run` names, directly or through others. "
+    "[PROVED.md](PROVED.md#how-much-there-is-to-believe) counts them. They go from the report down to boards. Within a "
+    "file each definition comes after those that it uses, so the main one comes last. `g` is a board, `p` or `q` are "
+    "its pieces and the side to move, and `n` is a number of moves.",
+    "Each sentence is the comment above the definition in its file. `checks/definitions.py --write` makes this page.",
 ]
 TYPES = "Definitions and contracts also name these plain types and constants of the code."
-LAWS = ("Nobody has to believe these, since they are proved: they say what follows from definitions, also from those "
-        "of other contracts. Each is the contract of a function that does nothing, but for those on what `==` means. "
-        "The contract has all conditions.")
 # The files in reading order, each with its heading.
 FILES = {
     "dw_report/specs/Running.antt": "How a run ends",
-    "dw_report/specs/Request.antt": "What is asked for",
-    "dw_notation/specs/Writes.antt": "What is written of a text",
+    "dw_report/specs/Request.antt": "Requests",
+    "dw_notation/specs/Writes.antt": "Written text",
     "dw_report/specs/Report.antt": "The report",
     "dw_report/specs/JudgedText.antt": "The text of a verdict",
     "dw_report/specs/ListedText.antt": "The text of a list",
     "dw_verdict/specs/Verdict.antt": "Verdicts and tries",
-    "dw_list/specs/Places.antt": "Where a list leaves the lines",
+    "dw_list/specs/Places.antt": "Lists that are no lines",
     "dw_solve/specs/Lines.antt": "Lines of play",
     "dw_list/specs/Tokens.antt": "Tokens",
     "dw_solve/specs/Wins.antt": "Forced wins",
-    "dw_solve/specs/Facts.antt": "What a memo says",
-    "dw_memo/specs/Content.antt": "What a memo holds",
+    "dw_solve/specs/Facts.antt": "Facts of a cache",
+    "dw_memo/specs/Content.antt": "Content of a cache",
     "dw_notation/specs/Text.antt": "The texts of moves and lines",
     "dw_moves/specs/Order.antt": "The order of moves",
     "dw_moves/specs/Moves.antt": "The rules",
@@ -125,26 +120,18 @@ def named_types(definitions):
 
 
 def documented(file):
-    """The public items of a source: their names, the texts above them without examples, and the values of constants."""
+    """The public items of a source: their names, the texts above them, and the values of constants."""
     items = r"((?:^///.*\n)+)(?:^#\[.*\n)*^pub (?:struct|enum|const|fn) (\w+)(?:: \w+ = ([\d_]+))?"
     for above, name, value in re.findall(items, (CRATES / file).read_text(), re.MULTILINE):
-        text = re.split(r" (?:Example: |See \[)", joined(above.splitlines(), "///"))[0]
+        text = joined(above.splitlines(), "///")
         yield name, text + (f" It is {int(value):,}." if value else "")
 
 
-def source_entries(file, names=None):
-    """The items of a source in its order, or those of these names."""
-    rows = [row for row in documented(file) if names is None or row[0] in names]
-    assert names is None or {name for name, _ in rows} == names, f"{file}: no comment on some of {names}"
+def source_entries(file, names):
+    """The items of a source in its order that have these names."""
+    rows = [row for row in documented(file) if row[0] in names]
+    assert {name for name, _ in rows} == names, f"{file}: no comment on some of {names}"
     return "\n".join(entry([name], text) for name, text in rows)
-
-
-def law_files():
-    """The files of laws, by the order of crates.txt."""
-    crates = [line.split(":")[0].split()[0] for line in (TOP / "crates.txt").read_text().splitlines()]
-    layers = [CRATES / crate / "src" for crate in crates if not crate.startswith("dw_tests_")]
-    paths = [path for src in layers for path in (*src.glob("laws.rt"), *sorted(src.glob("laws/*.rt")))]
-    return [str(path.relative_to(CRATES)) for path in paths]
 
 
 def page(definitions):
@@ -161,7 +148,4 @@ def page(definitions):
     parts += ["## Types of the code", TYPES]
     for name in SOURCES:
         parts += [f"{link(name)}:", source_entries(name, types[name])]
-    parts += ["## Laws", filled(LAWS)]
-    for name in law_files():
-        parts += [f"{link(name)}:", source_entries(name)]
     return "\n\n".join(parts) + "\n"

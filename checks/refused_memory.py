@@ -1,16 +1,15 @@
 #!/usr/bin/env python3
 """refused_memory.py: refuses each allocation of `dw moves`, `judge`, `list` and the commands of `dw-desk` in turn, and
-looks at what is written.
+compares the output.
 
     checks/refused_memory.py
 
-A run that was refused memory writes the whole report, or it ends with status 3 and the line `dw: stopped: 1 memory, E
-expanded`, after the whole texts of some problems, the first line of the next, and whole lines of its text; or with
-nothing written and E 0, if the arguments could not be read or the memo not be made. For some arguments that comes at
-the same allocations whatever the problems are, so that a problem's first line is never left out. E is at most what a
-run without a memo expands, and 0 for `moves`. The last run of each input meets no refusal and is whole. `judge` and
-`list` run with each memo. `dw show` takes no memory once its arguments are read, however many problems there are. Each
-command of `dw-desk` does all that it does with memory, or it ends so too, after a beginning of that.
+A run without enough memory writes the whole report, or it ends with status 3 and the line `dw: stopped: 1 memory, E
+expanded`. Its output is then the whole texts of some problems, the first line of the next, and whole lines of its text;
+or nothing with E 0, if the arguments could not be read or the cache not be made. E is at most the expansions of a run
+without a cache, and 0 for `moves`. The last run of each input meets no refusal and is whole. `judge` and `list` run
+with each cache. `dw show` allocates nothing after its arguments. Each command of `dw-desk` writes everything, or ends
+in this way after a beginning of it.
 """
 import os
 import pathlib
@@ -36,6 +35,8 @@ DESK_COMMANDS = (["find", "--pdn"], ["find", "--pdn", "--json"], ["check"], ["so
                  ["page", "--pdn", "-n", "2"], ["certify", "--pdn", "-n", "2"], ["mend", "--pdn", "-n", "1"],
                  ["moves", "--pdn", "-n", "2"], ["moves", "--pdn", "-n", "2", "--json"], ["check", "--json"],
                  ["mend", "--pdn", "-n", "1", "--json"], ["solution", "--pdn", "--most", "2"],
+                 ["solution", "--pdn", "-n", "2", "--json"], ["check", "--faults"],
+                 ["page", "--pdn", "-n", "2", "--tries", "none"], ["moves", "--pdn", "-n", "2", "--part", "2/2"],
                  ["token", "--pdn", "--line", "45-40 16-21 27x16"])
 GAME = b'[Event "a"]\n[FEN "W:W27,45:B16"]\n\n1. 45-40 (1. 27-21 16x27) 16-21 2. 27x16 *\n'
 # A memo that is refused memory for an entry loses it, and then a certificate may lack a position.

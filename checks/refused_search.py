@@ -3,14 +3,12 @@
 
     checks/refused_search.py
 
-It takes the sections of rows whose heads begin with `refused` from the stored input of each crate of tests, and gives
-each to its program once for each allocation. `rt ci` leaves these programs; the launcher builds them if they are
-missing or older than their sources. The rows of dw_tests_rules read texts of moves; those of dw_tests_search note
-bounds, search some positions with each cache, for 1 to 3 moves, and ask for the lines of some positions with each
-cache, one by one, and for what follows each of them; those of dw_tests_report judge positions with each cache. If a
-growth is refused the right answer comes without it, or the search or judge says that it is out of memory and gives it
-when asked again; a row is wrong if that is not so. Only while the rows are read may the program end for want of memory,
-with no row found wrong. The last run of each section meets no refusal.
+It takes the sections whose heads begin with `refused` from the rows of each crate of tests, and runs its program once
+for each allocation. `rt ci` leaves these programs; the launcher builds them if they are missing or old. The rows of
+dw_tests_rules parse moves. Those of dw_tests_search note bounds, search positions with each cache for 1 to 3 moves, and
+list lines one by one. Those of dw_tests_report judge positions with each cache. After a refusal the right answer must
+still come, or an out-of-memory error and then the right answer at the second call. The program itself may end for lack
+of memory only while it reads the rows. The last run of each section meets no refusal.
 """
 import os
 import pathlib

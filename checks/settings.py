@@ -1,12 +1,12 @@
 #!/usr/bin/env python3
-"""settings.py: the reports of worked positions do not depend on the memo, and a limit that is just enough is enough.
+"""settings.py: compares the reports of worked positions with each cache and each limit.
 
     checks/settings.py
 
-The positions and their reports are those of crates/dw_tests_report/stdin. Each is judged and listed with each
-memo and with --cache 1, 2 and 100000; that has to write the stated bytes. Then the limit of --positions rises by one
-from 1 until the run is whole. Each smaller limit E has to stop the run with status 3 and `dw: stopped: 2 limit, E
-expanded`, after the problem's first line and whole lines of the rest, and never with less than a smaller one wrote.
+The positions and their reports are those of crates/dw_tests_report/stdin. Each is judged and listed with each cache,
+and with --cache 1, 2 and 100000; the report must be the stated bytes. Then the limit of --positions rises by one from 1
+until the run is whole. Each smaller limit E must stop the run with status 3 and `dw: stopped: 2 limit, E expanded`,
+after the problem's first line and whole lines of the rest, and never with less output than a smaller limit.
 """
 import pathlib
 import subprocess

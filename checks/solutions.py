@@ -1,17 +1,16 @@
 #!/usr/bin/env python3
-"""solutions.py: compares `dw-desk check` with remarks made here by bare recursion, and the faults of movetexts with
-those of a second reader.
+"""solutions.py: compares `dw-desk check` with remarks made by plain recursion, and errors in movetexts with those of a
+second reader.
 
     checks/solutions.py [--count TREES]
 
-For so many random small positions (150 on each board if not said) a tree of moves is made of all lines of a win, and
-then spoilt: a path is cut, a move is changed for another one, a variation or a reply is taken out. It is written as a
-movetext with comments, marks and numbers of all kinds. What `dw-desk check` says of a file of these games has to be the
-remarks that the recursion of judging.py makes, byte for byte, for the right number of moves, for one less, and for the
-number that the tree has. So have its lines of JSON, and what is left with --faults. Then bytes of the movetexts are
-dropped, doubled and changed: a reader written here from the table of tokens in docs/DESK.md has to find the same fault
-at the same place, or the same tree. With --count 4500 there are up to 108,000 such movetexts, which takes about a
-quarter of an hour.
+For random small positions (150 on each board by default) it makes a tree of all lines of a win and spoils it: it cuts a
+path, changes a move, removes a variation or a reply. It writes the tree as a movetext with comments, marks and numbers
+of all kinds. `dw-desk check` must give the remarks of the recursion in judging.py, byte for byte, for the right number
+of moves, for one less, and for that of the tree, as text, as JSON, and with --faults. Then bytes of the movetexts are
+dropped, doubled and changed: a reader made from the table of tokens in docs/DESK.md must find the same error at the
+same place, or the same tree. With --count 4500 there are up to 108,000 such movetexts, which takes a quarter of an
+hour.
 """
 import json
 import pathlib

@@ -1,13 +1,13 @@
 #!/usr/bin/env python3
-"""wins.py: makes the rows of small positions and least numbers of moves that the tests of the solver read.
+"""wins.py: makes the rows of small positions and least numbers of moves for the tests of the solver.
 
-It is made by bare recursion on the rules of draughts.py alone: no cache, no order of moves, nothing of the solver. The
-rows are what it prints, and stand so in crates/dw_tests_search/stdin, as `checks/all.py wins` sees; made by
+It uses plain recursion on the rules of draughts.py: no cache, no order of moves, nothing of the solver. The rows are
+its output, and stand in crates/dw_tests_search/stdin, as `checks/all.py wins` checks:
 
     python3 checks/wins.py
 
-Positions come from a fixed seed, as many of each kind: by the least number of moves (1, 2 or 3, or none up to 3), with
-a king or with men alone, with a capture to begin with or without, and by the side to move.
+Positions come from a fixed seed, the same number of each kind: by the least number of moves (1, 2 or 3, or none up to
+3), with a king or only men, with or without a capture at the start, and by the side to move.
 """
 import itertools
 import random

@@ -23,7 +23,7 @@ _dw_desk() {
     case $command in
         find) options="--board --pdn --problem --most --each --json --memo --cache --progress -h --help" ;;
         check) options="-n --board --pdn --problem --faults --json --memo --cache --progress -h --help" ;;
-        solution) options="-n --board --pdn --problem --most --lines --memo --cache --progress -h --help" ;;
+        solution) options="-n --board --pdn --problem --most --lines --json --memo --cache --progress -h --help" ;;
         page)
             options="-n --board --pdn --problem --most --lines --title --lang --solutions --tries --numbers --memo"
             options="$options --cache --progress -h --help"

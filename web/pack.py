@@ -16,6 +16,7 @@ import zlib
 
 HERE = pathlib.Path(__file__).resolve().parent
 IMPORT = re.compile(r"^import \{[^}]*\} from '\./(\w+)\.js';\n", re.MULTILINE)
+DECLARED = re.compile(r"^(?:export )?(?:async )?(?:function\*?|class|const|let) (\w+)", re.MULTILINE)
 POLICY = "default-src 'none'; script-src '{script}' 'wasm-unsafe-eval'; style-src '{style}'; worker-src blob:; " \
     "img-src data:; base-uri 'none'; form-action 'none'"
 
@@ -34,7 +35,8 @@ def bundle(name, call):
     parts, names = [], {}
     for part in in_order(name, set()):
         text = (HERE / "js" / f"{part}.js").read_text()
-        for declared in re.findall(r"^(?:export )?(?:async )?(?:function|class|const|let) (\w+)", text, re.MULTILINE):
+        several = "".join(re.findall(r"^const (\w+ = [^;=(]*, \w+ = [^;]*);", text, re.MULTILINE))
+        for declared in DECLARED.findall(text) + re.findall(r", (\w+) = ", several):
             assert declared not in names, f"{declared} stands in {names[declared]}.js and in {part}.js"
             names[declared] = part
         text = IMPORT.sub("", text)

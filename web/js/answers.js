@@ -1,4 +1,5 @@
 /** What the programs write, read into values. Their own words are kept beside, to be shown as they stand. */
+import { textOf } from './engine.js';
 
 /**
  * What `dw-desk find` says of a problem.
@@ -13,14 +14,30 @@
  *   tries: [string, string][],
  * }} Found `n` is the number of moves; of an undecided problem the greatest for which there is no win.
  * @typedef {{number: number, fen: string, refused: string, found: Found | null}} Problem
- * @typedef {{kind: 'fails' | 'also' | 'open' | 'ends', line: string, beginning: string[], moves: string[],
- *   refutation: string}} Remark
+ * @typedef {{kind: 'fails' | 'also' | 'open' | 'ends', line: string, moves: string[], refutation?: string}} Remark
+ * @typedef {{fen?: string, refused?: string, solution_refused?: string, n: number, win: boolean, holds: boolean,
+ *   fail: number, end: number, open: number, also: number, remarks?: Remark[]}} Checked What `check --json` says.
  * @typedef {{move: string, fen: string}} Legal
  * @typedef {{change: string, fen: string, n: number, key: string}} Neighbour
  */
 
+/** How many bytes of a long text are decoded at a stroke. */
+const CHUNK = 65_536;
+
 /**
- * The lines of a text.
+ * The lines of a long text, one after another, so that it is never there as one string.
+ * @param {Uint8Array} bytes
+ */
+export function* eachLine(bytes) {
+    for (let at = 0; at < bytes.length;) {
+        const end = bytes.indexOf(10, Math.min(at + CHUNK, bytes.length - 1)), next = end < 0 ? bytes.length : end + 1;
+        yield* textOf(bytes.subarray(at, next)).replace(/\n$/, '').split('\n');
+        at = next;
+    }
+}
+
+/**
+ * The lines of a text that are not empty.
  * @param {string} text
  */
 export const linesOf = (text) => text.split('\n').filter((line) => line !== '');
@@ -110,61 +127,32 @@ export const legalIn = (text) => sections(text).map(({ lines }) => lines.flatMap
 }));
 
 /**
- * A remark that `check` makes.
- * @param {string} line
- * @returns {Remark | null}
+ * What `check` says of a solution, in its own words.
+ * @param {Checked} checked
  */
-export function remarkIn(line) {
-    const [kind, ...words] = line.split(' ');
-    const rest = words.join(' ');
-    if (kind === 'fails' && rest.includes(' refuted by ')) {
-        const [said, refutation] = rest.split(' refuted by ');
-        const moves = movesOf(said);
-        return { kind, line, beginning: moves.slice(0, -1), moves: moves.slice(-1), refutation };
-    }
-    if (kind === 'also') {
-        const moves = movesOf(rest.replaceAll(' / ', ' /'));
-        const first = moves.findIndex((move) => move.startsWith('/'));
-        const cut = first < 0 ? moves.length - 1 : first - 1;
-        const others = moves.slice(cut).map((move) => move.replace('/', ''));
-        return { kind, line, beginning: moves.slice(0, cut), moves: others, refutation: '' };
-    }
-    if (kind === 'open') {
-        const [said, replies] = rest.split(': ');
-        return { kind, line, beginning: movesOf(said), moves: replies.split(', '), refutation: '' };
-    }
-    if (kind === 'ends') return { kind, line, beginning: movesOf(rest), moves: [], refutation: '' };
-    return null;
+export function summaryOf({ refused, solution_refused: unread, n, holds, fail, end, open, also }) {
+    if (refused) return `refused: ${refused}`;
+    if (unread) return `solution refused: ${unread}`;
+    return `${holds ? 'holds' : 'fails'} in ${n}: ${fail} fail, ${end} end, ${open} open, ${also} also`;
 }
 
 /**
- * What `check` says of one problem: its remarks, and its other lines.
- * @param {string} text
+ * The fault of a solution that `dw-desk` cannot read: its number, name and place.
+ * @param {string} refused
  */
-export function checkIn(text) {
-    const [problem] = sections(text);
-    const lines = problem?.lines ?? [];
-    const remarks = lines.flatMap((line) => remarkIn(line) ?? []);
-    const summary = lines.filter((line) => !remarkIn(line));
-    const isRefused = problem?.first.startsWith('refused: ') ?? true;
-    return { refused: isRefused ? problem?.first ?? '' : '', fen: isRefused ? '' : problem.first, remarks, summary };
+export function solutionFault(refused) {
+    const said = /^(\d+) (.*) at (\d+)$/.exec(refused);
+    return said && { number: Number(said[1]), name: said[2], place: Number(said[3]) };
 }
 
 /**
- * The sound neighbours that `mend` writes, and how many there are of all.
+ * The sound neighbours that `mend --json` writes, and how many there are of all.
  * @param {string} text
  */
 export function mendedIn(text) {
-    /** @type {Neighbour[]} */
-    const neighbours = [];
-    let sound = 0, all = 0, undecided = 0;
-    for (const line of linesOf(text)) {
-        const said = /^(.*?): ([WB]:\S*), sound in (\d+): (\S+)$/.exec(line);
-        const last = /^sound (\d+) of (\d+)(?:, (\d+) undecided)?$/.exec(line);
-        if (said) neighbours.push({ change: said[1], fen: said[2], n: Number(said[3]), key: said[4] });
-        if (last) [sound, all, undecided] = [Number(last[1]), Number(last[2]), Number(last[3] ?? 0)];
-    }
-    return { neighbours, sound, all, undecided };
+    const rows = rowsOf(text), last = rows.pop() ?? {};
+    const neighbours = /** @type {Neighbour[]} */ (rows);
+    return { neighbours, all: Number(last.of ?? 0), refused: String(last.refused ?? '') };
 }
 
 /**

@@ -32,6 +32,10 @@ export class App extends EventTarget {
         this.looked = null;
         /** @type {{file: Uint8Array, number: number, fen: string} | null} The game of a file that was set up last. */
         this.source = null;
+        /** Whether moves are played on the board. */
+        this.isPlaying = false;
+        /** @type {() => Promise<string>} Why `dw` refuses what is on the board or in its text, once it has said so. */
+        this.fault = () => Promise.resolve('');
     }
 
     /** The position on the board. */
@@ -91,6 +95,18 @@ export class App extends EventTarget {
         if (!this.looked) return;
         this.history.put(this.looked);
         this.looked = null;
+        this.tell('looked');
+    }
+
+    /** The problem that is worked on: what is played, or else what was set up. */
+    get problem() {
+        return this.isPlaying ? this.position : this.history.now;
+    }
+
+    /** The board shows the problem again that is worked on: what is played, or else what was set up. */
+    returnToProblem() {
+        if (this.isPlaying) this.take();
+        else if (this.looked) this.look(null);
     }
 
     /** @param {'edited' | 'looked' | 'spoken' | 'solved'} what */

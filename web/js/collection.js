@@ -33,16 +33,17 @@ export const titleOf = ({ tags }) =>
  * @param {string} sort `number`, `verdict` or `moves`.
  */
 export function chosen(items, filter, sort) {
-    const found = items.filter((item) => !filter || stateOf(item) === filter);
-    const rank = (/** @type {Item} */ item) => (sort === 'verdict' ? ORDER.indexOf(stateOf(item))
-        : sort === 'moves' ? item.row?.n ?? 99 : 0);
-    return found.sort((a, b) => rank(a) - rank(b) || a.number - b.number);
+    const found = filter ? items.filter((item) => stateOf(item) === filter) : items;
+    if (sort === 'number') return found;
+    const rank = (/** @type {Item} */ item) => (sort === 'verdict' ? ORDER.indexOf(stateOf(item)) : item.row?.n ?? 99);
+    /** @type {Item[][]} */
+    const ranks = [];
+    for (const item of found) (ranks[rank(item)] ??= []).push(item);
+    return ranks.flatMap((row) => row ?? []);
 }
 
 /**
- * Puts items behind those of a list, with the numbers that go on.
+ * The items that were judged, and not left undecided.
  * @param {Item[]} items
- * @param {Omit<Item, 'number'>[]} more
  */
-export const joined = (items, more) =>
-    [...items, ...more.map((item, i) => ({ ...item, number: items.length + i + 1 }))];
+export const decided = (items) => items.filter(({ row }) => row && row.verdict !== 'undecided');

@@ -1,7 +1,8 @@
 /** Comparing an author's solution with the truth. */
 import { byId, control, make, reveal } from './dom.js';
-import { checkIn } from './answers.js';
+import { movesOf, rowsOf, solutionFault, summaryOf } from './answers.js';
 import { textOf } from './engine.js';
+import { keyOf } from './languages.js';
 import { positionOf } from './position.js';
 import { boardOf } from './rules.js';
 import { reportOf } from './search.js';
@@ -10,7 +11,11 @@ import { Stopped } from './workers.js';
 /**
  * @typedef {import('./app.js').App} App
  * @typedef {import('./answers.js').Remark} Remark
+ * @typedef {import('./answers.js').Checked} Checked
  */
+
+/** The longest movetext, in bytes, and how much of it is shown around a fault. */
+const LARGEST_GAME = 1_048_576, AROUND = 60;
 
 /**
  * Brings the comparison to life.
@@ -19,52 +24,67 @@ import { Stopped } from './workers.js';
 export function comparing(app) {
     /** @type {AbortController | null} */
     let running = null;
-    /** @type {ReturnType<typeof checkIn> | null} */
+    /** @type {Checked | null} */
     let checked = null;
-    let fen = '', failed = '';
+    let failed = '', typed = '';
     const field = control('movetext', HTMLTextAreaElement);
     const stop = control('stop-compare', HTMLButtonElement), go = control('compare', HTMLButtonElement);
 
     /** Compares what stands in the field; a whole game brings its own position. */
     async function compareField() {
         const isGame = /^\s*\[/.test(field.value);
-        await compare(isGame ? field.value : `[FEN "${app.fen}"]\n\n${field.value}\n`, 1, isGame);
+        app.returnToProblem();
+        if (!isGame && await app.fault()) {
+            checked = null;
+            failed = app.say('faultFirst');
+            show();
+            return;
+        }
+        await compare(isGame ? field.value : `[FEN "${app.fen}"]${field.value}\n`, 1, isGame ? '' : field.value);
     }
 
-    /** Compares the solution of one game of a file. */
-    async function compare(/** @type {string | Uint8Array} */ games, /** @type {number} */ number, isGame = false) {
+    /**
+     * Compares the solution of one game of a file, or of a text that was typed.
+     * @param {string | Uint8Array} games
+     * @param {number} number
+     * @param {string} text The movetext alone, if it was typed.
+     */
+    async function compare(games, number, text = '') {
         running?.abort();
-        running = new AbortController();
-        const { signal } = running, { rows } = app.position;
+        const controller = new AbortController(), { signal } = controller, { rows } = app.position;
+        running = controller;
         checked = null;
         failed = '';
+        typed = text;
         stop.disabled = false;
         go.disabled = true;
         show();
         try {
-            const words = ['dw-desk', 'check', ...boardOf(rows), '--problem', String(number)];
-            const text = reportOf(await app.solver.ask(words, games, signal));
-            checked = checkIn(text);
-            fen = checked.fen;
-            if (isGame && fen) app.edit(positionOf(fen, rows));
+            const words = ['dw-desk', 'check', '--json', ...boardOf(rows), '--problem', String(number)];
+            const [row] = rowsOf(reportOf(await app.solver.ask(words, games, signal)));
+            if (running !== controller) return;
+            checked = row ?? null;
+            if (!text && checked?.fen) app.edit(positionOf(checked.fen, rows));
         } catch (error) {
+            if (running !== controller) return;
             failed = error instanceof Stopped ? app.say('stoppedEarly') : app.say('failed', String(error));
         }
         stop.disabled = true;
         go.disabled = false;
+        running = null;
         show();
     }
 
     /** @param {string[]} moves */
     async function playOut(moves) {
-        const played = await app.rules.follow(fen, moves, app.position.rows);
+        const played = await app.rules.follow(checked?.fen ?? app.fen, moves, app.position.rows);
         app.look(played[played.length - 1]?.fen ?? null);
     }
 
     /** A remark as a sentence. */
-    function sentence(/** @type {Remark} */ { kind, beginning, moves, refutation }) {
-        const where = beginning.length ? beginning.join(' ') : app.say('start');
-        if (kind === 'fails') return app.say('remarkFails', [...beginning, ...moves].join(' '), refutation);
+    function sentence(/** @type {Remark} */ { kind, line, moves, refutation = '' }) {
+        const where = movesOf(line).length ? line : app.say('start');
+        if (kind === 'fails') return app.say('remarkFails', [line, ...moves].filter(Boolean).join(' '), refutation);
         if (kind === 'also') return app.say('remarkAlso', where, moves.join(', '));
         if (kind === 'open') return app.say('remarkOpen', where, moves.join(', '));
         return app.say('remarkEnds', where);
@@ -72,40 +92,68 @@ export function comparing(app) {
 
     /** A remark; its button shows the position that it speaks of. */
     function item(/** @type {Remark} */ remark) {
-        const { beginning, moves, kind, line } = remark;
-        const path = kind === 'fails' ? [...beginning, ...moves] : beginning;
-        const button = make('button', { type: 'button', class: `remark ${kind}`, 'data-line': line },
-            make('span', { class: 'sign', 'aria-hidden': 'true' }, kind === 'fails' || kind === 'ends' ? '✗' : '!'),
-            ` ${sentence(remark)}`);
+        const { moves, kind, line } = remark, isBad = kind === 'fails' || kind === 'ends';
+        const path = kind === 'fails' ? [...movesOf(line), ...moves] : movesOf(line);
+        const data = { 'data-kind': kind, 'data-line': line, 'data-moves': moves.join(', ') };
+        const button = make('button', { type: 'button', class: `remark ${kind}`, ...data },
+            make('span', { class: 'sign', 'aria-hidden': 'true' }, isBad ? '✗' : '!'), ` ${sentence(remark)}`);
         button.addEventListener('click', () => void playOut(path));
         return make('li', {}, button);
     }
 
-    /** What is said of the whole solution. */
-    function verdict(/** @type {ReturnType<typeof checkIn>} */ { summary, remarks }) {
-        const said = /^(holds|fails) in (\d+): /.exec(summary.at(-1) ?? '');
-        if (!said) return app.say('sayRefused');
-        if (said[1] === 'fails') return app.say('sayFails', said[2]);
-        return app.say(remarks.length ? 'sayHoldsBut' : 'sayHolds', said[2]);
+    /** What is said of the whole solution, and of which kind that is. */
+    function verdict(/** @type {Checked} */ { refused, solution_refused: unread, holds, win, n, remarks = [] }) {
+        if (refused || unread) return ['refused', app.say('sayRefused')];
+        if (!holds) return ['fails', app.say(win ? 'sayFails' : 'sayNoWin', n)];
+        return remarks.length ? ['but', app.say('sayHoldsBut', n)] : ['holds', app.say('sayHolds', n)];
+    }
+
+    /** Where a typed solution cannot be read, and why. */
+    function faultPlace(/** @type {string} */ unread) {
+        const fault = solutionFault(unread);
+        if (!fault || !typed) return [];
+        const why = keyOf(`movetext${fault.number}`), bytes = new TextEncoder().encode(typed);
+        const before = new TextDecoder().decode(bytes.subarray(0, fault.place - 1));
+        const rest = typed.slice(before.length, before.length + AROUND), [word] = /^\S*/.exec(rest) ?? [''];
+        const shown = [before.slice(-AROUND), make('mark', {}, word || '␣'), rest.slice(word.length)];
+        return [make('code', {}, ...shown), make('span', {}, why ? app.say(why) : '')];
     }
 
     function show() {
-        byId('compared').textContent = checked ? verdict(checked)
-            : failed || (running ? app.say('searching') : '');
-        byId('compared-lines').textContent = checked ? [checked.refused, ...checked.summary].join('\n').trim() : '';
-        byId('compared').dataset.line = checked?.summary.at(-1) ?? '';
+        const place = byId('compared'), [kind, text] = checked ? verdict(checked) : ['', ''];
+        place.textContent = text || failed || (running ? app.say('searching') : '');
+        place.dataset.kind = kind;
+        place.dataset.line = checked ? summaryOf(checked) : '';
+        byId('compared-lines').textContent = place.dataset.line;
+        const unread = checked?.solution_refused ?? '';
+        byId('compared-fault').replaceChildren(...faultPlace(unread));
+        reveal('compared-fault', Boolean(unread && typed));
         byId('remarks').replaceChildren(...(checked?.remarks ?? []).map(item));
     }
 
     go.addEventListener('click', () => void compareField());
     byId('compare-own').addEventListener('click', () => {
+        app.returnToProblem();
         if (app.source) void compare(app.source.file, app.source.number);
     });
-    app.on(['edited'], () => reveal('compare-own', app.source !== null && app.source.fen === app.fen));
+    app.on(['edited'], () => {
+        reveal('compare-own', app.source !== null && app.source.fen === app.fen);
+        if (running || (checked && checked.fen === app.fen)) return;
+        checked = null;
+        failed = '';
+        show();
+    });
     stop.addEventListener('click', () => running?.abort());
     byId('movetext-file').addEventListener('change', async () => {
-        const file = control('movetext-file', HTMLInputElement).files?.[0];
+        const input = control('movetext-file', HTMLInputElement), file = input.files?.[0];
+        input.value = '';
         if (!file) return;
+        if (file.size > LARGEST_GAME) {
+            checked = null;
+            failed = app.say('tooLargeGame');
+            show();
+            return;
+        }
         field.value = textOf(new Uint8Array(await file.arrayBuffer()));
         void compareField();
     });

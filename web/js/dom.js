@@ -58,6 +58,18 @@ export function reveal(id, isShown) {
     byId(id).hidden = !isShown;
 }
 
+/**
+ * Marks the cards of a position, and no others.
+ * @param {ParentNode} host
+ * @param {string} fen
+ */
+export function markCards(host, fen) {
+    for (const card of host.querySelectorAll('.card[aria-current]')) card.removeAttribute('aria-current');
+    for (const card of host.querySelectorAll(`.card[data-fen="${CSS.escape(fen)}"]`)) {
+        card.setAttribute('aria-current', 'true');
+    }
+}
+
 /** Waits until the page has drawn itself, so that long work does not hold it up. */
 export const breathe = () => new Promise((resolve) => setTimeout(resolve, 0));
 
@@ -67,7 +79,7 @@ const STRETCH = 20;
 /**
  * Does something with each item, and lets the page draw itself in between.
  * @template T
- * @param {T[]} items
+ * @param {Iterable<T>} items
  * @param {(item: T) => void} act
  */
 export async function piecewise(items, act) {
@@ -90,6 +102,25 @@ export function save(name, content, type) {
     const link = make('a', { download: name, href: URL.createObjectURL(new Blob([content], { type })) });
     link.click();
     setTimeout(() => URL.revokeObjectURL(link.href), 60_000);
+}
+
+/**
+ * Copies a text to the clipboard; answers whether the browser let it.
+ * @param {string} text
+ */
+export async function copyText(text) {
+    try {
+        await navigator.clipboard.writeText(text);
+        return true;
+    } catch {
+        const field = make('textarea', { class: 'hidden', readonly: '' });
+        field.value = text;
+        document.body.append(field);
+        field.select();
+        const isCopied = document.execCommand('copy');
+        field.remove();
+        return isCopied;
+    }
 }
 
 /**

@@ -1,10 +1,11 @@
 /** Sound problems that are one change away. */
-import { byId, control, make, reveal } from './dom.js';
+import { byId, control, make, markCards, reveal } from './dom.js';
 import { mendedIn } from './answers.js';
+import { changeText, inOrder } from './changes.js';
 import { diagramOf } from './diagram.js';
 import { positionOf } from './position.js';
 import { boardOf } from './rules.js';
-import { reportOf } from './search.js';
+import { Failed, reportOf } from './search.js';
 import { Stopped } from './workers.js';
 
 /**
@@ -14,28 +15,6 @@ import { Stopped } from './workers.js';
 
 /** In how many parts the work is cut, so that its progress shows. */
 const PARTS = 32;
-
-/** The order in which `mend` goes through the changes. */
-const KINDS = [/^without (\d+)$/, /^with [WB]K?(\d+)$/, /^(\d+) to (\d+)$/, /^(\d+) as/];
-
-/**
- * Where a change stands in that order.
- * @param {string} change
- */
-function rank(change) {
-    const kind = KINDS.findIndex((form) => form.test(change)), said = KINDS[kind]?.exec(change) ?? [];
-    const piece = ['with WK', 'with BK', 'with W', 'with B'].findIndex((start) => change.startsWith(start));
-    return [kind, Number(said[1] ?? 0), Number(said[2] ?? [1, 3, 0, 2][piece] ?? 0)];
-}
-
-/**
- * @param {Neighbour} a
- * @param {Neighbour} b
- */
-function inOrder(a, b) {
-    const left = rank(a.change), right = rank(b.change);
-    return left[0] - right[0] || left[1] - right[1] || left[2] - right[2];
-}
 
 /**
  * Brings the improvements to life.
@@ -55,17 +34,26 @@ export function improving(app) {
         running?.abort();
         const controller = new AbortController();
         running = controller;
-        app.take();
+        app.returnToProblem();
+        const fault = await app.fault();
+        if (running !== controller) return;
         const { fen } = app, { rows } = app.position, n = control('mend-n', HTMLInputElement).value;
         [neighbours, tried, done, failed] = [[], 0, 0, ''];
+        if (fault) {
+            failed = app.say('faultFirst');
+            host.replaceChildren();
+            show();
+            return;
+        }
         host.replaceChildren();
         host.dataset.state = 'searching';
         go.disabled = true;
         stop.disabled = false;
         reveal('mend-progress', true);
         const part = async (/** @type {number} */ number) => {
-            const words = ['dw-desk', 'mend', ...boardOf(rows), '-n', n, '--part', `${number}/${PARTS}`];
+            const words = ['dw-desk', 'mend', '--json', ...boardOf(rows), '-n', n, '--part', `${number}/${PARTS}`];
             const found = mendedIn(reportOf(await app.searches.ask(words, `${fen}\n`, controller.signal)));
+            if (found.refused) throw new Failed(found.refused);
             tried += found.all;
             done += 1;
             for (const neighbour of found.neighbours) insert(neighbour, rows);
@@ -88,14 +76,15 @@ export function improving(app) {
 
     /** Shows a neighbour at its place in the order. */
     function insert(/** @type {Neighbour} */ neighbour, /** @type {import('./squares.js').Rows} */ rows) {
-        const at = neighbours.findIndex((other) => inOrder(neighbour, other) < 0);
+        const at = neighbours.findIndex((other) => inOrder(neighbour.change, other.change) < 0);
         const place = at < 0 ? neighbours.length : at;
         const { fen, change } = neighbour;
-        const card = make('button', { type: 'button', class: 'card', 'data-fen': fen, 'data-change': change },
-            make('span', { class: 'card-title' }, neighbour.change), make('span', {}, neighbour.key));
-        card.prepend(diagramOf(positionOf(neighbour.fen, rows), neighbour.fen));
+        const text = changeText(change, app.say.bind(app)), data = { 'data-fen': fen, 'data-change': change };
+        const card = make('button', { type: 'button', class: 'card', ...data },
+            make('span', { class: 'card-title' }, text), make('span', {}, neighbour.key));
+        card.prepend(diagramOf(positionOf(fen, rows), fen));
         card.addEventListener('click', () => {
-            app.edit(positionOf(neighbour.fen, rows));
+            app.edit(positionOf(fen, rows));
             byId('board').scrollIntoView({ block: 'nearest' });
         });
         host.insertBefore(card, host.children[place] ?? null);
@@ -113,5 +102,11 @@ export function improving(app) {
         void improve();
     });
     stop.addEventListener('click', () => running?.abort());
-    app.on(['spoken'], show);
+    app.on(['spoken'], () => {
+        for (const title of host.querySelectorAll('.card-title')) {
+            title.textContent = changeText(title.parentElement?.dataset.change ?? '', app.say.bind(app));
+        }
+        show();
+    });
+    app.on(['edited', 'looked'], () => markCards(host, app.fen));
 }

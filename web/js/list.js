@@ -1,13 +1,13 @@
 /** The collection on the page: opened, judged, shown, saved. */
-import { breathe, byId, control, make, piecewise, reveal, save } from './dom.js';
-import { linesOf, rowsOf } from './answers.js';
-import { chosen, joined, stateOf, titleOf } from './collection.js';
+import { breathe, byId, control, make, markCards, piecewise, reveal, save } from './dom.js';
+import { eachLine, rowsOf } from './answers.js';
+import { chosen, decided, stateOf, titleOf } from './collection.js';
 import { diagramOf } from './diagram.js';
 import { textOf } from './engine.js';
 import { gameOf, GameReader } from './pdn.js';
 import { positionOf } from './position.js';
 import { boardOf } from './rules.js';
-import { reportOf } from './search.js';
+import { bytesOf, reportOf } from './search.js';
 import { Stopped } from './workers.js';
 
 /**
@@ -20,7 +20,7 @@ import { Stopped } from './workers.js';
 const LARGEST = 10_000_000;
 
 /** The longest list that is kept: browsers keep some megabytes for a page. */
-const LONGEST = 20_000;
+const LONGEST = 5000;
 
 /** How many problems are shown at first and with each further call, and how many at a stroke. */
 const PAGE = 200, STROKE = 10;
@@ -50,10 +50,13 @@ export class ListView {
         this.shown = PAGE;
         this.drawing = 0;
         this.said = '';
+        this.judged = this.items.filter((item) => item.row || item.refused).length;
+        /** @type {Item[]} The list that was emptied last, until there is another. */
+        this.emptied = [];
         /** @type {Map<number, HTMLElement>} */
         this.cards = new Map();
-        /** @type {Map<number, {file: Uint8Array, number: number}>} The games of files that were opened. */
-        this.games = new Map();
+        /** @type {{file: Uint8Array, before: number, count: number}[]} The files of games that were opened. */
+        this.files = [];
         this.listen();
         this.show();
     }
@@ -74,16 +77,19 @@ export class ListView {
         });
         byId('add-form').addEventListener('submit', (event) => {
             event.preventDefault();
-            this.add();
+            void this.add();
         });
         on('judge-all', () => void this.judgeAll());
         on('judge-stop', () => this.running?.abort());
         on('save-pdn', () => void this.savePdn());
         on('save-page', () => void this.savePage());
-        on('save-json', () => this.saveJson());
-        on('forget', () => this.put([]));
+        on('save-json', () => void this.saveJson());
+        on('forget', () => this.forget());
         for (const id of ['filter', 'sort']) byId(id).addEventListener('change', () => this.show());
+        const mosts = ['most', 'judge-most'].map((id) => control(id, HTMLInputElement));
+        mosts.forEach((most, i) => most.addEventListener('change', () => { mosts[1 - i].value = most.value; }));
         this.app.on(['spoken'], () => this.show());
+        this.app.on(['edited'], () => markCards(byId('list'), this.app.fen));
     }
 
     /**
@@ -92,11 +98,11 @@ export class ListView {
      */
     async open(file) {
         const { app } = this;
+        byId('tab-collection').click();
         if (file.size > LARGEST) {
             this.tell(app.say('tooLarge'));
             return;
         }
-        byId('tab-collection').click();
         const bytes = new Uint8Array(await file.arrayBuffer());
         await this.take(bytes, /\.pdn$/i.test(file.name) || textOf(bytes.slice(0, 4096)).trimStart().startsWith('['));
     }
@@ -116,24 +122,26 @@ export class ListView {
                 app.searches.ask([...words('solution'), '-n', '1', '--lines', '1'], bytes),
                 app.searches.ask([...words('find'), '--json', '--most', '1'], bytes),
             ]);
-            const reader = new GameReader(), more = /** @type {Omit<Item, 'number'>[]} */ ([]);
-            await piecewise(reportOf(games).split('\n'), (line) => reader.add(line));
-            await piecewise(linesOf(reportOf(found)), (line) => {
-                const { fen = '', refused = '' } = JSON.parse(line);
+            const reader = new GameReader(), more = /** @type {Item[]} */ ([]);
+            await piecewise(eachLine(bytesOf(games)), (line) => reader.add(line));
+            await piecewise(eachLine(bytesOf(found)), (line) => {
+                const { fen = '', refused = '' } = JSON.parse(line), number = more.length + 1;
                 const tags = refused ? [] : reader.games[more.length]?.tags ?? [];
-                more.push({ rows, fen, tags, refused, row: null });
+                more.push({ number, rows, fen, tags, refused, row: null });
             });
             this.tell('');
+            this.beginAnew();
             const before = this.items.length;
-            this.put(joined(this.items, more));
-            if (isPdn) more.forEach((_, i) => this.games.set(before + i + 1, { file: bytes, number: i + 1 }));
+            if (before) await piecewise(more, (item) => { item.number += before; });
+            if (isPdn) this.files.push({ file: bytes, before, count: more.length });
+            this.put(this.items.concat(more));
         } catch (error) {
             this.tell(app.say('failed', String(error)));
         }
     }
 
     /** Adds the position on the board, with a title and an author. */
-    add() {
+    async add() {
         const { app } = this;
         /** @type {import('./pdn.js').Tag[]} */
         const tags = [];
@@ -141,8 +149,35 @@ export class ListView {
         const author = control('add-author', HTMLInputElement).value.trim();
         if (title) tags.push(['Event', title]);
         if (author) tags.push(['White', author]);
-        const { rows } = app.position, refused = byId('fault').hidden ? '' : byId('fault').textContent ?? '';
-        if (!refused) this.put(joined(this.items, [{ rows, fen: app.fen, tags, refused, row: null }]));
+        if (await app.fault()) {
+            this.tell(app.say('faultFirst'));
+            return;
+        }
+        control('add-title', HTMLInputElement).value = '';
+        this.tell('');
+        const { rows } = app.position;
+        this.beginAnew();
+        const number = this.items.length + 1;
+        this.put([...this.items, { number, rows, fen: app.fen, tags, refused: '', row: null }]);
+    }
+
+    /** Before an empty list gets a problem: what was emptied will not come back. */
+    beginAnew() {
+        if (this.items.length === 0) this.files = [];
+    }
+
+    /** Empties the list, or brings it back if that was the last that happened to it. */
+    forget() {
+        const { items, emptied } = this;
+        this.put(items.length ? [] : emptied);
+        this.emptied = items;
+        this.tell('');
+        this.showForget();
+    }
+
+    showForget() {
+        const isBack = this.items.length === 0 && this.emptied.length > 0;
+        byId('forget').textContent = this.app.say(isBack ? 'bringBack' : 'forget');
     }
 
     /** @param {string} text */
@@ -157,8 +192,9 @@ export class ListView {
      */
     put(items) {
         this.running?.abort();
-        if (items.length === 0) this.games.clear();
         this.items = items;
+        this.emptied = [];
+        this.judged = items.filter((item) => item.row || item.refused).length;
         this.shown = PAGE;
         this.keep();
         this.show();
@@ -169,13 +205,16 @@ export class ListView {
         byId('kept').textContent = this.app.say(isKept ? 'kept' : 'notKept');
     }
 
-    /** Judges all problems, in the background, over all processors; those that take long come again at the end. */
+    /**
+     * Judges all problems, in the background, over all processors; those that take long come again at the end.
+     * Answers whether it was not stopped.
+     */
     async judgeAll() {
         const { app } = this;
         this.running?.abort();
         const running = new AbortController();
         this.running = running;
-        const most = control('most', HTMLInputElement).value;
+        const most = control('judge-most', HTMLInputElement).value;
         control('judge-all', HTMLButtonElement).disabled = true;
         control('judge-stop', HTMLButtonElement).disabled = false;
         reveal('list-progress', true);
@@ -183,10 +222,12 @@ export class ListView {
         const judge = async (/** @type {Item} */ item, /** @type {number} */ each) => {
             const words = ['dw-desk', 'find', '--json', ...boardOf(item.rows), '--most', most, '--each', String(each)];
             const [row] = rowsOf(reportOf(await app.searches.ask(words, `${item.fen}\n`, running.signal)));
+            if (!item.row) this.judged += 1;
             item.row = row;
             this.showCard(item);
             this.showState();
         };
+        this.tell(app.say('searching'));
         try {
             for (const each of EACH) {
                 const open = this.items.filter((item) => ['open', 'undecided'].includes(stateOf(item)));
@@ -197,16 +238,23 @@ export class ListView {
             running.abort();
             this.tell(error instanceof Stopped ? app.say('stoppedEarly') : app.say('failed', String(error)));
         }
+        if (this.running !== running) return false;
         control('judge-all', HTMLButtonElement).disabled = false;
         control('judge-stop', HTMLButtonElement).disabled = true;
         reveal('list-progress', false);
         this.keep();
-        this.show();
-        byId('list').dataset.state = 'done';
+        await this.show();
+        return !running.signal.aborted;
     }
 
-    /** Saves all problems as games; those that were judged have their solutions. */
+    /** Judges what was not judged yet; answers whether that was not stopped. */
+    async judgeRest() {
+        return this.items.some((item) => stateOf(item) === 'open') ? this.judgeAll() : true;
+    }
+
+    /** Saves all problems as games with their solutions; those that are undecided have none. */
     async savePdn() {
+        if (!await this.judgeRest()) return;
         const games = await this.batch((item) => {
             const game = gameOf(item.tags, item.fen), n = item.row?.n;
             if (!n) return Promise.resolve(game);
@@ -216,21 +264,29 @@ export class ListView {
         if (games) this.saveAs('problems.pdn', games.join(''), 'text/plain');
     }
 
-    /** Saves a page to be printed, as the program writes it. */
+    /** Saves a page to be printed, as the program writes it: for each board that there are problems of. */
     async savePage() {
-        const { app } = this, { rows } = app.position;
-        const games = this.items.filter((item) => !item.refused && item.rows === rows)
-            .map((item) => gameOf(item.tags, item.fen));
-        const found = this.items.map((item) => item.row?.n ?? 1);
-        const words = ['dw-desk', 'page', '--pdn', ...boardOf(rows), '--most', String(Math.max(1, ...found)),
-            '--lang', app.language, '--title', app.say('title'), '--numbers'];
-        const ask = () => app.searches.ask(words, games.join(''), this.running?.signal);
-        const pages = await this.batch(() => ask().then(reportOf), true);
-        if (pages) this.saveAs('problems.html', pages[0], 'text/html');
+        if (!await this.judgeRest()) return;
+        const { app } = this, all = decided(this.items);
+        const boards = /** @type {Rows[]} */ ([10, 8]).filter((rows) => all.some((item) => item.rows === rows));
+        for (const rows of boards) {
+            const items = all.filter((item) => item.rows === rows);
+            const most = Math.max(...items.map((item) => item.row?.n ?? 1));
+            const words = ['dw-desk', 'page', '--pdn', ...boardOf(rows), '--most', String(most), '--lang', app.language,
+                '--title', app.say('title'), '--numbers'];
+            const games = items.map((item) => gameOf(item.tags, item.fen)).join('');
+            const write = () => app.searches.ask(words, games, this.running?.signal).then(reportOf);
+            const pages = await this.batch(write, true);
+            if (!pages) return;
+            this.saveAs(rows === boards[0] ? 'problems.html' : 'problems-8.html', pages[0], 'text/html');
+        }
+        const left = this.items.length - all.length;
+        if (left) this.tell([boards.length ? this.said : '', app.say('leftOut', left)].filter(Boolean).join('. '));
     }
 
     /** Saves what is known of each problem, one line of JSON each. */
-    saveJson() {
+    async saveJson() {
+        if (!await this.judgeRest()) return;
         const lines = this.items.map(({ number, fen, refused, row }) =>
             JSON.stringify(refused ? { problem: number, refused }
                 : Object.assign({ problem: number }, row ?? { fen }, { problem: number })));
@@ -269,22 +325,43 @@ export class ListView {
         }
     }
 
-    /** Shows the list, some cards at a stroke. */
+    /** Shows the list anew. */
     async show() {
+        this.cards.clear();
+        byId('list').replaceChildren();
+        byId('list').dataset.count = String(this.items.length);
+        this.showState();
+        this.showForget();
+        await this.draw(0);
+    }
+
+    /**
+     * Shows more of the list.
+     * @param {HTMLElement} more The button that asks for it.
+     */
+    async showMore(more) {
+        const from = this.shown;
+        this.shown += PAGE;
+        more.remove();
+        await this.draw(from);
+    }
+
+    /**
+     * Draws the cards from one on, some at a stroke.
+     * @param {number} from
+     */
+    async draw(from) {
         const drawing = ++this.drawing, host = byId('list');
         const filter = control('filter', HTMLSelectElement).value, sort = control('sort', HTMLSelectElement).value;
         const items = chosen(this.items, filter, sort), shown = items.slice(0, this.shown);
-        this.cards.clear();
-        host.replaceChildren();
-        host.dataset.count = String(this.items.length);
-        this.showState();
-        for (let at = 0; at < shown.length; at += STROKE) {
+        for (let at = from; at < shown.length; at += STROKE) {
             host.append(...shown.slice(at, at + STROKE).map((item) => this.card(item)));
             await breathe();
             if (drawing !== this.drawing) return;
         }
         if (items.length > shown.length) host.append(this.moreButton(shown.length, items.length));
         host.dataset.state = 'done';
+        markCards(host, this.app.fen);
     }
 
     /**
@@ -295,10 +372,13 @@ export class ListView {
         const { app } = this;
         const text = `${app.say('showMore')} (${app.say('shownOf', shown, all)})`;
         const more = make('button', { type: 'button', class: 'more' }, text);
-        more.addEventListener('click', () => {
-            this.shown += PAGE;
-            void this.show();
-        });
+        more.addEventListener('click', () => void this.showMore(more));
+        // Who scrolls to the end sees more without a click.
+        new IntersectionObserver((entries, observer) => {
+            if (!entries.some(({ isIntersecting }) => isIntersecting)) return;
+            observer.disconnect();
+            if (more.isConnected) void this.showMore(more);
+        }, { rootMargin: '400px' }).observe(more);
         return more;
     }
 
@@ -312,8 +392,8 @@ export class ListView {
         body.append(make('span', { class: 'card-title' }, `${item.number}. ${titleOf(item)}`),
             make('span', { class: 'card-state' }));
         body.addEventListener('click', () => {
-            const game = this.games.get(item.number);
-            app.source = game ? { ...game, fen: item.fen } : null;
+            const game = this.files.find(({ before, count }) => item.number > before && item.number <= before + count);
+            app.source = game ? { file: game.file, number: item.number - game.before, fen: item.fen } : null;
             app.edit(positionOf(item.fen, item.rows));
             if (item.row?.n) control('mend-n', HTMLInputElement).value = String(item.row.n);
             byId('board').scrollIntoView({ block: 'nearest' });
@@ -338,9 +418,9 @@ export class ListView {
     }
 
     showState() {
-        const { app } = this, judged = this.items.filter((item) => item.row || item.refused).length;
-        control('list-progress', HTMLProgressElement).value = this.items.length ? judged / this.items.length : 0;
-        const counts = this.items.length ? app.say('listState', this.items.length, judged) : '';
-        byId('list-state').textContent = [this.said, counts].filter(Boolean).join(' ');
+        const { app, items, judged, said } = this;
+        control('list-progress', HTMLProgressElement).value = items.length ? judged / items.length : 0;
+        const counts = items.length ? app.say('listState', items.length, judged) : '';
+        byId('list-state').textContent = [said, counts].filter(Boolean).join('; ');
     }
 }

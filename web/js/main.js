@@ -1,14 +1,13 @@
 /** The page: makes its parts, and brings them together. */
 import { App } from './app.js';
 import { comparing } from './compare.js';
-import { diagramParts } from './diagram.js';
-import { byId, chooseOne, control } from './dom.js';
+import { byId, chooseOne, control, copyText } from './dom.js';
 import { improving } from './improve.js';
 import { addressIn, addressOf, Store } from './keep.js';
 import { keyOf, languageOf } from './languages.js';
 import { ListView } from './list.js';
 import { Play } from './play.js';
-import { isSame, positionOf } from './position.js';
+import { fenOf, positionOf } from './position.js';
 import { setUp } from './setup.js';
 import { Solving } from './solve.js';
 import { Workers } from './workers.js';
@@ -19,7 +18,8 @@ const EXAMPLE = 'W:W27,32,38:B18';
 /** Makes workers that have the module. */
 async function makerOfWorkers() {
     const text = (/** @type {string} */ id) => document.getElementById(id)?.textContent ?? '';
-    const packed = Uint8Array.from(atob(text('module')), (letter) => letter.charCodeAt(0));
+    const letters = atob(text('module')), packed = new Uint8Array(letters.length);
+    for (let i = 0; i < letters.length; i++) packed[i] = letters.charCodeAt(i);
     const stream = new Blob([packed]).stream().pipeThrough(new DecompressionStream('deflate'));
     const module = await new Response(stream).arrayBuffer();
     const address = URL.createObjectURL(new Blob([text('worker')], { type: 'text/javascript' }));
@@ -59,22 +59,24 @@ async function begin(app, store) {
     const said = addressIn(location.hash), kept = store.get('position') ?? {};
     const asked = said.fen === undefined ? { ...kept, ...said } : said;
     const rows = asked.rows === 8 ? 8 : 10;
-    if (asked.n) control('most', HTMLInputElement).value = String(asked.n);
+    for (const id of ['most', 'judge-most']) if (asked.n) control(id, HTMLInputElement).value = String(asked.n);
     const text = asked.fen ?? EXAMPLE, { fen, refused } = await app.rules.read(text, rows);
-    app.history.now = positionOf(refused ? 'W:W:B' : fen, rows);
-    app.tell('edited');
+    const position = positionOf(refused ? 'W:W:B' : fen, rows);
+    if (!document.documentElement.dataset.ready) app.history.now = position;
+    app.edit(position);
     if (!refused) return;
     control('fen', HTMLInputElement).value = text;
     byId('fen').dispatchEvent(new Event('input'));
 }
 
 /**
- * Keeps the position in the address and in the browser.
+ * Keeps the problem in the address and in the browser.
  * @param {App} app
  * @param {import('./keep.js').Store} store
  */
 function keepPosition(app, store) {
-    const address = { fen: app.fen, n: Number(control('most', HTMLInputElement).value) || 8, rows: app.position.rows };
+    const { problem } = app, n = Number(control('most', HTMLInputElement).value) || 8;
+    const address = { fen: fenOf(problem), n, rows: problem.rows };
     history.replaceState(null, '', addressOf(address));
     store.put('position', address);
 }
@@ -84,7 +86,6 @@ export async function start() {
     const make = await makerOfWorkers(), store = new Store(() => localStorage);
     const processors = Math.max(1, navigator.hardwareConcurrency || 2);
     const app = new App(new Workers(make, processors), new Workers(make, 2), new Workers(make, 1));
-    document.querySelector('defs')?.append(...diagramParts());
     const settings = store.get('settings') ?? {};
     app.language = languageOf([settings.language ?? '', ...navigator.languages]);
     const languages = control('language', HTMLSelectElement);
@@ -109,8 +110,13 @@ export async function start() {
     byId('most').addEventListener('change', () => keepPosition(app, store));
     await begin(app, store);
     addEventListener('hashchange', () => {
-        const { fen, rows } = addressIn(location.hash);
-        if (fen !== undefined && !isSame(positionOf(fen, rows ?? 10), app.position)) void begin(app, store);
+        if (addressIn(location.hash).fen !== undefined) void begin(app, store);
     });
+    byId('share').addEventListener('click', async () => {
+        const isCopied = await copyText(location.href);
+        byId('shared').textContent = isCopied ? app.say('linkCopied') : location.href;
+        byId('shared').hidden = false;
+    });
+    app.on(['edited', 'looked', 'spoken'], () => { byId('shared').hidden = true; });
     document.documentElement.dataset.ready = 'true';
 }

@@ -47,7 +47,7 @@ export class Play {
      * @param {boolean} isOn
      */
     turn(isOn) {
-        this.isOn = isOn;
+        this.isOn = this.app.isPlaying = isOn;
         void this.begin();
         this.app.tell('looked');
     }

@@ -18,13 +18,19 @@ const FIRST = 200_000, LARGER = 4, MOST = 1_000_000_000_000;
 export class Failed extends Error {}
 
 /**
+ * The answer's bytes, if the program was not stopped.
+ * @param {import('./engine.js').Answer} answer
+ */
+export function bytesOf({ status, report, message }) {
+    if (status > 1 || message) throw new Failed(message.trim() || `status ${status}`);
+    return report;
+}
+
+/**
  * The answer's text, if the program was not stopped.
  * @param {import('./engine.js').Answer} answer
  */
-export function reportOf({ status, report, message }) {
-    if (status > 1 || message) throw new Failed(message.trim() || `status ${status}`);
-    return textOf(report);
-}
+export const reportOf = (answer) => textOf(bytesOf(answer));
 
 /**
  * Finds the least number of moves of a position, in slices of growing size.
@@ -47,14 +53,24 @@ export async function find(ask, { fen, rows, most }, show, signal) {
 }
 
 /**
- * Judges a position within just so many moves.
+ * Judges a position within just so many moves, in slices of growing size.
  * @param {Ask} ask
  * @param {{fen: string, rows: Rows, most: number}} asked
+ * @param {(progress: Progress) => void} show
  * @param {AbortSignal} signal
+ * @returns {Promise<Found>}
  */
-export async function judge(ask, { fen, rows, most }, signal) {
+export async function judge(ask, { fen, rows, most }, show, signal) {
     const words = ['dw', 'judge', ...boardOf(rows), '-n', String(most), '--memo', 'deep', '--cache', '1000000'];
-    const [problem] = problemsIn(reportOf(await ask(words, `${fen}\n`, signal)));
-    if (problem.refused || !problem.found) throw new Failed(problem.refused);
-    return problem.found;
+    for (let each = FIRST; ; each *= LARGER) {
+        const bound = Math.min(each, MOST);
+        const answer = await ask([...words, '--positions', String(bound)], `${fen}\n`, signal);
+        if (bound < MOST && answer.message.includes('stopped: 2 limit')) {
+            show({ noWinIn: 0, expanded: bound });
+            continue;
+        }
+        const [problem] = problemsIn(reportOf(answer));
+        if (problem.refused || !problem.found) throw new Failed(problem.refused);
+        return problem.found;
+    }
 }

@@ -2,9 +2,11 @@
 import { BoardView, pieceOf } from './board.js';
 import { byId, chooseOne, control, make, reveal } from './dom.js';
 import { fenFault } from './answers.js';
+import { keyOf } from './languages.js';
 import {
-    emptyBoard, exchanged, isSame, mirrored, onBoard, opening, positionOf, withMoved, withPiece,
+    emptyBoard, exchanged, fenOf, isSame, mirrored, onBoard, opening, positionOf, withMoved, withPiece,
 } from './position.js';
+import { squareCount } from './squares.js';
 
 /**
  * @typedef {import('./app.js').App} App
@@ -45,9 +47,15 @@ export function setUp(app, play) {
         view.show(app.position, { isTurned, isEdited: !play.isOn, ...play.marks() });
         control('turn', HTMLSelectElement).value = app.position.turn;
         control('rows', HTMLSelectElement).value = String(app.position.rows);
+        byId('drop-rows').textContent = app.say(app.position.rows === 8 ? 'rows8' : 'rows10');
         reveal('palette', !play.isOn);
         reveal('play-tools', play.isOn);
-        byId('board-hint').textContent = app.say(play.isOn ? 'playHint' : 'boardHint');
+        byId('side').textContent = app.say(app.position.turn === 'W' ? 'whiteToMove' : 'blackToMove');
+        const isAtStart = play.isOn && play.first === fenOf(app.history.now), isAway = app.looked && !isAtStart;
+        reveal('looked', Boolean(isAway));
+        reveal('board-hint', !isAway);
+        const hint = matchMedia('(hover: none)').matches ? 'touchHint' : 'boardHint';
+        byId('board-hint').textContent = app.say(play.isOn ? 'playHint' : hint);
         control('undo', HTMLButtonElement).disabled = app.history.before.length === 0;
         control('redo', HTMLButtonElement).disabled = app.history.after.length === 0;
     }
@@ -67,6 +75,7 @@ export function setUp(app, play) {
     on('exchange', () => app.edit(exchanged(app.position)));
     on('undo', () => app.undo());
     on('redo', () => app.redo());
+    on('look-back', () => app.look(null));
     on('flip', () => {
         isTurned = !isTurned;
         show();
@@ -101,31 +110,45 @@ export function setUp(app, play) {
  */
 function followText(app) {
     const field = control('fen', HTMLInputElement);
-    let asked = 0, isTyping = false, isPending = false;
+    let asked = 0, timer = 0, isTyping = false, isPending = false, fault = Promise.resolve('');
 
     /** Writes the text of the position as the program does, once nobody types. */
     function tidy() {
         if (!isPending && byId('fault').hidden && document.activeElement !== field) field.value = app.fen;
     }
 
-    /** Asks what `dw` reads a text as, and shows the fault, or the position. */
+    /** Asks what `dw` reads a text as, and shows the fault, or the position. Answers why it is refused, if it is. */
     async function read(/** @type {string} */ text) {
         const number = ++asked, { rows } = app.position;
         const { fen, refused } = await app.rules.read(text, rows);
-        if (number !== asked) return;
+        if (number !== asked) return fault;
         if (text === field.value) isPending = false;
         showFault(app, text, refused);
         const position = refused || !isTyping ? app.position : positionOf(fen, rows);
         if (!isSame(position, app.position)) app.edit(position);
         tidy();
+        return refused;
     }
 
-    let timer = 0;
+    /** Reads a text, at once. */
+    function readNow(/** @type {string} */ text) {
+        clearTimeout(timer);
+        timer = 0;
+        fault = read(text);
+    }
+
     field.addEventListener('input', () => {
         isTyping = isPending = true;
         clearTimeout(timer);
-        timer = window.setTimeout(() => void read(field.value), PATIENCE);
+        timer = window.setTimeout(() => readNow(field.value), PATIENCE);
     });
+    field.addEventListener('keydown', ({ key }) => {
+        if (key === 'Enter' && isPending) readNow(field.value);
+    });
+    app.fault = () => {
+        if (timer) readNow(field.value);
+        return fault;
+    };
     field.addEventListener('blur', tidy);
     app.on(['edited', 'looked'], () => {
         if (isTyping && document.activeElement === field) {
@@ -134,9 +157,11 @@ function followText(app) {
         }
         isTyping = false;
         field.value = app.fen;
-        void read(app.fen);
+        readNow(app.fen);
     });
-    app.on(['spoken'], () => void read(field.value));
+    app.on(['spoken'], () => {
+        if (asked) readNow(field.value);
+    });
 }
 
 /**
@@ -161,9 +186,11 @@ function showFault(app, text, refused) {
     const cut = (/** @type {number} */ from, /** @type {number} */ to) => decoder.decode(bytes.subarray(from, to));
     let end = fault.place;
     while (end < bytes.length && (bytes[end] & 0xc0) === 0x80) end += 1;
+    const why = keyOf(`fault${fault.number}`);
     place.append(
         make('strong', {}, `${fault.number} ${fault.name} at ${fault.place}`),
         make('code', {}, cut(0, fault.place - 1), make('mark', {}, cut(fault.place - 1, end) || '␣'),
             cut(end, bytes.length)),
+        make('span', {}, why ? app.say(why, squareCount(app.position.rows)) : ''),
     );
 }

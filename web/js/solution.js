@@ -140,14 +140,30 @@ export class SolutionView {
         }
     }
 
+    /** Goes to the start, without a word to others. */
+    leave() {
+        this.here = this.tree;
+        this.mark();
+    }
+
     /** @param {Node} node */
     go(node) {
         this.here = node;
         this.mark();
         const button = this.shown.get(node);
-        if (this.host.contains(document.activeElement)) button?.focus();
-        button?.scrollIntoView({ block: 'nearest' });
+        if (this.host.contains(document.activeElement)) button?.focus({ preventScroll: true });
+        if (button) this.bringIntoView(button);
         this.choose(node);
+    }
+
+    /**
+     * Scrolls the tree, and nothing else, so that a move is seen.
+     * @param {HTMLElement} button
+     */
+    bringIntoView(button) {
+        const place = button.getBoundingClientRect(), frame = this.host.getBoundingClientRect();
+        if (place.top < frame.top) this.host.scrollTop -= frame.top - place.top;
+        else if (place.bottom > frame.bottom) this.host.scrollTop += place.bottom - frame.bottom;
     }
 
     /** Marks the move whose position is on the board; it alone takes the focus by the tabulator. */

@@ -1,5 +1,5 @@
 /** Asking what a problem is, and showing the answer. */
-import { byId, control, make, reveal, save } from './dom.js';
+import { byId, control, copyText, make, reveal, save } from './dom.js';
 import { rowsOf } from './answers.js';
 import { boardOf, knows } from './rules.js';
 import { Failed, find, judge, reportOf } from './search.js';
@@ -56,6 +56,9 @@ export class Solving {
         byId('certificate').addEventListener('click', () => void this.certify());
         byId('ask-firsts').addEventListener('click', () => void this.askFirsts());
         app.on(['edited'], () => this.forget());
+        app.on(['looked'], () => {
+            if (!app.looked) this.view.leave();
+        });
         app.on(['spoken'], () => this.show());
         void this.learn();
     }
@@ -111,6 +114,13 @@ export class Solving {
         const { app } = this;
         app.take();
         this.forget();
+        this.setState('searching', app.say('searching'));
+        if (await app.fault()) {
+            this.setState('stopped', app.say('faultFirst'));
+            byId('fault').scrollIntoView({ block: 'nearest' });
+            return;
+        }
+        this.stop();
         const running = new AbortController(), { signal } = running;
         this.running = running;
         this.asked = app.position;
@@ -127,12 +137,12 @@ export class Solving {
         const timer = setInterval(tick, TICK);
         try {
             const ask = app.solver.ask.bind(app.solver);
-            this.found = control('exact', HTMLInputElement).checked ? await judge(ask, asked, signal)
-                : await find(ask, asked, ({ noWinIn, expanded }) => {
-                    this.noWinIn = noWinIn;
-                    const positions = app.say('expanded', expanded.toLocaleString(app.language));
-                    known = [noWinIn ? app.say('noWinYet', noWinIn) : '', positions].filter(Boolean).join(', ');
-                }, signal);
+            const search = control('exact', HTMLInputElement).checked ? judge : find;
+            this.found = await search(ask, asked, ({ noWinIn, expanded }) => {
+                this.noWinIn = noWinIn;
+                const positions = app.say('expanded', expanded.toLocaleString(app.language));
+                known = [noWinIn ? app.say('noWinYet', noWinIn) : '', positions].filter(Boolean).join(', ');
+            }, signal);
             this.show();
             control('mend-n', HTMLInputElement).value = String(this.found.n);
             app.tell('solved');
@@ -219,7 +229,7 @@ export class Solving {
         byId('tries').replaceChildren(...found.tries.map(([move, reply]) =>
             make('li', {}, this.jump([move]), ` ${app.say('refutedBy')} `, this.jump([move, reply]))));
         reveal('solution-part', Boolean(this.view.tree));
-        reveal('firsts-part', this.knowsMoves);
+        reveal('firsts-part', Boolean(this.firsts));
         this.showFirsts();
     }
 
@@ -256,11 +266,11 @@ export class Solving {
         const { app, asked } = this;
         if (!asked) return;
         this.game ||= reportOf(await app.solver.ask(this.solutionWords(), `${this.fen}\n`));
-        try {
-            await navigator.clipboard.writeText(this.game);
+        if (await copyText(this.game)) {
             byId('state').textContent = app.say('copied');
-        } catch {
+        } else {
             save('problem.pdn', this.game, 'text/plain');
+            byId('state').textContent = app.say('saved', 'problem.pdn');
         }
     }
 
@@ -268,15 +278,17 @@ export class Solving {
     async certify() {
         const { app, asked, found } = this;
         if (!asked || !found) return;
-        const button = control('certificate', HTMLButtonElement);
-        button.disabled = true;
+        const running = new AbortController();
+        this.running = running;
+        this.setState('searching', app.say('saving'));
         try {
             const words = ['dw-desk', 'certify', ...boardOf(asked.rows), '-n', String(found.n), '--cache', '4000000'];
-            save('certificate.txt', reportOf(await app.solver.ask(words, `${this.fen}\n`)), 'text/plain');
+            const text = reportOf(await app.solver.ask(words, `${this.fen}\n`, running.signal));
+            save('certificate.txt', text, 'text/plain');
+            this.setState('done', app.say('saved', 'certificate.txt'));
         } catch (error) {
-            byId('state').textContent = app.say('failed', error instanceof Error ? error.message : String(error));
+            if (this.running === running) this.fail(error);
         }
-        button.disabled = false;
     }
 
     /** Asks what each first move does, shared by all processors. */
@@ -306,7 +318,8 @@ export class Solving {
     /** Shows what each first move does. */
     showFirsts() {
         const { app, firsts } = this;
-        control('ask-firsts', HTMLButtonElement).hidden = Boolean(firsts);
+        control('ask-firsts', HTMLButtonElement).hidden = !this.knowsMoves || Boolean(firsts);
+        reveal('firsts-title', Boolean(firsts));
         byId('firsts').replaceChildren(...(firsts ?? []).map((first) => {
             const replies = (first.refuted_by ?? [])
                 .flatMap((reply, i) => [i ? ', ' : ' ', this.jump([first.move, reply])]);

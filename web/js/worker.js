@@ -19,7 +19,7 @@ export function work() {
         const { number, words, input } = /** @type {Asked} */ (data);
         try {
             const answer = (await /** @type {Promise<Engine>} */ (engine)).run(words, input);
-            postMessage(/** @type {Answered} */ ({ number, answer }));
+            postMessage(/** @type {Answered} */ ({ number, answer }), { transfer: [answer.report.buffer] });
         } catch (error) {
             engine = engine && engine.then(({ module }) => new Engine(module));
             postMessage(/** @type {Answered} */ ({ number, failed: String(error) }));

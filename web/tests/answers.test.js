@@ -1,6 +1,8 @@
 import assert from 'node:assert/strict';
 import test from 'node:test';
-import { checkIn, fenFault, foundIn, legalIn, mendedIn, movesOf, problemsIn, remarkIn, rowsOf } from '../js/answers.js';
+import {
+    eachLine, fenFault, foundIn, legalIn, mendedIn, movesOf, problemsIn, rowsOf, solutionFault, summaryOf,
+} from '../js/answers.js';
 
 test('verdicts', () => {
     const [dual] = problemsIn('problem 1: W:W10,16,48:B13\n'
@@ -34,34 +36,35 @@ test('legal moves', () => {
     assert.deepEqual(legalIn(text), [[{ move: '32x23', fen: 'B:W23:B' }], []]);
 });
 
-test('remarks', () => {
-    const text = 'problem 1: W:W27,32:B18\nopen 1. 32-28: 18-23\nalso 1. 32-28 18-22 2. 28x17\n'
-        + 'holds in 2: 0 fail, 0 end, 1 open, 1 also\n';
-    const { remarks, summary, refused, fen } = checkIn(text);
-    assert.equal(refused, '');
-    assert.equal(fen, 'W:W27,32:B18');
-    assert.deepEqual(summary, ['holds in 2: 0 fail, 0 end, 1 open, 1 also']);
-    assert.deepEqual(remarks.map(({ kind, beginning, moves }) => [kind, beginning, moves]), [
-        ['open', ['32-28'], ['18-23']], ['also', ['32-28', '18-22'], ['28x17']]]);
-    assert.deepEqual(remarkIn('fails 1. 27-22 refuted by 18x38')?.refutation, '18x38');
-    assert.equal(remarkIn('fails in 2: 1 fail, 0 end, 0 open, 0 also'), null);
-    assert.deepEqual(remarkIn('also 1. 32-28')?.moves, ['32-28']);
-    assert.deepEqual(remarkIn('also 1. 32-28 18-22 2. 28x17 / 27x18')?.moves, ['28x17', '27x18']);
-    assert.deepEqual(remarkIn('ends 1. 32-28')?.beginning, ['32-28']);
-    assert.deepEqual(checkIn('problem 1: W:W27,32:B18\nsolution refused: 2 no such move at 5\n').summary,
-        ['solution refused: 2 no such move at 5']);
-    assert.equal(checkIn('problem 1: refused: 2 no fen\n').refused, 'refused: 2 no fen');
+test('what is said of a solution', () => {
+    const [row] = rowsOf('{"problem":1,"fen":"W:W27,32:B18","n":2,"win":true,"holds":true,"fail":0,"end":0,"open":1,'
+        + '"also":1,"remarks":[]}\n');
+    assert.equal(summaryOf(row), 'holds in 2: 0 fail, 0 end, 1 open, 1 also');
+    assert.equal(summaryOf({ ...row, holds: false, fail: 1 }), 'fails in 2: 1 fail, 0 end, 1 open, 1 also');
+    assert.equal(summaryOf({ ...row, refused: '2 no fen' }), 'refused: 2 no fen');
+    assert.equal(summaryOf({ ...row, solution_refused: '2 no such move at 5' }),
+        'solution refused: 2 no such move at 5');
+    assert.deepEqual(solutionFault('2 no such move at 5'), { number: 2, name: 'no such move', place: 5 });
+    assert.equal(solutionFault('something else'), null);
 });
 
 test('neighbours', () => {
-    const { neighbours, sound, all, undecided } = mendedIn('problem 1: W:W27,32:B18\n'
-        + 'without 27: W:W32:B18, sound in 2: 32-28\n'
-        + 'sound 1 of 310, 2 undecided\n');
+    const line = '{"change":"without 27","fen":"W:W32:B18","n":2,"key":"32-28"}\n';
+    const { neighbours, all, refused } = mendedIn(`${line}{"sound":1,"of":310,"undecided":0}\n`);
     assert.deepEqual(neighbours, [{ change: 'without 27', fen: 'W:W32:B18', n: 2, key: '32-28' }]);
-    assert.deepEqual([sound, all, undecided], [1, 310, 2]);
+    assert.deepEqual([all, refused], [310, '']);
+    assert.equal(mendedIn('{"problem":1,"refused":"1 fen: 7 last row at 4"}\n').refused, '1 fen: 7 last row at 4');
+    assert.deepEqual(mendedIn(''), { neighbours: [], all: 0, refused: '' });
 });
 
-test('lines of play and rows of JSON', () => {
+test('lines of play, rows of JSON and lines of a text', () => {
     assert.deepEqual(movesOf('1... 29-33 2. 43-38 33x42'), ['29-33', '43-38', '33x42']);
     assert.deepEqual(rowsOf('{"a":1}\n{"a":2}\n'), [{ a: 1 }, { a: 2 }]);
+    const lines = (/** @type {string} */ text) => [...eachLine(new TextEncoder().encode(text))];
+    assert.deepEqual(lines('a\n\nb\n'), ['a', '', 'b']);
+    assert.deepEqual(lines('a'), ['a']);
+    assert.deepEqual(lines(''), []);
+    const long = Array.from({ length: 30_000 }, (_, i) => `é${i}`);
+    assert.deepEqual(lines(`${long.join('\n')}\n`), long);
+    assert.deepEqual(lines(long.join('\n')), long);
 });

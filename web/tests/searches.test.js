@@ -26,11 +26,22 @@ test('a search goes on in slices until it is decided', async () => {
     assert.ok(slices[1] >= slices[0] && slices[2] >= slices[0] + slices[1]);
 });
 
+test('a search within just so many moves goes on in slices too', async () => {
+    const shown = /** @type {number[]} */ ([]);
+    const found = await judge(async (words) => {
+        const bound = Number(words[words.indexOf('--positions') + 1]);
+        return bound < 1_000_000 ? answer('problem 1: W:W27:B18\n', 3, `dw: stopped: 2 limit, ${bound} expanded\n`)
+            : answer('problem 1: W:W27:B18\ncooked in 5, shortest 2: 1-6\n');
+    }, { fen: 'W:W27:B18', rows: 10, most: 5 }, ({ expanded }) => shown.push(expanded), new AbortController().signal);
+    assert.equal(found.line, 'cooked in 5, shortest 2: 1-6');
+    assert.deepEqual(shown, [200_000, 800_000]);
+});
+
 test('what the program refuses or cannot do is told', async () => {
     const { signal } = new AbortController(), asked = { fen: 'x', rows: /** @type {const} */ (10), most: 2 };
     const refuse = async () => answer('problem 1: refused: 1 fen: 1 turn at 1\n', 1);
     await assert.rejects(find(refuse, asked, () => {}, signal), Failed);
-    await assert.rejects(judge(refuse, asked, signal), Failed);
+    await assert.rejects(judge(refuse, asked, () => {}, signal), Failed);
     assert.throws(() => reportOf(answer('', 3, 'dw: stopped: out of memory, 0 expanded\n')), /out of memory/);
 });
 

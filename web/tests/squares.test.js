@@ -1,5 +1,7 @@
 import assert from 'node:assert/strict';
 import test from 'node:test';
+import { pathsOf } from '../js/diagram.js';
+import { positionOf } from '../js/position.js';
 import { placeOf, squareAt, squareBeside, squareCount } from '../js/squares.js';
 
 test('squares and places are inverse, on both boards', () => {
@@ -44,4 +46,13 @@ test('arrow keys come to every square, and stay on the board', () => {
     assert.equal(squareBeside(10, 28, 'ArrowRight', false), 29);
     assert.equal(squareBeside(10, 28, 'ArrowRight', true), 27);
     assert.equal(squareBeside(10, 28, 'x', false), 28);
+});
+
+test('a diagram has the outlines of its squares and pieces', () => {
+    const paths = pathsOf(positionOf('W:W27,K32:B18', 10));
+    assert.deepEqual(paths.map(([name]) => name), ['dark-squares', 'edge white', 'edge black', 'crown white']);
+    const counts = paths.map(([, d]) => d.split('M').length - 1);
+    assert.deepEqual(counts, [50, 2, 1, 1]);
+    assert.ok(paths[2][1].startsWith('M4 3m'));
+    assert.deepEqual(pathsOf(positionOf('W:W:B', 8)).map(([, d]) => d.split('M').length - 1), [32]);
 });

@@ -1,6 +1,6 @@
 import assert from 'node:assert/strict';
 import test from 'node:test';
-import { chosen, joined, stateOf, titleOf } from '../js/collection.js';
+import { chosen, decided, stateOf, titleOf } from '../js/collection.js';
 import { addressIn, addressOf, Store } from '../js/keep.js';
 import { KEYS, keyOf, languageOf, LANGUAGES, textIn } from '../js/languages.js';
 import { gameOf, GameReader, tagLine, valueOf } from '../js/pdn.js';
@@ -59,12 +59,13 @@ test('what cannot be kept is not kept, and the page goes on', () => {
 
 test('lists are filtered and sorted', () => {
     const rows = /** @type {const} */ (10);
-    const items = joined([], [
+    const items = /** @type {import('../js/collection.js').Item[]} */ ([
         { rows, fen: 'a', tags: [['Event', 'e'], ['White', 'w']], refused: '', row: { verdict: 'cooked', n: 2 } },
         { rows, fen: '', tags: [], refused: '2 no fen', row: null },
         { rows, fen: 'c', tags: [], refused: '', row: { verdict: 'sound', n: 5 } },
         { rows, fen: 'd', tags: [], refused: '', row: null },
-    ]);
+    ].map((item, i) => ({ ...item, number: i + 1 })));
+    assert.deepEqual(decided(items).map(({ number }) => number), [1, 3]);
     assert.deepEqual(items.map(stateOf), ['cooked', 'refused', 'sound', 'open']);
     assert.equal(titleOf(items[0]), 'e, w');
     assert.deepEqual(chosen(items, '', 'verdict').map(({ number }) => number), [3, 1, 4, 2]);

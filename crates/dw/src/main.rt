@@ -10,7 +10,7 @@ use std::fs::File;
 use std::io::Read;
 use std::process::ExitCode;
 
-/// The program's name, in what it says of itself.
+/// The program's name in its messages.
 const PROGRAM: &str = "dw";
 
 fn main(rt: HostRuntime) -> ExitCode {

@@ -12,7 +12,7 @@ use Rattle.dw_arguments.specs.declared.choices.PageTries.TheVariants as tries
 use Rattle.dw_arguments.specs.declared.choices.Placing.{Placing}
 use Rattle.dw_arguments.specs.declared.choices.Placing.TheVariants as places
 
--- the board of so many rows: 8 rows if they are named, or else 10
+-- the board of this number of rows: 8 rows if they are named, or else 10
 abbrev pub board_named : (rows : Option (List ℕ)) → BoardSize
 board_named (Some rows) = if bytes_eq rows (codes "8") then Eight else Ten
 board_named None = Ten

@@ -9,7 +9,7 @@ use Rattle.dw_arguments.specs.declared.choices.BoardSize.{BoardSize}
 use Rattle.dw_arguments.specs.declared.choices.MemoKind.{MemoKind}
 use Rattle.dw_notation.specs.declared.problems.Form.{Form}
 
--- the number of the one problem that is asked for
+-- the number of the requested problem
 abbrev pub problem_asked : List Row → Option ℕ
 problem_asked options = number_given 1 1000000 options (codes "problem")
 

@@ -1,4 +1,4 @@
--- What each command of `dw-desk` asks for, by its options.
+-- The requests of the commands of `dw-desk`, by their options.
 use Rattle.std.specs.Prelude.{◌≡◌, ℕ, true, Result, Ok, Err, IsErr, MatchBool, Option, Some, None, is_some, unwrap_or}
 use Rattle.std.specs.Prelude.{List, [], codes}
 use Rattle.std.specs.Option.{option_or}
@@ -39,14 +39,15 @@ pub record AsksCheck (options : List Row) (asked : CheckArgs) : Type 0 where
   pub faults : asked.faults ≡ flag_given options (codes "faults")
   pub json : asked.json ≡ flag_given options (codes "json")
 
--- -n or --most, of which one has to be there
+-- -n or --most, one of which is required
 pub record AsksSolution (options : List Row) (asked : SolutionArgs) : Type 0 where
   pub moves : asked.moves ≡ unwrap_or (option_or (number_given 1 20 options (codes "n"))
       (number_given 1 20 options (codes "most"))) 1
   pub is_least : asked.is_least ≡ is_some (number_given 1 20 options (codes "most"))
   pub lines : asked.lines ≡ lines_given options
+  pub json : asked.json ≡ flag_given options (codes "json")
 
--- -n or --most, of which one has to be there
+-- -n or --most, one of which is required
 pub record AsksPage (options : List Row) (asked : PageArgs) : Type 0 where
   pub moves : asked.moves ≡ unwrap_or (option_or (number_given 1 20 options (codes "n"))
       (number_given 1 20 options (codes "most"))) 1
@@ -72,11 +73,11 @@ pub record AsksMoves (options : List Row) (asked : MovesArgs) : Type 0 where
   pub part : part_named (text_given options (codes "part")) ≡ Some (asked.part, asked.parts)
   pub json : asked.json ≡ flag_given options (codes "json")
 
--- what every command asks for
+-- the request of every command
 abbrev pub Reads : List Row → DeskArgs → Type 0
 Reads options args = ReadsFrom options args.board args.form args.file
 
--- what a command asks for that searches
+-- the request of a command that searches
 pub record Searches (options : List Row) (args : DeskArgs) : Type 0 where
   pub reads : Reads options args
   pub keeps : Keeps options 1000000 args.memo args.cache
@@ -141,7 +142,7 @@ abbrev pub ForLine : (options : List Row) → Result DeskArgs (Bor (List ℕ)) �
 ForLine options (Ok args) = Reads options args × IsOneProblem options args.portion × IsToken options args.task
 ForLine options (Err refusal) = ⊥
 
--- what the command of this name asks for with these options; no other name is a command
+-- the request of the command of this name with these options; no other name is a command
 abbrev pub IsAskedBy : (name : List ℕ) → (options : List Row) → Result DeskArgs (Bor (List ℕ)) → Type 0
 IsAskedBy name options answer =
     MatchBool (bytes_eq name (codes "find")) (ForPortion options IsFind answer)
@@ -153,7 +154,7 @@ IsAskedBy name options answer =
     (MatchBool (bytes_eq name (codes "mend")) (ForPart options IsMend answer)
     (MatchBool (bytes_eq name (codes "token")) (ForLine options answer) (IsErr answer))))))))
 
--- what a command line asks for, by its command and the options of that
+-- the request of a command line, by its command and the options of that
 abbrev pub IsAsked : Option (Text × List Row) → Result DeskArgs (Bor (List ℕ)) → Type 0
 IsAsked (Some command) answer = IsAskedBy command.0 command.1 answer
 IsAsked None answer = IsErr answer

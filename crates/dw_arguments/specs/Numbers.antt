@@ -4,7 +4,7 @@ use Rattle.std.specs.Prelude.{List, take, drop}
 use Rattle.std.specs.List.{position}
 use Rattle.dw_arguments.specs.Options.{number_within}
 
--- what stands before the first of these marks, and what stands after it
+-- the bytes before the first of these marks, and the bytes after it
 abbrev pub parts_at : (mark : ℕ) → List ℕ → Option (List ℕ × List ℕ)
 parts_at mark text = option_map (λ i. (take i text, drop (i + 1) text)) (position (λ b. b == mark) text)
 

@@ -1,4 +1,4 @@
--- What each command of `dw` asks for, by its options.
+-- The requests of the commands of `dw`, by their options.
 use Rattle.std.specs.Prelude.{◌≡◌, ℕ, MatchBool, Option, Some, None, IsSomeAnd, option_map, unwrap_or, List, codes}
 use Rattle.std.specs.Option.{option_copied, option_or}
 use Rattle.std.specs.Str.{bytes_eq}
@@ -8,11 +8,11 @@ use Rattle.dw_arguments.specs.Options.{number_given, text_given}
 use Rattle.dw_arguments.specs.declared.report.ReportCommand.TheVariants as commands
 use Rattle.dw_arguments.specs.declared.report.ReportArgs.{ReportArgs}
 
--- what every command asks for
+-- the request of every command
 abbrev pub Reads : List Row → ReportArgs → Type 0
 Reads options args = ReadsFrom options args.board args.form args.file
 
--- what a command asks for that searches for wins; -n has to be there
+-- the request of a command that searches for wins; -n is required
 pub record Searches (options : List Row) (args : ReportArgs) : Type 0 where
   pub reads : Reads options args
   pub n : args.n ≡ moves_within options
@@ -20,7 +20,7 @@ pub record Searches (options : List Row) (args : ReportArgs) : Type 0 where
       ≡ unwrap_or (number_given 1 1000000000000 options (codes "positions")) 1000000000000
   pub keeps : Keeps options 100000 args.memo args.cache
 
--- what the command asks for that lists lines; a token without the number of a problem is one of the first problem
+-- the request of the command that lists lines; a token without the number of a problem belongs to the first problem
 pub record Lists (options : List Row) (args : ReportArgs) : Type 0 where
   pub searches : Searches options args
   pub only : args.only
@@ -43,7 +43,7 @@ IsJudge options args =
 abbrev pub IsList : List Row → ReportArgs → Type 0
 IsList options args = (args.command ≡ commands.List) × Lists options args
 
--- what the command of this name asks for with these options; no other name is a command
+-- the request of the command of this name with these options; no other name is a command
 abbrev pub IsAskedBy : (name : List ℕ) → (options : List Row) → Option ReportArgs → Type 0
 IsAskedBy name options answer =
     MatchBool (bytes_eq name (codes "show")) (IsSomeAnd answer (IsShow options))
@@ -51,7 +51,7 @@ IsAskedBy name options answer =
     (MatchBool (bytes_eq name (codes "judge")) (IsSomeAnd answer (IsJudge options))
     (MatchBool (bytes_eq name (codes "list")) (IsSomeAnd answer (IsList options)) (answer ≡ None))))
 
--- what a command line asks for, by its command and the options of that
+-- the request of a command line, by its command and the options of that
 abbrev pub IsAsked : Option (Text × List Row) → Option ReportArgs → Type 0
 IsAsked (Some command) answer = IsAskedBy command.0 command.1 answer
 IsAsked None answer = answer ≡ None

@@ -6,8 +6,7 @@ use crate::options::{board, cache, file, memo, one_problem, pdn, within};
 use clap::{ArgMatches, Command};
 use std::alloc::{AllocError, Global};
 
-/// What the command `certify` is asked for.
-/// Example: `-n 3` asks for the certificate of a win in 3 moves.
+/// The request of the command `certify`.
 #[derive(Clone, Copy)]
 pub struct CertifyArgs {
     /// The number of moves within which the win is, `FEWEST_MOVES` to `MOST_MOVES`.
@@ -17,20 +16,20 @@ pub struct CertifyArgs {
 }
 
 const ABOUT: &str =
-    "Writes a certificate of whether a problem is won: what anyone can check without a search.";
+    "Writes a certificate that a problem is won or not, for anyone to check without a search.";
 
 const EXAMPLES: &str = "\
-Of a win each line names a position and in how many moves it is won: some move there leaves only
-replies after which a position of the certificate is won in fewer. Of no win each line names a
-position and in how many moves it is not won: after each move some reply keeps it so. The memo
-must hold all that is found on the way: --memo lru does, up to --cache positions.
-checks/certificate.py reads a certificate, and says whether it is right.
+For a win, each line has a position and the number of moves in which it is won: some move there
+leaves only replies to positions of the certificate that are won in fewer moves. For no win, each
+line has a position and a number of moves in which it is not won: after each move some reply keeps
+it so. The cache must hold everything that the search finds: --memo lru does, up to --cache
+positions. checks/certificate.py (installed as dw-certificate) checks it.
 
 Examples:
   echo W:W27,45:B16 | dw-desk certify -n 2
   dw-desk certify -n 3 --problem 4 examples/problems.fen >certificate.txt";
 
-/// The command with its arguments.
+/// Returns the command with its arguments.
 pub(crate) fn certify_command<'a>(alloc: Global) -> Result<Command<'a>, AllocError> {
     let help = "Certify a win in N moves of the side to move, 1 to 20, or that there is none";
     let arguments = vec![in alloc;
@@ -53,7 +52,7 @@ impl CertifyArgs {
     ghost use Rattle.dw_arguments.specs.DeskCommands.{AsksCertify};
     ghost use Rattle.dw_arguments.specs.Options.{options_of};
 
-    /// What the options ask for.
+    /// Returns the request of the options.
     pub(crate) fn new(matches: &ArgMatches<'_>) -> Self
         ensures { AsksCertify (options_of matches.now) result }
     {

@@ -3,7 +3,6 @@ ghost use Rattle.std.specs.Prelude.{◌≡◌};
 ghost use Rattle.std.specs.Option.{option_copied};
 
 /// The boards that the programs play on.
-/// Example: `--board 8` asks for `BoardSize::Eight`.
 #[derive(Clone, Copy, Debug, PartialEq, Eq)]
 pub enum BoardSize {
     /// 10 by 10, with 50 squares.
@@ -15,8 +14,7 @@ pub enum BoardSize {
 impl BoardSize {
     ghost use Rattle.dw_arguments.specs.Choices.{board_named};
 
-    /// The board of so many rows: the one of eight if they are named, or else the one of ten.
-    /// Example: of `Some("8")` it is `BoardSize::Eight`, and of `None` it is `BoardSize::Ten`.
+    /// Returns the board of this number of rows: 8 if it is named, else 10.
     pub fn named(rows: Option<&str>) -> BoardSize
         ensures { result ≡ board_named (option_copied rows.entry) }
     {
@@ -28,7 +26,6 @@ impl BoardSize {
 }
 
 /// What keeps the bounds that a search has found.
-/// Example: `--memo slots` asks for `MemoKind::Slots`.
 #[derive(Clone, Copy, Debug, PartialEq, Eq)]
 pub enum MemoKind {
     /// Nothing.
@@ -37,15 +34,14 @@ pub enum MemoKind {
     Lru,
     /// A table in which each position has its one place.
     Slots,
-    /// A table in which each position has two places, and what tells of more moves stays, a `DeepMemo`.
+    /// A table with two places for each position, in which deeper results stay, a `DeepMemo`.
     Deep,
 }
 
 impl MemoKind {
     ghost use Rattle.dw_arguments.specs.Choices.{memo_named};
 
-    /// The memo of this name: `none`, `slots` or `deep`, or else `lru`.
-    /// Example: of `Some("deep")` it is `MemoKind::Deep`.
+    /// Returns the memo of this name: `none`, `slots` or `deep`, or else `lru`.
     pub fn named(kind: Option<&str>) -> MemoKind
         ensures { result ≡ memo_named (option_copied kind.entry) }
     {
@@ -59,7 +55,6 @@ impl MemoKind {
 }
 
 /// The languages that a page is written in.
-/// Example: `--lang nl` asks for `PageLanguage::Dutch`.
 #[derive(Clone, Copy, Debug, PartialEq, Eq)]
 pub enum PageLanguage {
     English,
@@ -71,8 +66,7 @@ pub enum PageLanguage {
 impl PageLanguage {
     ghost use Rattle.dw_arguments.specs.Choices.{language_named};
 
-    /// The language of a name: `nl`, `fr` or `ru`, or else English.
-    /// Example: of `Some("fr")` it is `PageLanguage::French`.
+    /// Returns the language of a name: `nl`, `fr` or `ru`, or else English.
     pub fn named(name: Option<&str>) -> PageLanguage
         ensures { result ≡ language_named (option_copied name.entry) }
     {
@@ -85,8 +79,7 @@ impl PageLanguage {
     }
 }
 
-/// Where the solutions stand.
-/// Example: `--solutions end` asks for `Placing::End`.
+/// The place of the solutions.
 #[derive(Clone, Copy, Debug, PartialEq, Eq)]
 pub enum Placing {
     /// Behind each problem.
@@ -100,8 +93,7 @@ pub enum Placing {
 impl Placing {
     ghost use Rattle.dw_arguments.specs.Choices.{placing_named};
 
-    /// The place of a name: `end` or `none`, or else after each problem.
-    /// Example: of `Some("end")` it is `Placing::End`.
+    /// Returns the place of a name: `end` or `none`, or else after each problem.
     pub fn named(name: Option<&str>) -> Placing
         ensures { result ≡ placing_named (option_copied name.entry) }
     {
@@ -114,7 +106,6 @@ impl Placing {
 }
 
 /// Which tries stand on a page.
-/// Example: `--tries none` asks for `PageTries::None`.
 #[derive(Clone, Copy, Debug, PartialEq, Eq)]
 pub enum PageTries {
     All,
@@ -124,8 +115,7 @@ pub enum PageTries {
 impl PageTries {
     ghost use Rattle.dw_arguments.specs.Choices.{tries_named};
 
-    /// The tries of a name: `none`, or else all.
-    /// Example: of `Some("none")` it is `PageTries::None`.
+    /// Returns the tries of a name: `none`, or else all.
     pub fn named(name: Option<&str>) -> PageTries
         ensures { result ≡ tries_named (option_copied name.entry) }
     {

@@ -1,4 +1,4 @@
-//! What is asked for with a command of `dw-desk`.
+//! The requests of `dw-desk`.
 ghost use Rattle.std.specs.Prelude.{◌≤◌};
 
 use crate::certify::CertifyArgs;
@@ -13,7 +13,6 @@ use crate::solution::SolutionArgs;
 use dw_notation::Form;
 
 /// What is done.
-/// Example: `dw-desk check` asks for `Task::Check`.
 #[derive(Clone, Copy)]
 pub enum Task<'a> {
     /// The number of moves and the verdict are found.
@@ -35,7 +34,6 @@ pub enum Task<'a> {
 }
 
 /// What the arguments of `dw-desk` ask for.
-/// See [`DeskArgs::requested`] for an example.
 #[derive(Clone, Copy)]
 pub struct DeskArgs<'a> {
     pub task: Task<'a>,

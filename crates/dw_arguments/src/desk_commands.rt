@@ -1,4 +1,4 @@
-//! The commands of `dw-desk`, and how what is asked for with one is read.
+//! The commands of `dw-desk`, and the requests that they parse to.
 ghost use Rattle.std.specs.Prelude.{◌≡◌};
 ghost use Rattle.clap.specs.Words.{subcommand_rows_of};
 ghost use Rattle.dw_arguments.specs.DeskCommands.{ForPart, ForPortion, IsAsked, IsAskedBy, IsMend, IsMoves};
@@ -23,31 +23,30 @@ use crate::token::token_command;
 use clap::{ArgMatches, Command};
 use std::alloc::{AllocError, Global};
 
-/// What is said of arguments that name no command.
+/// The message for arguments without a command.
 const NO_COMMAND: &str = "dw-desk: no command\n";
 
-const ABOUT: &str = "Finds out what composers, editors and judges ask about problems of draughts.";
+const ABOUT: &str =
+    "Finds, checks, improves and prints problems of draughts, for composers, editors and judges.";
 
 const EXAMPLES: &str = "\
-Problems are read from FILE, or from standard input: one FEN text a line, as W:W27,45:B16,
-or with --pdn out of the tags of a PDN file, as [FEN \"W:W27,45:B16\"]. At a terminal end them
-with Ctrl-D.
-`dw-desk COMMAND --help` says what a command does, with an example.
+Problems come from FILE or standard input: one FEN text a line, such as W:W27,45:B16, or with
+--pdn the tags of a PDN file, such as [FEN \"W:W27,45:B16\"]. At a terminal, end them with Ctrl-D.
+`dw-desk COMMAND --help` explains a command, with examples.
 
 Examples:
   dw-desk find --most 6 examples/problems.fen
   dw-desk check examples/solutions.pdn
 
-Exit status: 0 done, 1 a problem, a solution or a line was refused, a solution does not hold, a
-problem is undecided or not there, 2 the arguments are no command, 3 the program was stopped or a
-file could not be read or written.";
+Exit status: 0 done; 1 a problem, solution or line was refused, a solution does not hold, or a
+problem is undecided or missing; 2 wrong arguments; 3 the program was stopped, or a file could not
+be read or written.";
 
-/// The commands that `dw-desk` knows, with their options and their help.
+/// Returns the commands that `dw-desk` knows, with their options and their help.
 ///
 /// # Errors
 ///
 /// Memory was refused.
-/// Example: `dw-desk find a.fen` is one of them, and `dw-desk judge` is none.
 pub fn command<'a>(alloc: Global) -> Result<Command<'a>, AllocError> {
     let find = find_command(alloc)?;
     let check = check_command(alloc)?;
@@ -83,7 +82,6 @@ impl<'a> DeskArgs<'a> {
     /// # Errors
     ///
     /// They are no command, they ask for help, or memory was refused.
-    /// Example: `dw-desk token --line 32-28 a.fen` asks for `Task::Token`, and `dw-desk judge` is no command.
     pub fn parse(alloc: Global, words: &'a [String]) -> Result<Self, CliError>
         ensures { IfOk result (λ args. (matches : ArgMatches) × IsAsked (subcommand_rows_of matches) (Ok args)) }
     {
@@ -96,12 +94,11 @@ impl<'a> DeskArgs<'a> {
         }
     }
 
-    /// Tells what parsed arguments ask for.
+    /// Returns the request of parsed arguments.
     ///
     /// # Errors
     ///
-    /// What is said of them if they are no command, as a text that ends a line.
-    /// Example: `dw-desk find --most 6 a.fen` asks to find the number of moves of each problem in `a.fen`, up to 6.
+    /// The message for arguments that are no command, as a text that ends a line.
     pub fn requested(matches: &ArgMatches<'a>) -> Result<Self, &'static str>
         ensures { IsAsked (subcommand_rows_of matches.now) result }
     {
@@ -112,7 +109,7 @@ impl<'a> DeskArgs<'a> {
     }
 }
 
-/// What the command of this name asks for.
+/// Returns the request of the command of this name.
 fn asked_by<'a>(name: &str, matches: &ArgMatches<'a>) -> Result<DeskArgs<'a>, &'static str>
     ensures { IsAskedBy name.now (options_of matches.now) result }
 {
@@ -129,7 +126,7 @@ fn asked_by<'a>(name: &str, matches: &ArgMatches<'a>) -> Result<DeskArgs<'a>, &'
     }
 }
 
-/// What a command asks for that searches for a portion of the problems.
+/// Returns the request of a command that searches a portion of the problems.
 fn for_portion<'a>(matches: &ArgMatches<'a>, task: Task<'a>) -> Result<DeskArgs<'a>, &'static str>
     ensures { ForPortion (options_of matches.now) (λ options asked. asked ≡ task.entry) result }
 {
@@ -139,7 +136,7 @@ fn for_portion<'a>(matches: &ArgMatches<'a>, task: Task<'a>) -> Result<DeskArgs<
     }
 }
 
-/// What a command asks for that searches for one problem, the first if no other is named.
+/// Returns the request of a command that searches one problem, the first if no other is named.
 fn for_one<'a>(matches: &ArgMatches<'a>, task: Task<'a>) -> DeskArgs<'a>
     ensures searches { Searches (options_of matches.now) result }
     ensures one { IsOneProblem (options_of matches.now) result.portion }
@@ -148,7 +145,7 @@ fn for_one<'a>(matches: &ArgMatches<'a>, task: Task<'a>) -> DeskArgs<'a>
     searched(matches, task, Portion::of_one(matches))
 }
 
-/// What the command `moves` asks for.
+/// Returns the request of the command `moves`.
 fn for_moves<'a>(matches: &ArgMatches<'a>) -> Result<DeskArgs<'a>, &'static str>
     ensures { ForPart (options_of matches.now) IsMoves result }
 {
@@ -158,7 +155,7 @@ fn for_moves<'a>(matches: &ArgMatches<'a>) -> Result<DeskArgs<'a>, &'static str>
     }
 }
 
-/// What the command `mend` asks for.
+/// Returns the request of the command `mend`.
 fn for_mend<'a>(matches: &ArgMatches<'a>) -> Result<DeskArgs<'a>, &'static str>
     ensures { ForPart (options_of matches.now) IsMend result }
 {
@@ -168,7 +165,7 @@ fn for_mend<'a>(matches: &ArgMatches<'a>) -> Result<DeskArgs<'a>, &'static str>
     }
 }
 
-/// What the command `token` asks for, which searches nothing.
+/// Returns the request of the command `token`, which does not search.
 fn for_line<'a>(matches: &ArgMatches<'a>) -> DeskArgs<'a>
     ensures reads { Reads (options_of matches.now) result }
     ensures one { IsOneProblem (options_of matches.now) result.portion }
@@ -178,7 +175,7 @@ fn for_line<'a>(matches: &ArgMatches<'a>) -> DeskArgs<'a>
     read(matches, Task::Token { line }, Portion::of_one(matches))
 }
 
-/// What a command asks for that searches.
+/// Returns the request of a command that searches.
 fn searched<'a>(matches: &ArgMatches<'a>, task: Task<'a>, portion: Portion) -> DeskArgs<'a>
     ensures searches { Searches (options_of matches.now) result }
     ensures portion { result.portion ≡ portion }
@@ -196,7 +193,7 @@ fn searched<'a>(matches: &ArgMatches<'a>, task: Task<'a>, portion: Portion) -> D
     }
 }
 
-/// What a command asks for that only reads, and searches nothing.
+/// Returns the request of a command that only reads.
 fn read<'a>(matches: &ArgMatches<'a>, task: Task<'a>, portion: Portion) -> DeskArgs<'a>
     ensures reads { Reads (options_of matches.now) result }
     ensures portion { result.portion ≡ portion }

@@ -8,7 +8,7 @@ use crate::options::{FEWEST_MOVES, count_given, flag, moves_given, option};
 use clap::{Arg, ArgMatches, value_parser};
 use std::alloc::Global;
 
-/// How many positions a memo keeps if the arguments say nothing.
+/// The default size of a memo, in positions.
 pub(crate) const USUALLY_KEPT: usize = 1_000_000;
 
 /// The fewest lines that a solution is written with.
@@ -17,21 +17,21 @@ const FEWEST_LINES: u64 = 1;
 /// The most lines that a solution is written with.
 const MOST_LINES: u64 = 1_000_000;
 
-/// How many lines a solution is written with if the arguments say nothing.
+/// The default number of lines of a solution.
 const USUAL_LINES: u64 = 1000;
 
 pub(crate) const CACHE_HELP: &str = "Keep at most C positions, 1 to 4000000 [default: 1000000]";
 
 pub(crate) const JSON_HELP: &str = "Write one line of JSON for each problem";
 
-/// `--lines`, `USUAL_LINES` if it is not given.
+/// Makes `--lines`, whose default is `USUAL_LINES`.
 pub(crate) fn lines<'a>(alloc: Global) -> Arg<'a> {
     let numbers = value_parser!(u64).range(FEWEST_LINES as i64..=MOST_LINES as i64);
     let help = "Write at most K lines of the solution, 1 to 1000000 [default: 1000]";
     option(alloc, "lines", "K", numbers, help)
 }
 
-/// How many lines are written at most, `FEWEST_LINES` to `MOST_LINES`.
+/// Returns how many lines are written at most, `FEWEST_LINES` to `MOST_LINES`.
 pub(crate) fn lines_of(matches: &ArgMatches<'_>) -> usize
     ensures value { result ≡ lines_given (options_of matches.now) }
     ensures some { 1 ≤ result }
@@ -40,7 +40,7 @@ pub(crate) fn lines_of(matches: &ArgMatches<'_>) -> usize
     count_given(matches, "lines", FEWEST_LINES, MOST_LINES).unwrap_or(USUAL_LINES) as usize
 }
 
-/// The number of moves of `-n`, which has to be there.
+/// Returns the number of moves of `-n`, which has to be there.
 pub(crate) fn moves_of(matches: &ArgMatches<'_>) -> u8
     ensures value { result ≡ moves_within (options_of matches.now) }
     ensures some { 1 ≤ result }
@@ -49,16 +49,16 @@ pub(crate) fn moves_of(matches: &ArgMatches<'_>) -> u8
     moves_given(matches, "n").unwrap_or(FEWEST_MOVES)
 }
 
-/// `--json`, a flag.
+/// Makes the flag `--json`.
 pub(crate) fn json<'a>(alloc: Global, help: &'a str) -> Arg<'a> {
     flag(alloc, "json", help)
 }
 
-/// `--progress`, a flag.
+/// Makes the flag `--progress`.
 pub(crate) fn progress<'a>(alloc: Global) -> Arg<'a> {
     flag(
         alloc,
         "progress",
-        "Show how far a search is on standard error, also if that is no terminal",
+        "Show progress on standard error even without a terminal",
     )
 }

@@ -5,7 +5,6 @@ use std::alloc::{AllocError, Global};
 use std::io;
 
 /// Why a command line is not obeyed.
-/// Example: of `dw --help` it is `CliError::Help`, and of `dw solve` it is `CliError::NoCommand`.
 #[derive(Drop)]
 pub enum CliError {
     /// Help was asked for; the text is for standard output.
@@ -27,7 +26,6 @@ impl From<AllocError> for CliError {
 impl CliError {
     /// Tells why the words could not be fetched: one is not UTF-8, or memory was refused. `program` is the program's
     /// name.
-    /// Example: of `io::ErrorKind::OutOfMemory` it is `CliError::Memory`.
     pub fn unreadable(alloc: Global, program: &str, kind: io::ErrorKind) -> CliError {
         match kind {
             io::ErrorKind::InvalidData => not_utf8(alloc, program),
@@ -51,7 +49,7 @@ impl CliError {
     }
 }
 
-/// What is said of words that are not UTF-8, in the form of what is said of others that are no command.
+/// Returns the message for arguments that are not UTF-8, in the form of the other messages.
 fn not_utf8(alloc: Global, program: &str) -> CliError {
     match format!(in alloc;
         "error: invalid UTF-8 was detected in one or more arguments\n\nUsage: {program} \

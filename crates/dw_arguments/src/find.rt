@@ -11,8 +11,7 @@ use crate::portion::problem;
 use clap::{ArgMatches, Command};
 use std::alloc::{AllocError, Global};
 
-/// What the command `find` is asked for.
-/// Example: `--most 6 --json` asks for lines of JSON, with up to 6 moves.
+/// The request of the command `find`.
 #[derive(Clone, Copy)]
 pub struct FindArgs {
     /// The most moves within which a win is looked for, `FEWEST_MOVES` to `MOST_MOVES`.
@@ -34,20 +33,19 @@ const MOST_HELP: &str =
 const EACH_HELP: &str =
     "Go to the next problem after L positions, 1 to 1000000000000 [default: never]";
 
-const ABOUT: &str = "Finds in how many moves each problem is won, and judges it at that number.";
+const ABOUT: &str = "Finds the number of moves in which each problem is won, and judges it.";
 
 const EXAMPLES: &str = "\
-What is written is what `dw judge -n N` writes for the least N with a win, or for --most if there
-is none. With --each a problem that takes too long is left undecided, and the next one begins:
-it is told in how many moves there is no win. The problems before do not matter then, since each
-begins with an empty memo.
+The output is that of `dw judge -n N` for the least N with a win, or for --most if there is none.
+With --each a problem that takes too long stays undecided, and the answer is the number of moves
+that is known to have no win. Then each problem starts with an empty cache.
 
 Examples:
   echo W:W10,16,48:B13 | dw-desk find
   dw-desk find --most 6 --each 1000000 examples/problems.fen
   dw-desk find --json --problem 1-3 examples/problems.fen";
 
-/// The command with its arguments.
+/// Returns the command with its arguments.
 pub(crate) fn find_command<'a>(alloc: Global) -> Result<Command<'a>, AllocError> {
     let arguments = vec![in alloc;
         board(alloc),
@@ -71,7 +69,7 @@ impl FindArgs {
     ghost use Rattle.dw_arguments.specs.DeskCommands.{AsksFind};
     ghost use Rattle.dw_arguments.specs.Options.{options_of};
 
-    /// What the options ask for.
+    /// Returns the request of the options.
     pub(crate) fn new(matches: &ArgMatches<'_>) -> Self
         ensures { AsksFind (options_of matches.now) result }
     {

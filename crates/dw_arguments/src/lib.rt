@@ -1,7 +1,7 @@
-//! The command lines of `dw` and of `dw-desk`: their commands, their options, and what is asked for with them.
+//! The command lines of `dw` and of `dw-desk`: their commands, their options, and their requests.
 //!
-//! Begin with `ReportArgs::parse` and `DeskArgs::parse`, which read the words of a command line. Nothing here knows an
-//! operating system: words come as a list, and what is to be said of them goes out as a `CliError`.
+//! Begin with `ReportArgs::parse` and `DeskArgs::parse`, which parse the arguments of a command line. This crate knows
+//! no operating system: arguments come as a list, and an error goes out as a `CliError`.
 #![tactic(auto)]
 
 pub mod certify;

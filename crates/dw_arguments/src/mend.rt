@@ -11,8 +11,7 @@ use crate::part::{part, part_given};
 use clap::{ArgMatches, Command};
 use std::alloc::{AllocError, Global};
 
-/// What the command `mend` is asked for.
-/// Example: `-n 3 --part 1/4` asks for the first of four parts, in 3 moves.
+/// The request of the command `mend`.
 #[derive(Clone, Copy)]
 pub struct MendArgs {
     /// The number of moves within which the win is, `FEWEST_MOVES` to `MOST_MOVES`.
@@ -34,19 +33,18 @@ pub struct MendArgs {
     pub ghost few_parts: { parts ≤ 1_000_000 },
 }
 
-const ABOUT: &str = "Finds the sound problems that are one change away from a problem.";
+const ABOUT: &str = "Finds sound problems that are one change away from a problem.";
 
 const EXAMPLES: &str = "\
-A change takes a piece away, puts one on an empty square, sets one on an empty square, or makes a
-king of a man or a man of a king. What is sound then is written, each in a line with its change and
-its key. With --each a position that takes too long is left undecided. With --part several runs
-share the work.
+A change removes a piece, adds one, moves one to an empty square, or turns a man into a king or a
+king into a man. Each sound problem is a line with its change and its first move. With --each a
+position that takes too long stays undecided. With --part several runs share the work.
 
 Examples:
   echo W:W27,32:B18 | dw-desk mend -n 2
   dw-desk mend -n 2 --problem 3 --part 1/4 examples/problems.fen";
 
-/// The command with its arguments.
+/// Returns the command with its arguments.
 pub(crate) fn mend_command<'a>(alloc: Global) -> Result<Command<'a>, AllocError> {
     let help = "Look for sound problems in N moves of the side to move, 1 to 20";
     let undecided =
@@ -77,7 +75,7 @@ impl MendArgs {
     ghost use Rattle.dw_arguments.specs.DeskCommands.{AsksMend};
     ghost use Rattle.dw_arguments.specs.Options.{options_of, text_given};
 
-    /// What the options ask for; none, if the part is none.
+    /// Returns the request of the options, or `None` if the part is not valid.
     pub(crate) fn new(matches: &ArgMatches<'_>) -> Option<Self>
         ensures asks { IfSome result (λ asked. AsksMend (options_of matches.now) asked) }
         ensures none { result ≡ None → part_named (text_given (options_of matches.now) (codes "part")) ≡ None }

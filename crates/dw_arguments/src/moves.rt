@@ -8,8 +8,7 @@ use crate::part::{part, part_given};
 use clap::{ArgMatches, Command};
 use std::alloc::{AllocError, Global};
 
-/// What the command `moves` is asked for.
-/// Example: `-n 3 --part 1/4` asks for the first of four parts of the moves, in 3 moves.
+/// The request of the command `moves`.
 #[derive(Clone, Copy)]
 pub struct MovesArgs {
     /// The number of moves within which the win is, `FEWEST_MOVES` to `MOST_MOVES`.
@@ -28,18 +27,18 @@ pub struct MovesArgs {
 }
 
 const ABOUT: &str =
-    "Tells what each first move of a problem does: how soon it wins, or what refutes it.";
+    "Shows what each first move of a problem does: how soon it wins, or which replies refute it.";
 
 const EXAMPLES: &str = "\
-Each legal move stands in a line: with the least number of moves up to N in which it wins, or with
-all replies after which it does not. The last line says how many of the moves win. With --part
-several runs share the work on a problem that takes long.
+Each legal move is a line with the least number of moves, up to N, in which it wins, or with all
+replies that refute it. The last line counts the winning moves. With --part several runs share a
+problem that takes long.
 
 Examples:
   echo W:W27,32:B18 | dw-desk moves -n 2
   dw-desk moves -n 2 --problem 3 --part 1/4 examples/problems.fen";
 
-/// The command with its arguments.
+/// Returns the command with its arguments.
 pub(crate) fn moves_command<'a>(alloc: Global) -> Result<Command<'a>, AllocError> {
     let help = "Look for a win in N moves of the side to move, 1 to 20";
     let arguments = vec![in alloc;
@@ -64,7 +63,7 @@ impl MovesArgs {
     ghost use Rattle.dw_arguments.specs.DeskCommands.{AsksMoves};
     ghost use Rattle.dw_arguments.specs.Options.{options_of, text_given};
 
-    /// What the options ask for; none, if the part is none.
+    /// Returns the request of the options, or `None` if the part is not valid.
     pub(crate) fn new(matches: &ArgMatches<'_>) -> Option<Self>
         ensures asks { IfSome result (λ asked. AsksMoves (options_of matches.now) asked) }
         ensures none { result ≡ None → part_named (text_given (options_of matches.now) (codes "part")) ≡ None }

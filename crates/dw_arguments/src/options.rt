@@ -12,53 +12,43 @@ use dw_notation::problems::MAX_PROBLEMS;
 use std::alloc::Global;
 
 /// The fewest moves within which a win is looked for.
-/// Example: `-n 0` is no command.
 pub const FEWEST_MOVES: u8 = 1;
 
 /// The most moves within which a win is looked for.
-/// Example: `-n 21` is no command.
 pub const MOST_MOVES: u8 = 20;
 
 /// The fewest positions that a run may expand.
-/// Example: `--positions 0` is no command.
 pub const FEWEST_POSITIONS: u64 = 1;
 
 /// The most positions that a run may expand.
-/// Example: `--positions 1000000000001` is no command.
 pub const MOST_POSITIONS: u64 = 1_000_000_000_000;
 
 /// The number of the first problem.
-/// Example: `--problem 0` is no command.
 pub const FIRST_PROBLEM: u32 = 1;
 
 /// The fewest positions that a memo may keep.
-/// Example: `--cache 0` is no command.
 pub const FEWEST_KEPT: usize = 1;
 
 /// The most positions that a memo may keep.
-/// Example: `--cache 4000001` is no command.
 pub const MOST_KEPT: usize = 4_000_000;
 
 /// The version of the programs.
-/// Example: `dw --version` tells it.
 pub const VERSION: &str = "1.0.0";
 
 const MEMO_HELP: &str = "\
-What is kept of the search:
-none, nothing: if there is no memory to spare
+The kind of cache:
+none, nothing: for very little memory
 lru, the positions used last: for most problems
 slots, a table with one place for each position: for many short problems
-deep, a table that holds on to what took long: for long problems, with a large C";
+deep, a table that keeps the deeper results: for long problems, with a large C";
 
-/// `--board`, ten rows if it is not given.
-/// Example: `--board 8` is the board of eight rows.
+/// Makes `--board`, whose default is ten rows.
 pub fn board<'a>(alloc: Global) -> Arg<'a> {
     let help = "The board: 10 by 10 or 8 by 8";
     option(alloc, "board", "ROWS", ["10", "8"].as_slice().into(), help).default_value("10")
 }
 
-/// `--pdn`, a flag.
-/// Example: with `--pdn` the problems are the sections of a file of games.
+/// Makes the flag `--pdn`.
 pub fn pdn<'a>(alloc: Global) -> Arg<'a> {
     flag(
         alloc,
@@ -67,8 +57,7 @@ pub fn pdn<'a>(alloc: Global) -> Arg<'a> {
     )
 }
 
-/// How the problems stand in the file: as `--pdn` says.
-/// Example: without `--pdn` it is `Form::Fens`.
+/// Returns how the problems stand in the file: as `--pdn` says.
 pub fn form_given(matches: &ArgMatches<'_>) -> Form
     ensures { result ≡ form_given (options_of matches.now) }
 {
@@ -79,15 +68,13 @@ pub fn form_given(matches: &ArgMatches<'_>) -> Form
     }
 }
 
-/// `--problem`, of one problem, `FIRST_PROBLEM` to `MAX_PROBLEMS`, with its help.
-/// Example: `--problem 3` is problem 3 alone.
+/// Makes `--problem` for one problem, `FIRST_PROBLEM` to `MAX_PROBLEMS`, with its help.
 pub fn one_problem<'a>(alloc: Global, help: &'a str) -> Arg<'a> {
     let numbers = value_parser!(u32).range(i64::from(FIRST_PROBLEM)..=i64::from(MAX_PROBLEMS));
     option(alloc, "problem", "I", numbers, help)
 }
 
-/// The number of the problem that `--problem` names, `FIRST_PROBLEM` to `MAX_PROBLEMS`, if it is given.
-/// Example: of `--problem 3` it is `Some(3)`.
+/// Returns the number of the problem that `--problem` names, `FIRST_PROBLEM` to `MAX_PROBLEMS`, if it is given.
 pub fn problem_given(matches: &ArgMatches<'_>) -> Option<u32>
     ensures value { result ≡ number_given 1 1_000_000 (options_of matches.now) (codes "problem") }
     ensures some { IfSome result (λ number. 1 ≤ number) }
@@ -99,28 +86,24 @@ pub fn problem_given(matches: &ArgMatches<'_>) -> Option<u32>
         .then_some(number)
 }
 
-/// `FILE`, the only argument without a name.
-/// Example: without it the problems are those of standard input.
+/// Makes `FILE`, the only argument without a name.
 pub fn file<'a>(alloc: Global) -> Arg<'a> {
     Arg::new(alloc, "FILE").help("The problems [default: standard input]")
 }
 
-/// `--memo`, with the kind that is taken if it is not given.
-/// Example: `--memo none` keeps nothing.
+/// Makes `--memo` with its default.
 pub fn memo<'a>(alloc: Global, usual: &'a str) -> Arg<'a> {
     let kinds = ["none", "lru", "slots", "deep"].as_slice().into();
     option(alloc, "memo", "KIND", kinds, MEMO_HELP).default_value(usual)
 }
 
-/// `--cache`, `FEWEST_KEPT` to `MOST_KEPT`, with its help.
-/// Example: `--cache 1000000` keeps a million positions.
+/// Makes `--cache`, `FEWEST_KEPT` to `MOST_KEPT`, with its help.
 pub fn cache<'a>(alloc: Global, help: &'a str) -> Arg<'a> {
     let numbers = value_parser!(u32).range(FEWEST_KEPT as i64..=MOST_KEPT as i64);
     option(alloc, "cache", "C", numbers, help)
 }
 
-/// How many positions the memo keeps at most, `FEWEST_KEPT` to `MOST_KEPT`: as `--cache` says, if it is given.
-/// Example: of `--cache 1000` it is `Some(1000)`.
+/// Returns how many positions the memo keeps at most, `FEWEST_KEPT` to `MOST_KEPT`: as `--cache` says, if it is given.
 pub fn kept_given(matches: &ArgMatches<'_>) -> Option<usize>
     ensures value { result ≡ number_given 1 4_000_000 (options_of matches.now) (codes "cache") }
     ensures some { IfSome result (λ kept. 1 ≤ kept) }
@@ -130,8 +113,7 @@ pub fn kept_given(matches: &ArgMatches<'_>) -> Option<usize>
     (FEWEST_KEPT..=MOST_KEPT).contains(&kept).then_some(kept)
 }
 
-/// `-n`, `FEWEST_MOVES` to `MOST_MOVES`, with its help.
-/// Example: `-n 3` is a win within 3 moves.
+/// Makes `-n`, `FEWEST_MOVES` to `MOST_MOVES`, with its help.
 pub fn within<'a>(alloc: Global, help: &'a str) -> Arg<'a> {
     Arg::new(alloc, "n")
         .short('n')
@@ -140,8 +122,7 @@ pub fn within<'a>(alloc: Global, help: &'a str) -> Arg<'a> {
         .help(help)
 }
 
-/// `--most`, `FEWEST_MOVES` to `MOST_MOVES`, with its help.
-/// Example: `--most 6` is the least number of moves with a win, up to 6.
+/// Makes `--most`, `FEWEST_MOVES` to `MOST_MOVES`, with its help.
 pub fn most<'a>(alloc: Global, help: &'a str) -> Arg<'a> {
     option(alloc, "most", "N", moves(), help)
 }
@@ -150,8 +131,7 @@ fn moves<'a>() -> ValueParser<'a> {
     value_parser!(u8).range(i64::from(FEWEST_MOVES)..=i64::from(MOST_MOVES))
 }
 
-/// The number of moves that the option of this name says, `FEWEST_MOVES` to `MOST_MOVES`, if it is given.
-/// Example: of `-n 3` it is `Some(3)`, by the name `n`.
+/// Returns the number of moves that the option of this name says, `FEWEST_MOVES` to `MOST_MOVES`, if it is given.
 pub fn moves_given(matches: &ArgMatches<'_>, name: &str) -> Option<u8>
     ensures value { result ≡ number_given 1 20 (options_of matches.now) name.now }
     ensures some { IfSome result (λ moves. 1 ≤ moves) }
@@ -163,15 +143,14 @@ pub fn moves_given(matches: &ArgMatches<'_>, name: &str) -> Option<u8>
         .then_some(moves)
 }
 
-/// An option with a number of positions, `FEWEST_POSITIONS` to `MOST_POSITIONS`.
-/// Example: `positions(alloc, "each", help)` is `--each L`.
+/// Returns an option with a number of positions, `FEWEST_POSITIONS` to `MOST_POSITIONS`.
 pub fn positions<'a>(alloc: Global, name: &'a str, help: &'a str) -> Arg<'a> {
     let numbers = value_parser!(u64).range(FEWEST_POSITIONS as i64..=MOST_POSITIONS as i64);
     option(alloc, name, "L", numbers, help)
 }
 
-/// The number of positions that the option of this name says, `FEWEST_POSITIONS` to `MOST_POSITIONS`, if it is given.
-/// Example: of `--each 1000` it is `Some(1000)`, by the name `each`.
+/// Returns the number of positions that the option of this name says, `FEWEST_POSITIONS` to `MOST_POSITIONS`, if it is
+/// given.
 pub fn positions_given(matches: &ArgMatches<'_>, name: &str) -> Option<u64>
     ensures value { result ≡ number_given 1 1_000_000_000_000 (options_of matches.now) name.now }
     ensures some { IfSome result (λ positions. 1 ≤ positions) }
@@ -180,8 +159,7 @@ pub fn positions_given(matches: &ArgMatches<'_>, name: &str) -> Option<u64>
     count_given(matches, name, FEWEST_POSITIONS, MOST_POSITIONS)
 }
 
-/// The number that the option of this name says, if it is given and within these bounds.
-/// Example: of `--lines 5` it is `Some(5)`, by the name `lines` and within 1 and 10.
+/// Returns the number that the option of this name says, if it is given and within these bounds.
 pub fn count_given(matches: &ArgMatches<'_>, name: &str, least: u64, most: u64) -> Option<u64>
     ensures value { result ≡ number_given least most (options_of matches.now) name.now }
     ensures some { IfSome result (λ count. least ≤ count) }
@@ -191,8 +169,7 @@ pub fn count_given(matches: &ArgMatches<'_>, name: &str, least: u64, most: u64) 
     (least..=most).contains(&count).then_some(count)
 }
 
-/// The number that a text writes, if it writes one and that is within these bounds.
-/// Example: of `17` it is `Some(17)` within 1 and 20, and `None` within 1 and 16.
+/// Returns the number that a text writes, if it writes one and that is within these bounds.
 pub fn number_within(text: &str, least: u32, most: u32) -> Option<u32>
     ensures value { result ≡ number_within least most text.now }
     ensures some { IfSome result (λ number. least ≤ number) }
@@ -202,24 +179,21 @@ pub fn number_within(text: &str, least: u32, most: u32) -> Option<u32>
     (least..=most).contains(&number).then_some(number)
 }
 
-/// The text that the option of this name says, if it is given.
-/// Example: of `--board 8` it is `Some("8")`, by the name `board`.
+/// Returns the text that the option of this name says, if it is given.
 pub fn text_given<'a>(matches: &ArgMatches<'a>, name: &str) -> Option<&'a str>
     ensures { option_map (λ text. text.now) result ≡ text_given (options_of matches.now) name.now }
 {
     matches.get_str(name)
 }
 
-/// Whether the flag of this name is given.
-/// Example: of `--json` it is `true`, by the name `json`.
+/// Returns whether the flag of this name is given.
 pub fn flag_given(matches: &ArgMatches<'_>, name: &str) -> bool
     ensures { result ≡ flag_given (options_of matches.now) name.now }
 {
     matches.get_one::<bool>(name).unwrap_or(false)
 }
 
-/// An argument that is named `--name` and has a value.
-/// Example: `option(alloc, "lines", "K", numbers, help)` is `--lines K`.
+/// Returns an argument that is named `--name` and has a value.
 pub fn option<'a>(
     alloc: Global,
     name: &'a str,
@@ -234,8 +208,7 @@ pub fn option<'a>(
         .help(help)
 }
 
-/// An argument that is named `--name` and has no value.
-/// Example: `flag(alloc, "json", help)` is `--json`.
+/// Returns an argument that is named `--name` and has no value.
 pub fn flag<'a>(alloc: Global, name: &'a str, help: &'a str) -> Arg<'a> {
     Arg::new(alloc, name)
         .long(name)

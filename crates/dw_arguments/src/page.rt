@@ -12,8 +12,7 @@ use clap::builder::ValueParser;
 use clap::{Arg, ArgMatches, Command};
 use std::alloc::{AllocError, Global};
 
-/// What the command `page` is asked for.
-/// Example: `--most 6` asks for the least number of moves with a win, up to 6.
+/// The request of the command `page`.
 #[derive(Clone, Copy)]
 pub struct PageArgs<'a> {
     /// The number of moves within which the win is, `FEWEST_MOVES` to `MOST_MOVES`.
@@ -44,8 +43,8 @@ const ABOUT: &str =
 
 const EXAMPLES: &str = "\
 The page is one HTML file that needs no other. A click on a move shows the position after it, and
-so do the arrow keys; a printer puts up to six problems on a sheet. With --pdn each problem has its
-tags Event, White, Date and Site. -n or --most has to be there: a win in N moves, or in the least
+so do the arrow keys. A printer puts up to six problems on a sheet. With --pdn each problem shows
+its tags Event, White, Date and Site. -n or --most is required: a win in N moves, or in the least
 number up to N.
 
 Examples:
@@ -53,10 +52,10 @@ Examples:
   dw-desk page --most 6 --lang fr --solutions end examples/problems.fen > problems.html
   dw-desk page -n 3 --title 'March' --numbers --pdn examples/solutions.pdn > march.html";
 
-/// The title of a page that is given none.
+/// The default title of a page.
 const USUAL_TITLE: &str = "dw-desk";
 
-/// The command with its arguments.
+/// Returns the command with its arguments.
 pub(crate) fn page_command<'a>(alloc: Global) -> Result<Command<'a>, AllocError> {
     let within = within(alloc, WITHIN_HELP)
         .required_unless_present("most")?
@@ -115,7 +114,7 @@ impl<'a> PageArgs<'a> {
     ghost use Rattle.dw_arguments.specs.DeskCommands.{AsksPage};
     ghost use Rattle.dw_arguments.specs.Options.{options_of};
 
-    /// What the options ask for.
+    /// Returns the request of the options.
     pub(crate) fn new(matches: &ArgMatches<'a>) -> Self
         ensures { AsksPage (options_of matches.now) result }
     {

@@ -16,20 +16,20 @@ const FIRST_PART: u32 = 1;
 /// The most parts.
 const MOST_PARTS: u32 = 1_000_000;
 
-/// What is said of a part that is none.
+/// The message for a part that is not valid.
 pub(crate) const NO_PART: &str = "\
 error: invalid value for '--part <I/M>': M is 1 to 1000000, and I is 1 to M
 
 For more information, try '--help'.
 ";
 
-/// `--part`, the only one if it is not given.
+/// Makes `--part`, whose default is the only part.
 pub(crate) fn part<'a>(alloc: Global) -> Arg<'a> {
-    let help = "Look at the part I of M alone, I is 1 to M, M is 1 to 1000000 [default: 1/1]";
+    let help = "Examine part I of M only, I is 1 to M, M is 1 to 1000000 [default: 1/1]";
     option(alloc, "part", "I/M", ValueParser::string(), help)
 }
 
-/// The part of `--part`, and of how many; none, if the text is no part.
+/// Returns the part of `--part`, and of how many; none, if the text is no part.
 pub(crate) fn part_given(matches: &ArgMatches<'_>) -> Option<(u32, u32)>
     ensures value { result ≡ part_named (of.text_given (options_of matches.now) (codes "part")) }
     ensures some { IfSome result (λ named. 1 ≤ named.0) }
@@ -39,7 +39,7 @@ pub(crate) fn part_given(matches: &ArgMatches<'_>) -> Option<(u32, u32)>
     part_named(text_given(matches, "part"))
 }
 
-/// The part that a text names, and of how many: `I/M`; the only one, if there is no text.
+/// Returns the part that a text names, and of how many: `I/M`; the only one, if there is no text.
 fn part_named(text: Option<&str>) -> Option<(u32, u32)>
     ensures value { result ≡ part_named (option_copied text.entry) }
     ensures some { IfSome result (λ named. 1 ≤ named.0) }
@@ -52,7 +52,7 @@ fn part_named(text: Option<&str>) -> Option<(u32, u32)>
     }
 }
 
-/// The part that a text names, and of how many.
+/// Returns the part that a text names, and of how many.
 fn part_in(text: &str) -> Option<(u32, u32)>
     ensures value { result ≡ part_named (Some text.now) }
     ensures some { IfSome result (λ named. 1 ≤ named.0) }

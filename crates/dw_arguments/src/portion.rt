@@ -11,7 +11,6 @@ use dw_notation::problems::MAX_PROBLEMS;
 use std::alloc::Global;
 
 /// The problems that are chosen.
-/// Example: `--problem 3-5` asks for those from 3 to 5, and none means all.
 #[derive(Clone, Copy, Debug, PartialEq, Eq)]
 pub struct Portion {
     /// The number of the first, `FIRST_PROBLEM` to `MAX_PROBLEMS`.
@@ -26,7 +25,7 @@ pub struct Portion {
     pub ghost few_to_last: { IfSome last (λ last. last ≤ 1_000_000) } by { Prim.hlevel props },
 }
 
-/// What is said of numbers of problems that are none.
+/// The message for a choice of problems that is not valid.
 pub(crate) const NO_PORTION: &str = "\
 error: invalid value for '--problem <I|I-J>': I and J are 1 to 1000000, and I is at most J
 
@@ -34,9 +33,9 @@ For more information, try '--help'.
 ";
 
 const PROBLEM_HELP: &str =
-    "Report on the problem I alone, or on those from I to J, 1 to 1000000 [default: all]";
+    "Report on problem I, or on problems I to J, 1 to 1000000 [default: all]";
 
-/// `--problem`, of one problem or several.
+/// Makes `--problem` for one problem or several.
 pub(crate) fn problem<'a>(alloc: Global) -> Arg<'a> {
     option(
         alloc,
@@ -52,7 +51,7 @@ impl Portion {
     ghost use Rattle.dw_arguments.specs.Numbers.{portion_named};
     ghost use Rattle.dw_arguments.specs.Options.{options_of};
 
-    /// The portion of the one problem that is named, or else of the first.
+    /// Returns the portion of the one problem that is named, or else of the first.
     pub(crate) fn of_one(matches: &ArgMatches<'_>) -> Self
         ensures { IsOneProblem (options_of matches.now) result }
     {
@@ -64,7 +63,7 @@ impl Portion {
         }
     }
 
-    /// The problems that a text names: `I`, or `I-J` from I to J; all, if there is no text.
+    /// Returns the problems that a text names: `I`, or `I-J` from I to J; all, if there is no text.
     pub(crate) fn named(text: Option<&str>) -> Option<Self>
         ensures numbers { option_map (λ portion. (portion.first, portion.last)) result
             ≡ portion_named (option_copied text.entry) }
@@ -80,7 +79,7 @@ impl Portion {
         }
     }
 
-    /// The problems that a text names.
+    /// Returns the problems that a text names.
     fn in_text(text: &str) -> Option<Self>
         ensures numbers { option_map (λ portion. (portion.first, portion.last)) result
             ≡ portion_named (Some text.now) }
@@ -100,7 +99,7 @@ impl Portion {
     }
 }
 
-/// A problem's number, `FIRST_PROBLEM` to `MAX_PROBLEMS`.
+/// Returns a problem's number, `FIRST_PROBLEM` to `MAX_PROBLEMS`.
 fn number_in(text: &str) -> Option<u32>
     ensures value { result ≡ problem_in text.now }
     ensures some { IfSome result (λ number. 1 ≤ number) }

@@ -1,4 +1,4 @@
-//! The command line of `dw`: its commands, their options, and what is asked for with them.
+//! The command line of `dw`: its commands, their options, and their requests.
 ghost use Rattle.std.specs.Prelude.{◌≡◌, ◌≤◌, IfSome, codes, option_map};
 ghost use Rattle.std.specs.Option.{option_or};
 ghost use Rattle.std.proofs.Props.{props};
@@ -17,7 +17,6 @@ use dw_notation::Form;
 use std::alloc::{AllocError, Global};
 
 /// The commands of `dw`.
-/// Example: `dw judge` asks for `ReportCommand::Judge`.
 #[derive(Clone, Copy, Debug, PartialEq, Eq)]
 pub enum ReportCommand {
     /// The position is shown, as a diagram.
@@ -31,7 +30,6 @@ pub enum ReportCommand {
 }
 
 /// What the arguments of `dw` ask for.
-/// See [`ReportArgs::requested`] for an example.
 #[derive(Clone, Copy)]
 pub struct ReportArgs<'a> {
     pub command: ReportCommand,
@@ -67,19 +65,18 @@ pub struct ReportArgs<'a> {
 /// The fewest lines that a run may list.
 const FEWEST_LINES: u64 = 1;
 
-/// The most lines that a run may list, and what it may if the arguments say nothing.
+/// The greatest number of lines to list, which is also the default.
 const MOST_LINES: u64 = 1_000_000_000;
 
-/// What is said of arguments that name no command.
+/// The message for arguments without a command.
 const NO_COMMAND: &str = "dw: no command\n";
 
-/// How many positions a memo keeps if the arguments say nothing.
+/// The default size of a memo, in positions.
 const USUALLY_KEPT: usize = 100_000;
 
 const CACHE_HELP: &str = "Keep at most C positions, 1 to 4000000 [default: 100000]";
 
-const PROBLEM_HELP: &str =
-    "Report on the problem of this number alone, 1 to 1000000 [default: all]";
+const PROBLEM_HELP: &str = "Report on problem I only, 1 to 1000000 [default: all]";
 
 const WITHIN_HELP: &str = "Look for a win in N moves of the side to move, 1 to 20";
 
@@ -89,17 +86,16 @@ const ABOUT: &str =
     "Solves problems of international draughts: verdicts, and every line of a forced win.";
 
 const EXAMPLES: &str = "\
-Problems are read from FILE, or from standard input: one FEN text a line, as W:W27,45:B16,
-or with --pdn out of the tags of a PDN file, as [FEN \"W:W27,45:B16\"]. At a terminal end them
-with Ctrl-D.
-`dw COMMAND --help` says what a command does, with an example.
+Problems come from FILE or standard input: one FEN text a line, such as W:W27,45:B16, or with
+--pdn the tags of a PDN file, such as [FEN \"W:W27,45:B16\"]. At a terminal, end them with Ctrl-D.
+`dw COMMAND --help` explains a command, with examples.
 
 Examples:
   dw judge -n 2 examples/problems.fen
   dw list -n 2 --problem 1 examples/problems.fen
 
-Exit status: 0 done, 1 a problem or a token was refused or is not there, 2 the arguments are no
-command, 3 the program was stopped or a file could not be read or written.";
+Exit status: 0 done; 1 a problem or a token was refused, or a problem is missing; 2 wrong
+arguments; 3 the program was stopped, or a file could not be read or written.";
 
 const SHOW_ABOUT: &str = "Shows each problem's position as a diagram.";
 
@@ -114,7 +110,7 @@ const MOVES_ABOUT: &str = "Lists each problem's legal moves, each with the posit
 
 const MOVES_EXAMPLES: &str = "\
 A quiet move is written 32-28 and a capture 32x23, or with all its squares if two captures
-have the same start and end. After the moves stand their number and how many pieces each takes.
+have the same start and end. The last line counts the moves and the pieces that each takes.
 
 Examples:
   echo W:WK46:B28 | dw moves
@@ -124,43 +120,41 @@ const JUDGE_ABOUT: &str =
     "Judges each problem: can the side to move force a win, and is the problem sound?";
 
 const JUDGE_EXAMPLES: &str = "\
-The side to move wins if the other has no legal move left. The verdict is one of these:
+The side to move wins if the other side has no legal move left. The verdict is one of these:
   unsolvable  no first move wins in N moves
   cooked      several first moves win in N moves, or fewer moves are enough
-  dual        one first move wins, and later there is a choice, be it of a king's last square;
-              the first such place is told
-  sound       one first move wins, and so does one move at each later turn
-After the verdict stands each try: a first move that does not win in N moves because of one
-reply alone.
+  dual        one first move wins, and later there is a choice, also of a king's last square;
+              the first such place is named
+  sound       one first move wins, and one move at each later turn
+The tries follow: first moves that fail in N moves against exactly one reply.
 
-N counts up to the end, when the other side has no move left. To find it, ask for 1, 2, 3 and
-so on: with too great an N a sound problem is called cooked.
+N counts all moves to the end, when the other side has no legal move. `dw-desk find` finds it. If N
+is too large, a sound problem is called cooked.
 
 Examples:
   echo W:W27,45:B16 | dw judge -n 2
   dw judge -n 2 examples/problems.fen
 
 The answer does not depend on --memo and --cache, only the time does. A run that reaches
---positions ends with status 3, and what it wrote before is right.";
+--positions ends with status 3, and its output up to there is right.";
 
 const LIST_ABOUT: &str = "Lists every line of each problem's forced win, in order.";
 
 const LIST_EXAMPLES: &str = "\
-A line is a way in which each move of the side to move keeps a forced win in N moves and the
-other side plays anything legal, up to its last move: 1. 45-40 16-21 2. 27x16.
-After the lines stands `complete` with their number, or `more after` with a token: with
---after the list goes on after that line.
+A line is one winning continuation: the side to move makes only moves that keep the win in N
+moves, and the other side makes any legal moves: 1. 45-40 16-21 2. 27x16.
+The last line is `complete` with the number of lines, or `more after` with a token: with --after
+the list continues after that line.
 
 Examples:
   echo W:W27,32,38:B18 | dw list -n 2
   echo W:W27,32,38:B18 | dw list -n 2 --lines 2";
 
-/// The commands that `dw` knows, with their options and their help.
+/// Returns the commands that `dw` knows, with their options and their help.
 ///
 /// # Errors
 ///
 /// Memory was refused.
-/// Example: `dw show a.fen` is one of them, and `dw solve` is none.
 pub fn command<'a>(alloc: Global) -> Result<Command<'a>, AllocError> {
     let commands = subcommands(alloc)?;
     Command::new(alloc, "dw")
@@ -185,7 +179,7 @@ fn subcommands<'a>(alloc: Global) -> Result<Vec<Command<'a>>, AllocError> {
     Ok(commands)
 }
 
-/// A command with its arguments: it reads problems, and may search for wins too, and list lines as well.
+/// Returns a command with its arguments: it reads problems, and may search for wins too, and list lines as well.
 fn subcommand<'a>(alloc: Global, command: ReportCommand) -> Result<Command<'a>, AllocError> {
     match command {
         ReportCommand::Show | ReportCommand::Moves => reader(alloc, command),
@@ -194,7 +188,7 @@ fn subcommand<'a>(alloc: Global, command: ReportCommand) -> Result<Command<'a>, 
     }
 }
 
-/// A command that reads problems, with the arguments of every command.
+/// Returns a command that reads problems, with the arguments of every command.
 fn reader<'a>(alloc: Global, command: ReportCommand) -> Result<Command<'a>, AllocError> {
     let arguments = reading(alloc)?;
     let [name, about, examples] = texts(command);
@@ -204,19 +198,19 @@ fn reader<'a>(alloc: Global, command: ReportCommand) -> Result<Command<'a>, Allo
         .args(arguments)
 }
 
-/// A command that searches for wins too.
+/// Returns a command that searches for wins too.
 fn searcher<'a>(alloc: Global, command: ReportCommand) -> Result<Command<'a>, AllocError> {
     let arguments = searching(alloc)?;
     reader(alloc, command)?.args(arguments)
 }
 
-/// The command that lists lines as well.
+/// Returns the command that lists lines as well.
 fn lister<'a>(alloc: Global) -> Result<Command<'a>, AllocError> {
     let arguments = listing(alloc)?;
     searcher(alloc, ReportCommand::List)?.args(arguments)
 }
 
-/// The name of a command, what it does, and how it is used.
+/// Returns the name of a command, its description, and its usage.
 fn texts<'a>(command: ReportCommand) -> [&'a str; 3] {
     match command {
         ReportCommand::Show => ["show", SHOW_ABOUT, SHOW_EXAMPLES],
@@ -226,7 +220,7 @@ fn texts<'a>(command: ReportCommand) -> [&'a str; 3] {
     }
 }
 
-/// The arguments of every command.
+/// Returns the arguments of every command.
 fn reading<'a>(alloc: Global) -> Result<Vec<Arg<'a>>, AllocError> {
     Ok(vec![in alloc;
         board(alloc),
@@ -236,7 +230,7 @@ fn reading<'a>(alloc: Global) -> Result<Vec<Arg<'a>>, AllocError> {
     ]?)
 }
 
-/// The arguments of a command that searches for wins.
+/// Returns the arguments of a command that searches for wins.
 fn searching<'a>(alloc: Global) -> Result<Vec<Arg<'a>>, AllocError> {
     Ok(vec![in alloc;
         within(alloc, WITHIN_HELP).required(true),
@@ -246,7 +240,7 @@ fn searching<'a>(alloc: Global) -> Result<Vec<Arg<'a>>, AllocError> {
     ]?)
 }
 
-/// The arguments of the command that lists lines.
+/// Returns the arguments of the command that lists lines.
 fn listing<'a>(alloc: Global) -> Result<Vec<Arg<'a>>, AllocError> {
     Ok(vec![in alloc; lines(alloc), after(alloc)]?)
 }
@@ -258,7 +252,7 @@ fn lines<'a>(alloc: Global) -> Arg<'a> {
 }
 
 fn after<'a>(alloc: Global) -> Arg<'a> {
-    let help = "Begin after the line of this token, of problem 1 or that of --problem";
+    let help = "Start after the line of this token, in problem 1 or that of --problem";
     option(alloc, "after", "TOKEN", ValueParser::string(), help)
 }
 
@@ -274,7 +268,6 @@ impl<'a> ReportArgs<'a> {
     /// # Errors
     ///
     /// They are no command, they ask for help, or memory was refused.
-    /// Example: `dw show a.fen` asks for `ReportCommand::Show`, and `dw solve` is no command.
     pub fn parse(alloc: Global, words: &'a [String]) -> Result<Self, CliError>
         ensures { IfOk result (λ args. (matches : ArgMatches) × IsAsked (subcommand_rows_of matches) (Some args)) }
     {
@@ -287,8 +280,7 @@ impl<'a> ReportArgs<'a> {
         }
     }
 
-    /// Tells what parsed arguments ask for.
-    /// Example: `dw show --problem 3 a.fen` asks for problem 3 alone, of the file `a.fen`.
+    /// Returns the request of parsed arguments.
     pub fn requested(matches: &ArgMatches<'a>) -> Option<Self>
         ensures { IsAsked (subcommand_rows_of matches.now) result }
     {
@@ -298,7 +290,7 @@ impl<'a> ReportArgs<'a> {
         }
     }
 
-    /// What the command of this name asks for.
+    /// Returns the request of the command of this name.
     fn asked_by(name: &str, matches: &ArgMatches<'a>) -> Option<Self>
         ensures { IsAskedBy name.now (options_of matches.now) result }
     {
@@ -311,7 +303,7 @@ impl<'a> ReportArgs<'a> {
         }
     }
 
-    /// What a command that reads problems asks for. It searches nothing and lists no lines.
+    /// Returns the request of a command that only reads problems.
     fn read_by(matches: &ArgMatches<'a>, command: ReportCommand) -> Self
         ensures command { result.command ≡ command }
         ensures only { result.only ≡ problem_asked (options_of matches.now) }
@@ -332,7 +324,7 @@ impl<'a> ReportArgs<'a> {
         }
     }
 
-    /// What a command that searches for wins asks for.
+    /// Returns the request of a command that searches for wins.
     fn searched_by(matches: &ArgMatches<'a>, command: ReportCommand) -> Self
         ensures command { result.command ≡ command }
         ensures only { result.only ≡ problem_asked (options_of matches.now) }
@@ -354,7 +346,7 @@ impl<'a> ReportArgs<'a> {
         }
     }
 
-    /// What the command that lists lines asks for.
+    /// Returns the request of the command that lists lines.
     fn listed_by(matches: &ArgMatches<'a>) -> Self
         ensures command { result.command ≡ ReportCommand.List }
         ensures lists { Lists (options_of matches.now) result }
@@ -376,7 +368,7 @@ impl<'a> ReportArgs<'a> {
     }
 }
 
-/// The problem whose lines are listed: a token without the number of a problem is one of the first problem.
+/// Returns the problem whose lines are listed: a token without the number of a problem is one of the first problem.
 fn problem_or_first(matches: &ArgMatches<'_>) -> Option<u32>
     ensures value { result ≡ option_or (number_given 1 1_000_000 (options_of matches.now) (codes "problem"))
         (option_map (λ token. 1) (text_given (options_of matches.now) (codes "after"))) }

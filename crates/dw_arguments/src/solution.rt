@@ -1,14 +1,15 @@
 //! The arguments of the command `solution`.
 ghost use Rattle.std.specs.Prelude.{◌≤◌};
 
-use crate::desk_options::{CACHE_HELP, lines, lines_of, progress};
-use crate::options::{FEWEST_MOVES, board, cache, file, memo, most, moves_given, pdn, within};
+use crate::desk_options::{CACHE_HELP, JSON_HELP, json, lines, lines_of, progress};
+use crate::options::{
+    FEWEST_MOVES, board, cache, file, flag_given, memo, most, moves_given, pdn, within,
+};
 use crate::portion::problem;
 use clap::{ArgMatches, Command};
 use std::alloc::{AllocError, Global};
 
-/// What the command `solution` is asked for.
-/// Example: `-n 3 --lines 5` asks for at most 5 lines of 3 moves.
+/// The request of the command `solution`.
 #[derive(Clone, Copy)]
 pub struct SolutionArgs {
     /// The number of moves within which the win is, `FEWEST_MOVES` to `MOST_MOVES`.
@@ -17,6 +18,8 @@ pub struct SolutionArgs {
     pub is_least: bool,
     /// How many lines are written at most, 1 to 1,000,000.
     pub lines: usize,
+    /// Whether a line of JSON is written for each problem.
+    pub json: bool,
     pub ghost some_moves: { 1 ≤ moves },
     pub ghost few_moves: { moves ≤ 20 },
     pub ghost some_lines: { 1 ≤ lines },
@@ -25,23 +28,22 @@ pub struct SolutionArgs {
 
 const WITHIN_HELP: &str = "Show the win in N moves of the side to move, 1 to 20";
 
-const MOST_HELP: &str =
-    "Show the win in the least number of moves up to N, 1 to 20, or that there is none";
+const MOST_HELP: &str = "Show the win in the least number of moves up to N, 1 to 20";
 
 const ABOUT: &str = "Writes each problem as a game of a PDN file, with its solution.";
 
 const EXAMPLES: &str = "\
-The solution is the tree of the first lines that `dw list -n N` writes: the least move goes on, and
-the others stand behind it in parentheses. The verdict stands in front, as {dual in 2}, and {more}
-behind the moves if there are other lines. With --pdn a game keeps its tags. -n or --most has to be
-there. `dw-desk check` reads it again.
+The solution is the tree of the first lines of `dw list -n N`: the first move is the main play, and
+the others follow in parentheses. The verdict comes first, as {dual in 2}, and {more} comes last if
+there are other lines. With --pdn a game keeps its tags. -n or --most is required. `dw-desk check`
+can read the game.
 
 Examples:
   echo W:W27,32:B18 | dw-desk solution -n 2
   dw-desk solution -n 2 --lines 2 --problem 1-3 examples/problems.fen
   dw-desk solution --most 6 --pdn examples/solutions.pdn";
 
-/// The command with its arguments.
+/// Returns the command with its arguments.
 pub(crate) fn solution_command<'a>(alloc: Global) -> Result<Command<'a>, AllocError> {
     let within = within(alloc, WITHIN_HELP)
         .required_unless_present("most")?
@@ -54,6 +56,7 @@ pub(crate) fn solution_command<'a>(alloc: Global) -> Result<Command<'a>, AllocEr
         within,
         most(alloc, MOST_HELP),
         lines(alloc),
+        json(alloc, JSON_HELP),
         memo(alloc, "deep"),
         cache(alloc, CACHE_HELP),
         progress(alloc),
@@ -68,7 +71,7 @@ impl SolutionArgs {
     ghost use Rattle.dw_arguments.specs.DeskCommands.{AsksSolution};
     ghost use Rattle.dw_arguments.specs.Options.{options_of};
 
-    /// What the options ask for.
+    /// Returns the request of the options.
     pub(crate) fn new(matches: &ArgMatches<'_>) -> Self
         ensures { AsksSolution (options_of matches.now) result }
     {
@@ -77,6 +80,7 @@ impl SolutionArgs {
             moves: moves_given(matches, "n").or(most).unwrap_or(FEWEST_MOVES),
             is_least: most.is_some(),
             lines: lines_of(matches),
+            json: flag_given(matches, "json"),
         }
     }
 }

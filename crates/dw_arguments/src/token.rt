@@ -4,17 +4,16 @@ use clap::builder::ValueParser;
 use clap::{Arg, Command};
 use std::alloc::{AllocError, Global};
 
-const ABOUT: &str =
-    "Writes the token of a line, with which `dw list --after` goes on behind that line.";
+const ABOUT: &str = "Writes the token of a line, so that `dw list --after` can continue after it.";
 
 const EXAMPLES: &str = "\
-So a list that was cut off goes on behind its last whole line.
+This continues an interrupted list after its last whole line.
 
 Examples:
   echo W:W27,32,38:B18 | dw-desk token --line '1. 32-28 18-22 2. 27x18'
   dw-desk token --problem 3 --line '1. 32-28 18-22 2. 27x18' examples/problems.fen";
 
-/// The command with its arguments.
+/// Returns the command with its arguments.
 pub(crate) fn token_command<'a>(alloc: Global) -> Result<Command<'a>, AllocError> {
     let arguments = vec![in alloc;
         board(alloc),

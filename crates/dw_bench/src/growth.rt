@@ -59,7 +59,7 @@ pub(crate) fn count_growth(rt: &HostRuntime) -> anyhow::Result<()> {
     Ok(())
 }
 
-/// How many positions are expanded to find whether a position is won, with a memo that is empty at first.
+/// Returns how many positions are expanded to find whether a position is won, with a memo that is empty at first.
 fn expanded_with<B: Board, M: Memo<B> + Drop>(
     rt: &HostRuntime,
     memo: M,

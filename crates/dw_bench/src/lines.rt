@@ -30,7 +30,7 @@ pub(crate) fn list_lines(rt: &HostRuntime) -> anyhow::Result<()> {
     list_text(rt, "W:W6,8,35,39,42,44:B4,7,10", 7, 165_761)
 }
 
-/// Lists the lines of a position, and goes on after the last but one. It is an error if there are not so many.
+/// Lists the lines of a position, and continues after the last but one. Another number of lines is an error.
 fn list_text(rt: &HostRuntime, text: &str, moves: u8, lines: u64) -> anyhow::Result<()>
     requires some { 1 ≤ moves }
     requires few { moves ≤ 20 }
@@ -55,7 +55,7 @@ fn list_all(rt: &HostRuntime, position: &Position<Ten>, moves: u8, lines: u64) -
     Ok(())
 }
 
-/// The number of lines, and how many positions were expanded for them.
+/// Returns the number of lines, and how many positions were expanded for them.
 fn all_lines(alloc: Global, position: &Position<Ten>, moves: u8) -> anyhow::Result<(u64, u64)>
     requires some { 1 ≤ moves }
     requires few { moves ≤ 20 }
@@ -65,12 +65,12 @@ fn all_lines(alloc: Global, position: &Position<Ten>, moves: u8) -> anyhow::Resu
     count_lines(alloc, &mut lister)
 }
 
-/// A solver with a fixed table in which nothing is noted yet.
+/// Returns a solver with a fixed table in which nothing is noted yet.
 fn new_solver(alloc: Global) -> anyhow::Result<Solver<Ten, SlotMemo<Ten>, ByTrial>> {
     Ok(Solver::new(SlotMemo::new(alloc, HELD)?, ByTrial, LIMIT))
 }
 
-/// The number of lines that are still to come, and how many positions were expanded by then.
+/// Returns the number of lines that are still to come, and how many positions were expanded by then.
 fn count_lines(alloc: Global, lister: &mut Slots<'_>) -> anyhow::Result<(u64, u64)> {
     for count in 0..MOST_LINES {
         if lister.next(alloc)?.is_none() {
@@ -80,7 +80,7 @@ fn count_lines(alloc: Global, lister: &mut Slots<'_>) -> anyhow::Result<(u64, u6
     anyhow::bail!("too many lines")
 }
 
-/// Writes how fast a new lister goes on after the line of this number. It is an error if that is not the last but one.
+/// Writes how fast a new lister continues after the line of this number. It is an error if more than one line follows.
 fn go_on_after(
     rt: &HostRuntime,
     position: &Position<Ten>,
@@ -100,8 +100,8 @@ fn go_on_after(
     Ok(())
 }
 
-/// The line of this number, counted from 1, and how many lists of moves the lines up to it were taken from: one for the
-/// position, and one after each move that is not one of those with which the line before it begins, too.
+/// Returns the line of this number, counted from 1, and how many lists of moves the lines up to it were taken from: one
+/// for the position, and one after each move that is not one of those with which the line before it begins, too.
 fn line_at(
     alloc: Global,
     position: &Position<Ten>,
@@ -116,7 +116,7 @@ fn line_at(
     walk_to(alloc, &mut lister, number)
 }
 
-/// Goes on by so many lines, and answers the last of them, and from how many lists of moves they were taken.
+/// Goes on by `number` lines, and returns the last of them, and the number of move lists that they needed.
 fn walk_to(
     alloc: Global,
     lister: &mut Slots<'_>,
@@ -134,7 +134,7 @@ fn walk_to(
     Ok((last, lists))
 }
 
-/// How many first moves two lines have in common.
+/// Returns how many first moves two lines have in common.
 fn common(line: &[Move<Ten>], other: &[Move<Ten>]) -> usize {
     let mut count = 0_usize;
     for (step, there) in line.iter().zip(other) {
@@ -146,7 +146,7 @@ fn common(line: &[Move<Ten>], other: &[Move<Ten>]) -> usize {
     count
 }
 
-/// The number of lines after this one, and how many positions were expanded for them.
+/// Returns the number of lines after this one, and how many positions were expanded for them.
 fn lines_after(
     alloc: Global,
     position: &Position<Ten>,

@@ -1,9 +1,8 @@
-//! Counts the lines of play from some positions, ply by ply, and solves problems; it says how many moves are made, and
-//! how many positions are expanded, a second. Counts and answers go to standard output, speeds to standard error.
+//! Counts the lines of play from some positions, ply by ply, and solves problems. It reports moves made and positions
+//! expanded a second. Counts and answers go to standard output, speeds to standard error.
 //!
-//! Without a word it does some of both. A number gives plies to add to the lines, `deep` counts many plies and no more,
-//! `solve` asks for all problems, `lines` lists the lines of some forced wins, and `growth` counts how many positions
-//! are expanded for one move more.
+//! Without an argument it does some of both. A number adds plies to the lines, `deep` counts many plies only, `solve`
+//! solves all problems, `lines` lists the lines of some wins, and `growth` counts the positions for each further move.
 #![tactic(auto)]
 
 mod growth;
@@ -45,10 +44,10 @@ const CASES: [Case; 3] = [
 /// The most plies that are added.
 const MOST_ADDED: usize = 4;
 
-/// Without a word, problems of so many moves are solved.
+/// The number of moves of the problems that are solved without an argument.
 const FEW_MOVES: u8 = 3;
 
-/// All problems have at most so many moves.
+/// The greatest number of moves of a problem.
 const ALL_MOVES: u8 = 6;
 
 fn main(rt: HostRuntime) -> anyhow::Result<()> {
@@ -66,7 +65,7 @@ fn main(rt: HostRuntime) -> anyhow::Result<()> {
     }
 }
 
-/// The plies to add that a word tells.
+/// Returns the number of plies that an argument adds.
 fn plies_added(word: &str) -> anyhow::Result<usize> {
     let added = word
         .parse::<usize>()
@@ -74,7 +73,7 @@ fn plies_added(word: &str) -> anyhow::Result<usize> {
     Ok(added.min(MOST_ADDED))
 }
 
-/// Counts the lines of all cases, with so many plies added.
+/// Counts the lines of all cases, with additional plies.
 fn count_all(rt: &HostRuntime, added: usize) -> anyhow::Result<()> {
     for (text, plies, _) in CASES {
         count_lines(rt, text, plies.saturating_add(added))?;
@@ -128,7 +127,7 @@ fn time_moves(
     Ok(())
 }
 
-/// Writes the number of lines of each length up to so many plies, and answers the lists that it used, one a ply.
+/// Writes the number of lines of each length up to `plies` plies, and returns the lists that it used, one a ply.
 fn count_plies(
     rt: &HostRuntime,
     position: &Position<Ten>,

@@ -6,7 +6,7 @@ use dw_moves::play::play;
 use dw_moves::{Move, legal_into};
 use std::alloc::AllocError;
 
-/// The number of lines of as many moves as there are lists, one list for each ply.
+/// Returns the number of lines of as many moves as there are lists, one list for each ply.
 pub(crate) fn perft<B: Board>(
     position: &Position<B>,
     lists: &mut [Vec<Move<B>>],
@@ -25,7 +25,7 @@ pub(crate) fn perft<B: Board>(
     Ok(count)
 }
 
-/// The number of moves made on all those lines: each is played, the last ones too.
+/// Returns the number of moves made on all those lines: each is played, the last ones too.
 pub(crate) fn moves_made<B: Board>(
     position: &Position<B>,
     lists: &mut [Vec<Move<B>>],

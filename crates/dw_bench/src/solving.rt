@@ -36,7 +36,7 @@ fn solve_each(rt: &HostRuntime, texts: [&str; 8]) -> anyhow::Result<()> {
     Ok(())
 }
 
-/// Writes a problem, and what is found with each memo.
+/// Writes a problem, and the results with each memo.
 fn solve_problem(rt: &HostRuntime, text: &str) -> anyhow::Result<()> {
     let position = written_position(rt, text)?;
     solve_with(rt, "NoMemo", NoMemo::new(), &position)?;

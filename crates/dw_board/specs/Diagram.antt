@@ -16,7 +16,7 @@ piece_sign White King = 87
 piece_sign Black Man = 98
 piece_sign Black King = 66
 
--- the sign of what stands on a square: that of a piece, or a point if it is empty
+-- the sign of a square: that of its piece, or a point if it is empty
 abbrev pub square_sign : Option Piece → ℕ
 square_sign None = 46
 square_sign (Some piece) = piece_sign piece.side piece.kind

@@ -23,7 +23,7 @@ abbrev pub ◌>>=◌ : {A B : Type 0} → Result A FenFault → (A → Result B 
 (Ok x) >>= f = f x
 (Err e) >>= f = Err e
 
--- a list as far as it is read: its colour, whether it is the second one, and what stands on the board
+-- a partly read list: its colour, whether it is the second one, and the pieces on the board
 pub record Listing : Type 0 where
   pub side : Side
   pub is_second : Bool
@@ -35,7 +35,7 @@ pub record Item : Type 0 where
   pub from : ℕ
   pub place : ℕ
 
--- what was read last, and so what may stand next
+-- the last token, and so the tokens that may follow
 pub data Stage : Type 0 where
   Start : Stage
   AfterTurn : Side → Stage
@@ -54,7 +54,7 @@ abbrev pub then_set : Option PutFault → ℕ → Result Placement FenFault → 
 then_set None place others = others
 then_set (Some why) place others = fault (put_kind why) place
 
--- so many squares from one on are set, one by one
+-- a number of squares from one on are set, one by one
 abbrev pub set_squares : Geometry → Piece → ℕ → ℕ → ℕ → Placement → Result Placement FenFault
 set_squares g piece place from zero p = Ok p
 set_squares g piece place from (suc more) p =
@@ -96,7 +96,7 @@ item_ended list t =
     then Ok (if list.is_second then AfterLists list.placed else AfterColon (Some list.side) list.placed)
     else (if is_sign full_stop t.text then Ok (AfterStop list.placed) else fault Rest t.place))
 
--- the stage after the next token, or what is wrong with that token
+-- the stage after the next token, or the fault of that token
 unfoldable pub next_stage : Geometry → Stage → Token → Result Stage FenFault
 next_stage g Start t = if_named (side_named t.text) Turn t.place (λ side. Ok (AfterTurn side))
 next_stage g (AfterTurn turn) t =
@@ -119,7 +119,7 @@ next_stage g (AfterItem list) t = item_ended list t
 next_stage g (AfterStop p) t = fault Rest t.place
 next_stage g (AfterLists p) t = Ok (AfterLists p)
 
--- the position, if the text may end here, or what is missing
+-- the position, if the text may end here, or the fault at the end
 unfoldable pub at_end : Geometry → ℕ → Stage → Result Placement FenFault
 at_end g place Start = fault Turn place
 at_end g place (AfterTurn turn) = fault Colon place
@@ -133,12 +133,12 @@ at_end g place (AfterItem list) = Ok list.placed
 at_end g place (AfterStop p) = Ok p
 at_end g place (AfterLists p) = Ok p
 
--- what the tokens from this stage on name; the text's end has this place
+-- the position of the tokens from this stage on; the text's end has this place
 unfoldable pub read_from : Geometry → ℕ → Stage → List Token → Result Placement FenFault
 read_from g end stage [] = at_end g end stage
 read_from g end stage (t ∷ tokens) = next_stage g stage t >>= λ next. read_from g end next tokens
 
--- what a text of at most 1,024 bytes says
+-- the position of a text of at most 1,024 bytes, or its fault
 unfoldable pub short_fen : Geometry → List ℕ → Result Placement FenFault
 short_fen g text = read_from g (length text + 1) Start (tokens_from 1 text)
 

@@ -1,4 +1,4 @@
--- The earliest fault of a FEN text, by the grammar: what has to stand behind the tokens before it, and does not.
+-- The earliest fault of a FEN text, by the grammar: a token that must follow the tokens before, and does not.
 use Rattle.std.specs.Prelude.{◌≡◌, ◌≢◌, ℕ, ◌+◌, ◌≤◌, ◌<◌, Bool, true, false, Option, Some, None, List, [], ◌∷◌, ◌++◌}
 use Rattle.std.specs.Prelude.{length}
 use Rattle.dw_board.specs.Geometry.{Geometry}
@@ -21,7 +21,7 @@ put_kind put.Taken = Twice
 put_kind put.LastRow = LastRow
 put_kind put.TooMany = TooMany
 
--- behind these tokens a list has to stand: the first, or a second one behind the first, whose colour is given
+-- after these tokens a list must follow: the first, or a second one after the first, whose colour is given
 pub data ListNext (g : Geometry) : (before : List Token) → Option Side → Placement → Type 0 where
   first : {turn c : Token} {mover : Side} → side_named turn.text ≡ Some mover → is_sign colon c.text ≡ true
       → ListNext g (turn ∷ c ∷ []) None (empty mover)
@@ -29,21 +29,21 @@ pub data ListNext (g : Geometry) : (before : List Token) → Option Side → Pla
       → ListNext g before None p → IsList g (texts ws) side is → Sets g p (all_named side is) q
       → is_sign colon c.text ≡ true → ListNext g (before ++ ws ++ c ∷ []) (Some side) q
 
--- tokens up to and with a list, a second one not of the first's colour: its colour and items, and what stands then
+-- tokens up to the end of a list, a second one not of the first's colour: its colour and items, and the pieces then
 pub data ListRead (g : Geometry) : List Token → Side → List Placing → Placement → Type 0 where
   listed : {before : List Token} (ws : List Token) {earlier : Option Side} {side : Side} {is : List Placing}
       {p q : Placement} → ListNext g before earlier p → IsList g (texts ws) side is → earlier ≢ Some side
       → Sets g p (all_named side is) q → ListRead g (before ++ ws) side is q
 
--- an item has to stand next: behind a comma, and behind a colour if neither the end nor `:` nor `.` follows
+-- an item must follow: after a comma, and after a colour if neither the end nor `:` nor `.` follows
 pub data ItemNext (g : Geometry) : (before after : List Token) → Side → Placement → Type 0 where
   behind_colour : {before after : List Token} {side : Side} {p : Placement}
       → ListRead g before side [] p → no_item after ≡ false → ItemNext g before after side p
   behind_comma : {before after : List Token} (c : Token) {side : Side} {i : Placing} {is : List Placing} {p : Placement}
       → ListRead g before side (i ∷ is) p → is_sign comma c.text ≡ true → ItemNext g (before ++ c ∷ []) after side p
 
--- a number of an item, of men or kings, has to stand next: its first one, where no K stands or behind K; or behind a
--- dash its last one, after the first, which is given
+-- a number of an item, of men or kings, must follow: its first one, after K if there is one; or after a dash its last
+-- one, after the first, which is given
 pub data NumberNext (g : Geometry) : (before after : List Token) → Option ℕ → Bool → Side → Placement → Type 0 where
   of_men : {before after : List Token} {side : Side} {p : Placement} → ItemNext g before after side p
       → first_is is_king_letter after ≡ false → NumberNext g before after None false side p
@@ -54,14 +54,14 @@ pub data NumberNext (g : Geometry) : (before after : List Token) → Option ℕ 
       → NumberNext g before (v ∷ d ∷ after) None kings side p → number_named g v.text ≡ Some m
       → is_sign dash d.text ≡ true → NumberNext g (before ++ v ∷ d ∷ []) after (Some m) kings side p
 
--- all numbers of an item stand next, and then the rest: behind a single number no dash, which would go on with it
+-- all numbers of an item follow, and then the rest: after a single number no dash, which would continue it
 pub data RangeNext (g : Geometry) : (before ts rest : List Token) → Placing → Side → Placement → Type 0 where
   whole : {before ts rest : List Token} {m n : ℕ} {kings : Bool} {side : Side} {p : Placement}
       → NumberNext g before (ts ++ rest) None kings side p → IsRange g (texts ts) m n
       → (length ts ≡ 1 → first_is (is_sign dash) rest ≡ false)
       → RangeNext g before ts rest (record { is_king = kings; from = m; to = n }) side p
 
--- behind the tokens before, the first of those after is at fault, or the text's end if there is none
+-- after the tokens before, the first of those after is at fault, or the text's end if there is none
 pub data FaultAt (g : Geometry) : (before after : List Token) → FenFaultKind → Type 0 where
   no_turn : {after : List Token} → first_named side_named after ≡ None → FaultAt g [] after Turn
   no_colon : {turn : Token} {after : List Token} {mover : Side} → side_named turn.text ≡ Some mover

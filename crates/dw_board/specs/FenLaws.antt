@@ -24,7 +24,7 @@ FaultIsGrammar =
 abbrev pub WrittenIsFen : Type 0
 WrittenIsFen = (g : Geometry) → IsBoard g → (p : Placement) → IsPosition g p.cells → Fen g (written g p) p
 
--- so what was written is read again
+-- so a written text is read again
 abbrev pub WrittenIsRead : Type 0
 WrittenIsRead = (g : Geometry) → IsBoard g → (p : Placement) → IsPosition g p.cells → fen g (written g p) ≡ Ok p
 
@@ -56,7 +56,7 @@ LeadNowhere g tokens = (more : List (List ℕ)) (p : Placement) → Names g (tex
 abbrev pub asks_more : List ℕ → Bool
 asks_more w = is_sign colon w || (is_sign comma w || (is_sign dash w || is_king_letter w))
 
--- a text that ends too soon has no token, or the turn alone, or a last one that asks for more
+-- a text that ends too soon has no token, or the turn alone, or a last token that needs another
 pub data EndsTooSoon : List Token → Type 0 where
   no_token : EndsTooSoon []
   turn_alone : (turn : Token) (side : Side) → side_named turn.text ≡ Some side → EndsTooSoon (turn ∷ [])

@@ -62,7 +62,7 @@ with_byte byte place joins tokens =
       place = place;
     } ∷ tokens)
 
--- the tokens of bytes, the first of which stands at this place
+-- the tokens of bytes, the first of which has this place
 abbrev pub tokens_from : ℕ → List ℕ → List Token
 tokens_from place [] = []
 tokens_from place (byte ∷ bytes) = with_byte byte place (begins_with_digit bytes) (tokens_from (place + 1) bytes)
@@ -108,7 +108,7 @@ abbrev pub first_is : (List ℕ → Bool) → List Token → Bool
 first_is test [] = false
 first_is test (t ∷ tokens) = test t.text
 
--- what the first token names
+-- the square or side that the first token names
 abbrev pub first_named : {A : Type 0} → (List ℕ → Option A) → List Token → Option A
 first_named name [] = None
 first_named name (t ∷ tokens) = name t.text

@@ -5,6 +5,6 @@ use Rattle.dw_board.specs.Geometry.{Geometry}
 use Rattle.dw_board.specs.Placement.{Placement}
 use Rattle.dw_board.specs.inner.Mixing.{mixed_word}
 
--- one word, the number of its side to move and of what stands on the board
+-- one word, the number of its side to move and of the pieces on the board
 abbrev pub position_bytes : Geometry → Placement → List (List ℕ)
 position_bytes g p = fed.u64 (mixed_word g p)

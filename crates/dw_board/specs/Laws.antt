@@ -3,7 +3,7 @@ use Rattle.std.specs.Prelude.{◌≡◌, ℕ, ◌+◌, Bool, true, false, Some, 
 use Rattle.dw_board.specs.declared.board.Dir.{Dir}
 use Rattle.dw_board.specs.Geometry.{Geometry, IsBoard, OnBoard, row, column, step, is_down, is_right, ShiftsAreSteps}
 
--- y is the number behind x, or the one before it
+-- y is the number after x, or the one before it
 abbrev pub IsNext : Bool → ℕ → ℕ → Type 0
 IsNext true x y = y ≡ x + 1
 IsNext false x y = x ≡ y + 1

@@ -41,7 +41,7 @@ set_of h White King = h.white_kings
 set_of h Black Man = h.black_men
 set_of h Black King = h.black_kings
 
--- what the sets say of a square; none has a square of another's
+-- the piece on a square by the sets; no square is in two of them
 abbrev pub held_at : (Side → Kind → Squares) → ℕ → Option Piece
 held_at sets s =
     cond (set.contains (sets White Man) s) (Some (record { side = White; kind = Man }))

@@ -16,12 +16,10 @@ use crate::squares::Squares;
 use arrayvec::ArrayString;
 
 /// The bytes that suffice for each diagram.
-/// Example: on the board of ten rows each diagram has just 130 bytes.
 pub const DIAGRAM_ROOM: usize = 130;
 
-/// The diagram of a position: a line for each row from the top, with a blank for a light square, a point for
-/// an empty dark one, `w` and `b` for men, `W` and `B` for kings.
-/// Example: of `W:W32:B28` the seventh line is `| . w . . .|`.
+/// Returns the diagram of a position: a line for each row from the top, with a blank for a light square, a point for an
+/// empty dark one, `w` and `b` for men, `W` and `B` for kings.
 pub fn diagram<B: Board>(position: &Position<B>) -> ArrayString<DIAGRAM_ROOM>
     ensures { result.bytes ≡ diagram_text B.geometry position.now }
 {
@@ -61,7 +59,7 @@ fn sign_at<B: Board>(signs: &Signs<B>, row: u8, column: u8) -> char
     }
 }
 
-/// The squares of a position, by what their signs show.
+/// The squares of a position, grouped by their signs.
 #[derive(Drop)]
 struct Signs<B: Board> {
     occupied: Squares<B>,
@@ -70,7 +68,7 @@ struct Signs<B: Board> {
 }
 
 impl<B: Board> Signs<B> {
-    /// The sets of a position.
+    /// Returns the sets of a position.
     fn of(position: &Position<B>) -> Self
         ensures { AreSigns B.geometry position.now result.occupied result.white result.kings }
     {
@@ -83,7 +81,7 @@ impl<B: Board> Signs<B> {
         }
     }
 
-    /// The sign of a dark square. Most squares are empty, and so that is asked first.
+    /// Returns the sign of a dark square. Most squares are empty, so that case comes first.
     fn at(&self, square: Square<B>) -> char
         ensures ascii { result < 128 }
         ensures value { result ≡ sign_by (set.contains self.now.occupied square) (set.contains self.now.white square)

@@ -14,7 +14,7 @@ use crate::square::Square;
 use crate::squares::Squares;
 use std::alloc::AllocError;
 
-/// Where the pieces of a position stand: a set of squares for each side and kind.
+/// The squares of the pieces of a position: one set for each side and kind.
 #[derive(Copy)]
 pub(crate) struct Held<B: Board> {
     white_men: Squares<B>,
@@ -24,7 +24,7 @@ pub(crate) struct Held<B: Board> {
 }
 
 impl<B: Board> Held<B> {
-    /// No piece at all.
+    /// Returns the sets of an empty board.
     #[inline]
     pub(crate) fn none() -> Self
         ensures { (side : Side) (kind : Kind) → set_of result side kind ≡ set.empty }
@@ -37,7 +37,7 @@ impl<B: Board> Held<B> {
         }
     }
 
-    /// Where the pieces stand, if white's, black's and all kings stand on these squares.
+    /// Returns where the pieces stand, if white's, black's and all kings stand on these squares.
     #[inline]
     pub(crate) fn parted(white: Squares<B>, black: Squares<B>, kings: Squares<B>) -> Self
         ensures { (side : Side) (kind : Kind) → set_of result side kind ≡ parted white black kings side kind }
@@ -50,7 +50,7 @@ impl<B: Board> Held<B> {
         }
     }
 
-    /// The squares of this side's pieces of this kind.
+    /// Returns the squares of this side's pieces of this kind.
     #[inline]
     pub(crate) fn of(&self, side: Side, kind: Kind) -> Squares<B>
         ensures { result ≡ set_of self.now side kind }
@@ -63,7 +63,7 @@ impl<B: Board> Held<B> {
         }
     }
 
-    /// The squares of this side's pieces.
+    /// Returns the squares of this side's pieces.
     #[inline]
     pub(crate) fn all_of(&self, side: Side) -> Squares<B>
         ensures { result ≡ set.union (set_of self.now side Man) (set_of self.now side King) }
@@ -71,7 +71,7 @@ impl<B: Board> Held<B> {
         self.of(side, Kind::Man).or(self.of(side, Kind::King))
     }
 
-    /// All squares on which a piece stands.
+    /// Returns all squares on which a piece stands.
     #[inline]
     pub(crate) fn occupied(&self) -> Squares<B>
         ensures { result ≡ set.union (set.union (set_of self.now White Man) (set_of self.now White King))
@@ -80,7 +80,7 @@ impl<B: Board> Held<B> {
         self.all_of(Side::White).or(self.all_of(Side::Black))
     }
 
-    /// What stands on a square.
+    /// Returns the piece on a square.
     #[inline]
     pub(crate) fn at(&self, square: Square<B>) -> Option<Piece>
         ensures { result ≡ held_at (set_of self.now) square }
@@ -100,7 +100,7 @@ impl<B: Board> Held<B> {
         Some(Piece { side, kind })
     }
 
-    /// Whether each set is the same.
+    /// Returns whether each set is the same.
     #[inline]
     pub(crate) fn is_same(&self, other: &Self) -> bool
         ensures { result ≡ same_sets self.now other.now }
@@ -111,7 +111,7 @@ impl<B: Board> Held<B> {
             && self.black_kings == other.black_kings
     }
 
-    /// The same, and the piece on the square.
+    /// Returns the same, and the piece on the square.
     #[inline]
     pub(crate) fn with(self, square: Square<B>, piece: Piece) -> Self
         ensures { (side : Side) (kind : Kind)
@@ -127,7 +127,7 @@ impl<B: Board> Held<B> {
         held
     }
 
-    /// The same, and nothing on the square. It leaves each set without asking which one it is in.
+    /// Returns the same, and nothing on the square. It leaves each set without asking which one it is in.
     #[inline]
     pub(crate) fn without(self, square: Square<B>) -> Self
         ensures { (side : Side) (kind : Kind) → set_of result side kind ≡ set.remove (set_of self side kind) square }
@@ -140,7 +140,7 @@ impl<B: Board> Held<B> {
         }
     }
 
-    /// The same, and nothing on these squares.
+    /// Returns the same, and nothing on these squares.
     #[inline]
     pub(crate) fn minus(self, squares: Squares<B>) -> Self
         ensures { (side : Side) (kind : Kind)
@@ -155,7 +155,7 @@ impl<B: Board> Held<B> {
     }
 }
 
-/// By hand: a derived `clone` tells of words, and this one that the sets are the same.
+/// Written by hand: a derived `clone` would state equal words, this one states equal sets.
 impl<B: Board> Clone for Held<B> {
     ghost is_clone = { λ held clone. clone ≡ held };
 

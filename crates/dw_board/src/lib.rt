@@ -1,9 +1,7 @@
 //! Boards, squares and positions of draughts, their FEN texts and their diagrams.
 //!
-//! Everything is generic over the board. No call takes memory. Begin with `Position`, and with `read_fen`, which makes
-//! one from a text.
-//!
-//! An example tells a position by its FEN text, on the board of ten rows if it names no other.
+//! Everything is generic over the board, and nothing allocates. Begin with `Position`, and with `read_fen`, which
+//! parses one.
 #![tactic(auto)]
 
 pub mod board;

@@ -8,7 +8,6 @@ use std::marker::Model;
 
 /// What stands on each square of a board, and not whose turn it is: three sets of squares, 24 bytes. A large table
 /// keeps positions so. `Position::pack` makes one, and `Position::unpack` makes a position of it.
-/// Example: of `W:W32:BK28` the sets are those of 32, of 28, and of 28.
 #[derive(Copy)]
 pub struct Packed<B: Board> {
     pub(crate) white: Squares<B>,
@@ -41,7 +40,7 @@ impl<B: Board> Model for Packed<B> {
     } };
 }
 
-/// By hand: a derived `clone` tells of words, and this one that the sets are the same.
+/// Written by hand: a derived `clone` would state equal words, this one states equal sets.
 impl<B: Board> Clone for Packed<B> {
     ghost is_clone = { λ packed clone. clone ≡ packed };
 
@@ -54,8 +53,7 @@ impl<B: Board> Clone for Packed<B> {
 }
 
 impl<B: Board> Packed<B> {
-    /// Whether the same stands on each square.
-    /// Example: `W:W32:B28` and `B:W32:B28` have the same pieces.
+    /// Returns whether the same stands on each square.
     #[inline]
     pub fn is_same(&self, other: &Self) -> bool
         ensures { IsTrue result ↔ (self.now ≡ other.now) }

@@ -1,4 +1,4 @@
-//! Positions: what stands on a board, and whose turn it is.
+//! Positions: the pieces on a board, and the side to move.
 ghost use Rattle.std.specs.Prelude.{◌≡◌, ◌≤◌, ◌<◌, ◌↔◌, ℕ, Some, None, Ok, Err, IsTrue, is_ok, is_some, if◌then◌else◌};
 ghost use Rattle.std.specs.Prelude.{MatchResult, Result};
 ghost use Rattle.dw_board.specs.Placement.{Placement, IsPosition, placed, put_fault};
@@ -41,7 +41,6 @@ const BLACK_KINGS_FACTOR: u64 = 0xA076_1D64_78BD_642F;
 /// Pieces on a board, and the side to move. A side has no more pieces than it may, and no man on its last row.
 ///
 /// It keeps where each side's men and kings stand, as sets of squares, and nothing else.
-/// Example: `W:W32:B28` has a white man on 32 and a black one on 28, and White is to move.
 #[derive(Clone, Copy)]
 pub struct Position<B: Board> {
     held: Held<B>,
@@ -84,8 +83,7 @@ impl<B: Board> Model for Position<B> {
 }
 
 impl<B: Board> Position<B> {
-    /// The board without a piece.
-    /// Example: `Position::<Ten>::empty(Side::White).count(Side::White)` is 0.
+    /// Returns the board without a piece.
     #[inline]
     pub fn empty(turn: Side) -> Self
         ensures { result ≡ of.empty turn }
@@ -96,9 +94,8 @@ impl<B: Board> Position<B> {
         }
     }
 
-    /// Puts a piece on an empty square. It is refused, and nothing changes, for the first of these reasons: the
-    /// square is taken, it is a man's last row, the side has all its pieces.
-    /// Example: in `W:W32:B28` a second piece on square 28 is refused with `PutFault::Taken`.
+    /// Puts a piece on an empty square. It is refused, and nothing changes, for the first of these reasons: the square
+    /// is taken, it is a man's last row, the side has all its pieces.
     pub fn put(&mut self, square: Square<B>, piece: Piece) -> Result<(), PutFault>
         ensures fault { result_err result ≡ put_fault B.geometry self.old square piece }
         ensures after { self.new ≡ (if is_ok result then placed self.old square (Some piece) else self.old) }
@@ -116,8 +113,7 @@ impl<B: Board> Position<B> {
         Ok(())
     }
 
-    /// Empties a square, and tells what stood there.
-    /// Example: of `W:W32:B28` to clear square 28 gives a black man, and leaves `W:W32:B`.
+    /// Empties a square, and returns the piece that stood there.
     #[inline]
     pub fn clear(&mut self, square: Square<B>) -> Option<Piece>
         ensures stood { result ≡ of.at self.old square }
@@ -128,9 +124,8 @@ impl<B: Board> Position<B> {
         stood
     }
 
-    /// The position after what stands on one square has gone to another, and what stands on these squares has left the
-    /// board. A man that comes to its last row becomes a king. What stood on the other square is gone.
-    /// Example: of `W:W7:B` to carry what stands on 7 to 1, with nothing taken, leaves `W:WK1:B`.
+    /// Returns the position after a piece has moved and the given squares were emptied. A man that reaches its last row
+    /// becomes a king. A piece on the target square is replaced.
     #[inline]
     pub fn carried(&self, from: Square<B>, to: Square<B>, taken: Squares<B>) -> Self
         ensures { result ≡ of.carried B.geometry self.now from to taken }
@@ -148,8 +143,7 @@ impl<B: Board> Position<B> {
         }
     }
 
-    /// What stands on the board, in less memory.
-    /// Example: of `W:W32:B28` and of `B:W32:B28` it is the same.
+    /// Returns the pieces on the board in compact form.
     #[inline]
     pub fn pack(&self) -> Packed<B>
         ensures { result ≡ self.now.cells }
@@ -164,8 +158,7 @@ impl<B: Board> Position<B> {
         }
     }
 
-    /// The position in which this stands on the board, and this side is to move.
-    /// Example: of what `pack` makes of `W:W32:B28`, with `Side::Black`, it makes `B:W32:B28`.
+    /// Returns the position in which this stands on the board, and this side is to move.
     #[inline]
     pub fn unpack(packed: &Packed<B>, turn: Side) -> Self
         ensures { result ≡ record { cells = packed.now; turn = turn } }
@@ -174,9 +167,8 @@ impl<B: Board> Position<B> {
         Position { held, turn }
     }
 
-    /// A number of the side to move and of where the pieces of each side and kind stand, for hashes: each word times a
-    /// factor of its own.
-    /// Example: equal positions have the same one.
+    /// Returns a number of the side to move and of where the pieces of each side and kind stand, for hashes: each word
+    /// times a factor of its own.
     #[inline]
     pub fn mixed_word(&self) -> u64
         ensures { result ≡ mixed_word B.geometry self.now }
@@ -194,8 +186,7 @@ impl<B: Board> Position<B> {
         mixed(others, black_kings, BLACK_KINGS_FACTOR)
     }
 
-    /// What stands on a square.
-    /// Example: in `W:W32:B28` a white man stands on square 32, and on square 31 it is `None`.
+    /// Returns the piece on a square.
     #[inline]
     pub fn at(&self, square: Square<B>) -> Option<Piece>
         ensures value { result ≡ of.at self.now square }
@@ -205,8 +196,7 @@ impl<B: Board> Position<B> {
         self.held.at(square)
     }
 
-    /// The side to move.
-    /// Example: in `W:W32:B28` it is `Side::White`.
+    /// Returns the side to move.
     #[inline]
     pub fn turn(&self) -> Side
         ensures value { result ≡ self.now.turn }
@@ -215,8 +205,7 @@ impl<B: Board> Position<B> {
         self.turn
     }
 
-    /// A side has no more pieces than it may, and no man on its last row: a law, which does nothing.
-    /// Example: of `W:W32:B28` it says that neither side has more than 20 pieces.
+    /// States that a side has no more pieces than it may, and no man on its last row. A law, which does nothing.
     #[inline]
     pub fn keeps_its_rules(&self)
         ensures { IsPosition B.geometry self.now.cells }
@@ -225,7 +214,6 @@ impl<B: Board> Position<B> {
     }
 
     /// Gives the move to a side.
-    /// Example: `set_turn(Side::Black)` makes `B:W32:B28` of `W:W32:B28`.
     #[inline]
     pub fn set_turn(&mut self, side: Side)
         ensures { self.new ≡ record self.old { turn = side } }
@@ -233,8 +221,7 @@ impl<B: Board> Position<B> {
         self.turn = side;
     }
 
-    /// The number of a side's pieces, at most 20.
-    /// Example: in `W:WK7,31:B` it is 2 for `Side::White`, and 0 for `Side::Black`.
+    /// Returns the number of a side's pieces, at most 20.
     #[inline]
     pub fn count(&self, side: Side) -> u8
         ensures value { result ≡ of.count self.now side }
@@ -244,8 +231,7 @@ impl<B: Board> Position<B> {
         self.held.of(side, Kind::Man).count() + self.held.of(side, Kind::King).count()
     }
 
-    /// The squares on which a piece of this side and kind stands.
-    /// Example: in `W:WK7,31:B` it is the set of square 7 for `Side::White` and `Kind::King`.
+    /// Returns the squares on which a piece of this side and kind stands.
     #[inline]
     pub fn squares(&self, side: Side, kind: Kind) -> Squares<B>
         ensures { (s : ℕ) → IsTrue (set.contains result s)
@@ -254,8 +240,7 @@ impl<B: Board> Position<B> {
         self.held.of(side, kind)
     }
 
-    /// All squares on which a piece of this side stands.
-    /// Example: in `W:WK7,31:B` it is the set of the squares 7 and 31 for `Side::White`.
+    /// Returns all squares on which a piece of this side stands.
     #[inline]
     pub fn all_of(&self, side: Side) -> Squares<B>
         ensures { (s : ℕ) → IsTrue (set.contains result s)
@@ -264,8 +249,7 @@ impl<B: Board> Position<B> {
         self.held.all_of(side)
     }
 
-    /// All squares on which a piece stands.
-    /// Example: in `W:W32:B28` it is the set of the squares 28 and 32.
+    /// Returns all squares on which a piece stands.
     #[inline]
     pub fn occupied(&self) -> Squares<B>
         ensures { (s : ℕ) → IsTrue (set.contains result s)
@@ -275,7 +259,7 @@ impl<B: Board> Position<B> {
     }
 }
 
-/// Whether the piece would be a man on its last row.
+/// Returns whether the piece would be a man on its last row.
 fn is_stuck<B: Board>(square: Square<B>, piece: Piece) -> bool
     ensures { result ≡ of.is_stuck B.geometry square (Some piece) }
 {
@@ -292,7 +276,7 @@ fn on_last_row<B: Board>(square: Square<B>, side: Side) -> bool
     }
 }
 
-/// The piece as it ends a move on this square.
+/// Returns the piece as it ends a move on this square.
 #[inline]
 fn crowned<B: Board>(to: Square<B>, piece: Piece) -> Piece
     ensures { result ≡ of.crowned B.geometry to piece }
@@ -308,7 +292,7 @@ fn crowned<B: Board>(to: Square<B>, piece: Piece) -> Piece
     }
 }
 
-/// A number for what stands on a square.
+/// Returns a number for the content of a square.
 fn cell_code(cell: Option<Piece>) -> u8
     ensures { result ≡ of.cell_code cell }
 {
@@ -334,7 +318,7 @@ fn side_number(side: Side) -> u8
     }
 }
 
-/// A number, and one word more.
+/// Mixes one more word into a number.
 #[inline]
 fn mixed(number: u64, word: u64, factor: u64) -> u64
     ensures { result ≡ (number + word * factor) % 2 ^ 64 }
@@ -342,7 +326,7 @@ fn mixed(number: u64, word: u64, factor: u64) -> u64
     number.wrapping_add(word.wrapping_mul(factor))
 }
 
-/// What stands on the square behind so many others, and nothing past the board.
+/// Returns the content of the square at an index, and `None` past the board.
 fn cell_behind<B: Board>(position: &Position<B>, index: u8) -> Option<Piece>
     requires { index < 50 }
     ensures { result ≡ slice_index_or position.now.cells index None }
@@ -351,7 +335,7 @@ fn cell_behind<B: Board>(position: &Position<B>, index: u8) -> Option<Piece>
     held.at(Square::new(index + 1)?)
 }
 
-/// The numbers of all cells.
+/// Returns the numbers of all cells.
 fn codes_of<B: Board>(position: &Position<B>) -> [u8; 50]
     ensures { result ≡ cell_codes position.now }
 {

@@ -4,8 +4,8 @@ ghost use Rattle.dw_board.specs.inner.Sliding as inner;
 
 use crate::board::{Board, Dir};
 
-/// The word of the squares that are reached from those of a word, if only free squares are stepped on: they themselves,
-/// and those up to 15 steps on. No board has longer diagonals.
+/// Returns the word of the squares that are reached from those of a word, if only free squares are stepped on: they
+/// themselves, and those up to 15 steps on. No board has longer diagonals.
 #[inline]
 pub(crate) fn slid_word<B: Board>(word: u64, free: u64, direction: Dir) -> u64
     ensures { result ≡ inner.slid_word B.geometry direction word free }
@@ -19,7 +19,7 @@ pub(crate) fn slid_word<B: Board>(word: u64, free: u64, direction: Dir) -> u64
     further(down, 8 * by, seven, eight_clear)
 }
 
-/// The same up to 7 steps on, in three doublings.
+/// Returns the same up to 7 steps on, in three doublings.
 #[inline]
 pub(crate) fn near_word<B: Board>(word: u64, free: u64, direction: Dir) -> u64
     ensures { result ≡ inner.near_word B.geometry direction word free }
@@ -33,7 +33,7 @@ pub(crate) fn near_word<B: Board>(word: u64, free: u64, direction: Dir) -> u64
     further(down, 4 * by, three, four_clear)
 }
 
-/// By how many bits a step moves the bit of a square, at most 6.
+/// Returns the number of bits by which a step moves the bit of a square, at most 6.
 #[inline]
 fn stride<B: Board>(direction: Dir) -> u8
     ensures value { result ≡ inner.stride B.geometry direction }
@@ -45,7 +45,7 @@ fn stride<B: Board>(direction: Dir) -> u8
     }
 }
 
-/// What is reached by so many bits more, if the squares before it are clear.
+/// Returns the squares reached by a number of further steps, if the squares on the way are free.
 #[inline]
 fn further(down: bool, by: u8, reached: u64, clear: u64) -> u64
     requires { by < 64 }
@@ -54,7 +54,7 @@ fn further(down: bool, by: u8, reached: u64, clear: u64) -> u64
     reached | (clear & moved_word(down, by, reached))
 }
 
-/// What is clear together with the squares before it, of twice as many.
+/// Returns the squares that are free together with twice as many squares before them.
 #[inline]
 fn clearer(down: bool, by: u8, clear: u64) -> u64
     requires { by < 64 }
@@ -63,7 +63,7 @@ fn clearer(down: bool, by: u8, clear: u64) -> u64
     clear & moved_word(down, by, clear)
 }
 
-/// The word, each bit moved by so many places.
+/// Returns the word shifted by a number of bits.
 #[inline]
 fn moved_word(down: bool, by: u8, word: u64) -> u64
     requires { by < 64 }

@@ -21,7 +21,6 @@ use std::hash::{Hash, Hasher};
 use std::marker::{Model, PhantomData};
 
 /// A set of squares: square s is the bit `s - 1 + (s - 1) / ROWS`.
-/// Example: on ten rows the set of square 11 is the word `1 << 11`.
 #[derive(Clone, Copy)]
 pub struct Squares<B: Board> {
     word: u64,
@@ -52,8 +51,7 @@ impl<B: Board> Model for Squares<B> {
 }
 
 impl<B: Board> Squares<B> {
-    /// The empty set.
-    /// Example: `Squares::<Ten>::none().count()` is 0.
+    /// Returns the empty set.
     #[inline]
     pub fn none() -> Self
         ensures { result ≡ set.empty }
@@ -64,8 +62,7 @@ impl<B: Board> Squares<B> {
         }
     }
 
-    /// The set of one square.
-    /// Example: `Squares::one(square).count()` is 1.
+    /// Returns the set of one square.
     #[inline]
     pub fn one(square: Square<B>) -> Self
         ensures { result ≡ set.insert set.empty square }
@@ -73,8 +70,7 @@ impl<B: Board> Squares<B> {
         Squares::none().with(square)
     }
 
-    /// Whether no square is in the set.
-    /// Example: `Squares::<Ten>::none().is_empty()` is `true`.
+    /// Returns whether no square is in the set.
     #[inline]
     pub fn is_empty(self) -> bool
         ensures { IsTrue result ↔ (self ≡ set.empty) }
@@ -82,8 +78,7 @@ impl<B: Board> Squares<B> {
         self.word == 0
     }
 
-    /// Whether the square is in the set.
-    /// Example: `Squares::one(square).has(square)` is `true`.
+    /// Returns whether the square is in the set.
     #[inline]
     pub fn has(self, square: Square<B>) -> bool
         ensures { result ≡ set.contains self square }
@@ -91,8 +86,7 @@ impl<B: Board> Squares<B> {
         (self.word >> square.place()) & 1 == 1
     }
 
-    /// This set and the square.
-    /// Example: the set {2, 5} with 7 is {2, 5, 7}.
+    /// Returns this set and the square.
     #[inline]
     pub fn with(self, square: Square<B>) -> Self
         ensures { result ≡ set.insert self square }
@@ -103,8 +97,7 @@ impl<B: Board> Squares<B> {
         }
     }
 
-    /// The squares in either set.
-    /// Example: of {2, 5, 7} and {7, 16} it is {2, 5, 7, 16}.
+    /// Returns the squares in either set.
     #[inline]
     pub fn or(self, other: Self) -> Self
         ensures { result ≡ set.union self other }
@@ -115,8 +108,7 @@ impl<B: Board> Squares<B> {
         }
     }
 
-    /// This set without the square.
-    /// Example: the set {2, 5, 7} without 5 is {2, 7}.
+    /// Returns this set without the square.
     #[inline]
     pub fn without(self, square: Square<B>) -> Self
         ensures { result ≡ set.remove self square }
@@ -127,8 +119,7 @@ impl<B: Board> Squares<B> {
         }
     }
 
-    /// The squares in both sets.
-    /// Example: of {2, 5, 7} and {7, 16} it is {7}.
+    /// Returns the squares in both sets.
     #[inline]
     pub fn and(self, other: Self) -> Self
         ensures { result ≡ set.intersection self other }
@@ -139,8 +130,7 @@ impl<B: Board> Squares<B> {
         }
     }
 
-    /// The squares of this set that are not in the other.
-    /// Example: the set {2, 5, 7} minus {7, 16} is {2, 5}.
+    /// Returns the squares of this set that are not in the other.
     #[inline]
     pub fn minus(self, other: Self) -> Self
         ensures { result ≡ set.difference self other }
@@ -151,8 +141,7 @@ impl<B: Board> Squares<B> {
         }
     }
 
-    /// The number of squares, at most 50.
-    /// Example: of {2, 5, 7} it is 3.
+    /// Returns the number of squares, at most 50.
     #[inline]
     pub fn count(self) -> u8
         ensures value { result ≡ set.len self }
@@ -161,8 +150,7 @@ impl<B: Board> Squares<B> {
         self.word.count_ones() as u8
     }
 
-    /// The least square, or `None` in the empty set.
-    /// Example: of {7, 16} it is square 7.
+    /// Returns the least square, or `None` in the empty set.
     #[inline]
     pub fn first(self) -> Option<Square<B>>
         ensures none { IsNone result ↔ (self ≡ set.empty) }
@@ -174,8 +162,7 @@ impl<B: Board> Squares<B> {
         Some(square)
     }
 
-    /// The least square and the others, or `None` in the empty set.
-    /// Example: of {7, 16} it is square 7 and the set {16}.
+    /// Returns the least square and the others, or `None` in the empty set.
     #[inline]
     pub fn split(self) -> Option<(Square<B>, Self)>
         ensures none { IsNone result ↔ (self ≡ set.empty) }
@@ -195,8 +182,7 @@ impl<B: Board> Squares<B> {
         Some((square, rest))
     }
 
-    /// The padded word: the bit `s - 1 + (s - 1) / ROWS` for each square s of the set, and no other.
-    /// Example: on ten rows the word of {11} is `1 << 11`.
+    /// Returns the padded word: the bit `s - 1 + (s - 1) / ROWS` for each square s of the set, and no other.
     #[tactic(auto, using(crate::proofs::SetLemmas::word_behind))]
     #[inline]
     pub fn word(self) -> u64
@@ -208,8 +194,7 @@ impl<B: Board> Squares<B> {
         self.word
     }
 
-    /// The squares that a step leads to from these.
-    /// Example: on ten rows {1, 5, 6} shifted down left is {6, 10}.
+    /// Returns the squares that a step leads to from these.
     #[inline]
     pub fn shifted(self, direction: Dir) -> Self
         ensures { (t : ℕ) → IsTrue (set.contains result t)
@@ -221,8 +206,7 @@ impl<B: Board> Squares<B> {
         }
     }
 
-    /// These squares, and those that they slide to: by any number of steps, none of them onto a barred square.
-    /// Example: on ten rows {46} slid up right, with 32 barred, is {37, 41, 46}.
+    /// Returns these squares and those that they slide to by any number of steps, none of them onto a barred square.
     #[inline]
     pub fn slid(self, barred: Self, direction: Dir) -> Self
         ensures { (t : ℕ) → IsTrue (set.contains result t)
@@ -234,8 +218,7 @@ impl<B: Board> Squares<B> {
         }
     }
 
-    /// The same by at most seven steps: behind more of them there is no room to jump over a piece.
-    /// Example: on ten rows {46} slid near up right, with nothing barred, is {14, 19, 23, 28, 32, 37, 41, 46}.
+    /// Returns the same for at most seven steps. Farther away there is no room to jump over a piece.
     #[inline]
     pub fn slid_near(self, barred: Self, direction: Dir) -> Self
         ensures reached { (t : ℕ) → IsTrue (set.contains result t)
@@ -249,7 +232,7 @@ impl<B: Board> Squares<B> {
     }
 }
 
-/// The word, each bit moved by as much as a step moves a square's bit.
+/// Returns the word, each bit moved by as much as a step moves a square's bit.
 #[inline]
 fn shifted_word<B: Board>(word: u64, direction: Dir) -> u64
     ensures { result ≡ shifted_word B.geometry direction word }

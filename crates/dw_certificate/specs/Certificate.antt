@@ -1,4 +1,4 @@
--- Certificates: what anyone can check of an answer without a search.
+-- Certificates: answers that anyone can check without a search.
 use Rattle.std.specs.Prelude.{◌≡◌, ℕ, ◌-◌, ◌≤◌, ◌<◌, ◌⊎◌, Bool, true, false, List, map, Some, None}
 use Rattle.dw_board.specs.Geometry.{Geometry}
 use Rattle.dw_board.specs.Lists.{Member, NoRepeat}
@@ -17,12 +17,12 @@ Row = Placement × ℕ
 abbrev pub positions_of : List Row → List Placement
 positions_of rows = map (λ r. r.0) rows
 
--- there is a win in so many moves, or there is none
+-- there is a win in a number of moves, or there is none
 abbrev pub bounds_of : (win : Bool) → ℕ → Bounds
 bounds_of true n = record { fails = None; wins = Some n }
 bounds_of false n = record { fails = Some n; wins = None }
 
--- what rows say: that their positions are won in so many moves, or that they are not
+-- the statement of rows: their positions are won in their numbers of moves, or they are not
 abbrev pub claims : (win : Bool) → List Row → Content
 claims win rows = map (λ r. entry r.0 (bounds_of win r.1)) rows
 
@@ -49,13 +49,13 @@ pub record Stepped : Type 0 where
   pub row : Row
   pub steps : List Step
 
--- a row is of the position that was asked for, or a step of another leads to it that tells of more moves
+-- a row has the position of the question, or a step of another row with more moves leads to it
 abbrev pub IsComeTo : Geometry → Placement → List Stepped → Row → Type 0
 IsComeTo g p all row = (row.0 ≡ p)
     ⊎ ((from : Stepped) × (m : Move) × Member from all × Legal g from.row.0 m × Member (m, row.0) from.steps
     × (row.1 < from.row.1))
 
--- each position stands once, and tells of 1 to n moves
+-- each position occurs once, with 1 to n moves
 pub record AreRows (n : ℕ) (rows : List Row) : Type 0 where
   pub once : NoRepeat (positions_of rows)
   pub some : (r : Row) → Member r rows → 1 ≤ r.1
@@ -68,8 +68,8 @@ pub record AreNeeded (g : Geometry) (p : Placement) (win : Bool) (rows : List Ro
   pub steps : (s : Stepped) → Member s all → AreSteps g win (claims win rows) s.row s.steps
   pub come_to : (r : Row) → Member r rows → IsComeTo g p all r
 
--- A certificate that there is a win within n moves, or none: what its rows say follows from what other rows say, in one
--- move and its replies, and answers the question; and no row stands there that nothing needs.
+-- A certificate that there is a win within n moves, or none: each row follows from other rows, by one move and its
+-- replies; the rows answer the question; and no row is there that nothing needs.
 pub record IsCertificate (g : Geometry) (p : Placement) (n : ℕ) (win : Bool) (rows : List Row) : Type 0 where
   pub are : AreRows n rows
   pub needed : AreNeeded g p win rows

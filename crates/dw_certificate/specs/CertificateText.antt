@@ -25,7 +25,7 @@ answer_text false n = codes "no win in " ++ decimal n
 abbrev pub lines_text : List (List ℕ) → List ℕ
 lines_text lines = flat_map (λ line. line ++ 10 ∷ []) lines
 
--- what stands before the positions: the form and its number, the board, the position that was asked for, the answer
+-- the lines before the positions: the form and its number, the board, the position, the answer
 abbrev pub head_lines : Geometry → Placement → ℕ → (win : Bool) → List (List ℕ)
 head_lines g p n win = codes "certificate 1" ∷ (codes "board " ++ decimal g.rows) ∷ written g p ∷ answer_text win n ∷ []
 

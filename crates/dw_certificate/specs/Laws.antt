@@ -5,7 +5,7 @@ use Rattle.dw_board.specs.Placement.{Placement}
 use Rattle.dw_solve.specs.Wins.{Win}
 use Rattle.dw_certificate.specs.Certificate.{Row, IsCertificate}
 
--- what a certificate says is so: there is a win, or there is none
+-- a certificate states a fact: there is a win, or there is none
 abbrev pub CertificatesAreRight : Type 0
 CertificatesAreRight = (g : Geometry) (p : Placement) (n : ℕ) (win : Bool) (rows : List Row)
     → IsCertificate g p n win rows → IsTrue win ↔ Win g p n

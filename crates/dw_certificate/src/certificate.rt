@@ -17,8 +17,7 @@ use dw_moves::play::play;
 use indexmap::IndexMap;
 use std::alloc::{AllocError, Global};
 
-/// A certificate of an answer: that there is a win within so many moves, or that there is none.
-/// See [`certify`] for an example.
+/// A certificate of an answer: there is a win within a number of moves, or there is none.
 #[derive(Drop)]
 pub struct Certificate<B: Board> {
     /// Whether it says that there is a win.
@@ -27,10 +26,9 @@ pub struct Certificate<B: Board> {
     pub rows: IndexMap<Position<B>, u8>,
 }
 
-/// The certificate of whether a position has a win within so many moves, 1 to 20, as far as a memo knows: its rows are
-/// the position and what is come to by one winning move of each row, and all replies to it; or by all moves of each
-/// row, and one reply to each.
-/// Example: at `W:W32:B28` within 1 move, out of a memo that was asked, it is one row, of a win in 1.
+/// Returns the certificate for a win within `moves` moves, 1 to 20, or for no win, as far as a memo knows. Its rows are
+/// the position, and the positions reached by one winning move of each row and all replies to it; or by all moves of
+/// each row and one reply to each.
 pub fn certify<B: Board, M: Memo<B>>(
     alloc: Global,
     memo: &mut M,
@@ -58,7 +56,7 @@ pub fn certify<B: Board, M: Memo<B>>(
     Ok(certificate)
 }
 
-/// Whether a memo says that there is a win within so many moves, or that there is none.
+/// Returns whether a memo states a win within `moves` moves, or states that there is none.
 fn answer_of<B: Board, M: Memo<B>>(
     memo: &mut M,
     position: &Position<B>,
@@ -67,14 +65,14 @@ fn answer_of<B: Board, M: Memo<B>>(
     memo.look(position)?.decide(moves)
 }
 
-/// Whether a bound is enough to say it of so many moves.
+/// Returns whether a bound suffices for `moves` moves.
 fn suffices(win: bool, bound: u8, moves: u8) -> bool
     ensures { IsTrue result ↔ Suffices win bound moves }
 {
     if win { bound <= moves } else { moves <= bound }
 }
 
-/// The bound with which a memo says it of so many moves: of a win the memo's own one, else just so many moves.
+/// Returns the bound for a row: the memo's own number for a win, else `moves`.
 fn bound_in<B: Board, M: Memo<B>>(
     memo: &mut M,
     win: bool,
@@ -95,7 +93,7 @@ fn bound_in<B: Board, M: Memo<B>>(
 }
 
 impl<B: Board> Certificate<B> {
-    /// The row with this number, counted from 0.
+    /// Returns the row with this number, counted from 0.
     pub(crate) fn row_at(&self, index: usize) -> Option<(Position<B>, u8)>
         ensures row { result ≡ slice_get self.now.rows.entries index }
         ensures small { IfSome result (λ _. index < 2 ^ 63) }
@@ -105,14 +103,14 @@ impl<B: Board> Certificate<B> {
         Some((*position, *bound))
     }
 
-    /// There are fewer rows than 2 ^ 63: a law, which does nothing.
+    /// States that there are fewer rows than 2^63. A law, which does nothing.
     fn keeps_its_length(&self)
         ensures { length self.now.rows.entries < 2 ^ 63 }
     {
         let _ = self.rows.len();
     }
 
-    /// Puts in what a row needs.
+    /// Adds the rows that a row needs.
     fn support<M: Memo<B>>(
         &mut self,
         alloc: Global,
@@ -132,7 +130,7 @@ impl<B: Board> Certificate<B> {
         }
     }
 
-    /// Puts in what a win needs that is one move longer: the positions after all replies to some move.
+    /// Adds the rows that a win needs: the positions after all replies to some move.
     fn support_win<M: Memo<B>>(
         &mut self,
         alloc: Global,
@@ -155,7 +153,7 @@ impl<B: Board> Certificate<B> {
         Err(CertificateFault::Missing)
     }
 
-    /// Puts in what it needs that there is no win, one move longer: after each move the position after some reply.
+    /// Adds the rows that a missing win needs: after each move the position after some reply.
     fn support_no_win<M: Memo<B>>(
         &mut self,
         alloc: Global,
@@ -177,7 +175,7 @@ impl<B: Board> Certificate<B> {
         Ok(())
     }
 
-    /// Whether all positions stand already, or may be put in.
+    /// Returns whether all positions stand already, or may be put in.
     fn has_all<M: Memo<B>>(&self, memo: &mut M, nexts: &[Position<B>], left: u8) -> bool {
         'nexts: for next in nexts {
             if !self.holds(next, left) && bound_in(memo, self.win, next, left).is_none() {
@@ -225,8 +223,8 @@ impl<B: Board> Certificate<B> {
         }
     }
 
-    /// The first position that stands already, or else the first that may be put in; any, if no move is left to win
-    /// within.
+    /// Returns the first position that is a row already, or else the first that may become one; any, if no move is left
+    /// to win within.
     fn chosen<M: Memo<B>>(
         &self,
         memo: &mut M,
@@ -243,7 +241,7 @@ impl<B: Board> Certificate<B> {
         first_known(memo, self.win, nexts, left)
     }
 
-    /// Whether a position stands already, with enough to say it of so many moves.
+    /// Returns whether a position is a row already, with a bound that suffices.
     fn holds(&self, position: &Position<B>, moves: u8) -> bool {
         match self.rows.get(position) {
             Some(bound) => suffices(self.win, *bound, moves),
@@ -251,7 +249,7 @@ impl<B: Board> Certificate<B> {
         }
     }
 
-    /// Puts a position in, unless it stands already.
+    /// Adds a position, unless it is a row already.
     fn put<M: Memo<B>>(
         &mut self,
         memo: &mut M,
@@ -293,7 +291,7 @@ impl<B: Board> Certificate<B> {
     }
 }
 
-/// Puts a row behind the others, of a position that has none.
+/// Appends a row for a position that has none.
 fn push_row<B: Board>(
     rows: &mut IndexMap<Position<B>, u8>,
     position: &Position<B>,
@@ -306,7 +304,7 @@ fn push_row<B: Board>(
     Ok(())
 }
 
-/// The first of some positions of which a memo says it.
+/// Returns the first of some positions for which a memo states it.
 fn first_known<B: Board, M: Memo<B>>(
     memo: &mut M,
     win: bool,

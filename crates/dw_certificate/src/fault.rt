@@ -6,7 +6,6 @@ use std::alloc::AllocError;
 use thiserror::Error;
 
 /// Why a memo gives no certificate.
-/// Example: of a new memo it is `CertificateFault::Missing` at each position.
 #[derive(Clone, Copy, Debug, PartialEq, Eq, Error)]
 pub enum CertificateFault {
     /// Memory was refused.

@@ -1,10 +1,8 @@
-//! Certificates: what anyone with the rules can check of an answer, without a search.
+//! Certificates: answers that anyone can check with the rules of the game, without a search.
 //!
-//! Everything is generic over the board. Memory is taken by the rows of a certificate and by its text.
+//! Everything is generic over the board. The rows of a certificate and its text allocate.
 //!
-//! Begin with `certify`, which takes one out of a memo, and with `certificate_text`.
-//!
-//! An example tells a position by its FEN text, on the board of ten rows if it names no other.
+//! Begin with `certify`, which takes a certificate from a memo, and with `certificate_text`.
 #![tactic(auto)]
 
 pub mod certificate;

@@ -7,7 +7,7 @@ use dw_moves::legal::legal;
 use dw_moves::play::play;
 use std::alloc::{AllocError, Global};
 
-/// The positions after all moves, in the order of the moves.
+/// Returns the positions after all moves, in the order of the moves.
 pub(crate) fn positions_after<B: Board>(
     alloc: Global,
     position: &Position<B>,

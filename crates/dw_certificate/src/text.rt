@@ -13,10 +13,8 @@ use dw_memo::Bounds;
 use itoa::Buffer;
 use std::alloc::{AllocError, Global};
 
-/// The text of the certificate of whether a position has a win within so many moves: `certificate 1`, the board, the
-/// position, the answer, and each row, in lines that end with a line feed.
-/// Example: that of `W:W32:B28` within 1 move is `certificate 1`, `board 10`, `W:W32:B28`, `win in 1` and
-/// `W:W32:B28 fails - wins 1`.
+/// Returns the text of a certificate: `certificate 1`, the board, the position, the answer, and each row, in lines that
+/// end with a line feed.
 pub fn certificate_text<B: Board>(
     alloc: Global,
     position: &Position<B>,
@@ -37,7 +35,7 @@ pub fn certificate_text<B: Board>(
     Ok(text)
 }
 
-/// The lines before the rows.
+/// Returns the lines before the rows.
 fn head<B: Board>(
     alloc: Global,
     position: &Position<B>,
@@ -62,14 +60,14 @@ fn head<B: Board>(
     .concat(alloc)
 }
 
-/// The answer, before its number.
+/// Returns the answer, before its number.
 fn answer(win: bool) -> &'static str
     ensures { result.now ≡ (if win then codes "win in " else codes "no win in ") }
 {
     if win { "win in " } else { "no win in " }
 }
 
-/// What a row says of its position.
+/// Returns the text of a row's bounds.
 fn bounds_of(win: bool, bound: u8) -> Bounds
     ensures { result ≡ of.bounds_of win bound }
 {
@@ -86,7 +84,7 @@ fn bounds_of(win: bool, bound: u8) -> Bounds
     }
 }
 
-/// The line of a position.
+/// Returns the line of a position.
 fn line_of<B: Board>(
     alloc: Global,
     position: &Position<B>,
@@ -109,7 +107,7 @@ fn line_of<B: Board>(
     .concat(alloc)
 }
 
-/// A bound, or a dash.
+/// Returns a bound, or a dash.
 fn bound_text(bound: Option<u8>, digits: &mut Buffer) -> &str
     ensures { result.now ≡ text.bound_text bound }
 {

@@ -31,7 +31,7 @@ asked_of shown (Some number) = if shown == 0 then end.NoProblem number else end.
 abbrev pub done_of : {T : Type 0} → Summary → Option ℕ → Ending T
 done_of summary only = if nat_lt 0 summary.refused then end.Refused else asked_of summary.shown only
 
--- the ending after a run, of which one problem may have been asked for
+-- the ending after a run, which may have been for one problem only
 abbrev pub ending_of : {T : Type 0} → Result Summary RunFault → Option ℕ → Ending T
 ending_of (Err fault) only = end.Failed fault
 ending_of (Ok summary) only = done_of summary only
@@ -59,7 +59,7 @@ outcome_of end.TooManyPositions = told 3
 outcome_of (end.NotOpened file) = told 3
 outcome_of (end.Failed fault) = told 3
 
--- the words are no command, for a reason that is told
+-- the arguments are no command, for a reason that is given
 abbrev pub SaysWhy : List ℕ → Ending (Bor (List ℕ)) → Type 0
 SaysWhy why (end.NoCommand text) = text.now ≡ why
 SaysWhy why ending = ⊥

@@ -1,4 +1,4 @@
--- What `dw` does with what was asked for.
+-- The work of `dw` for a request.
 use Rattle.std.specs.Prelude.{◌≡◌, ℕ, List, Option, Some, None}
 use Rattle.dw_arguments.specs.declared.report.ReportArgs.{ReportArgs}
 use Rattle.dw_arguments.specs.declared.report.ReportCommand.{ReportCommand}
@@ -21,7 +21,7 @@ command_for asks.Moves = does.Moves
 command_for asks.Judge = does.Judge
 command_for asks.List = does.List
 
--- the report that is asked for, with the line after which lines are listed
+-- the settings of a requested report, with the line after which lines are listed
 abbrev pub request_for : ReportArgs → (after : Option (List Move)) → Request
 request_for args after = record {
   command = command_for args.command;

@@ -17,7 +17,6 @@ const NO_MEMORY: RunFault = RunFault::Stopped {
 };
 
 /// How a program ended. `T` is the type of the texts that its line names.
-/// See [`outcome`] for an example.
 #[derive(Drop)]
 pub enum Ending<T> {
     /// All was done, and nothing refused.
@@ -28,7 +27,7 @@ pub enum Ending<T> {
     NoProblem(u32),
     /// The token of the line to begin after cannot be read.
     TokenRefused(TokenFault),
-    /// The problem of which a line is given is refused.
+    /// The problem of the given line is refused.
     ProblemRefused(ProblemFault),
     /// A line is refused for the fault of this number and name, found at this place.
     LineRefused {
@@ -47,24 +46,21 @@ pub enum Ending<T> {
 }
 
 impl<T> Ending<T> {
-    /// The ending if memory was refused before the run.
-    /// Example: it is written `dw: stopped: out of memory, 0 expanded`, with a line end.
+    /// Returns the ending if memory was refused before the run.
     pub fn no_memory() -> Self
         ensures { result ≡ of.no_memory }
     {
         Ending::Failed(NO_MEMORY)
     }
 
-    /// The ending if standard output failed.
-    /// Example: it is written `dw: write failed`, with a line end.
+    /// Returns the ending if standard output failed.
     pub fn write_failed() -> Self
         ensures { result ≡ of.write_failed }
     {
         Ending::Failed(RunFault::Write)
     }
 
-    /// The ending after a run; `only` is the number of the problem that was asked for.
-    /// Example: of `Err(RunFault::Read)` it is `Ending::Failed(RunFault::Read)`.
+    /// Returns the ending after a run; `only` is the number of the problem that was asked for.
     pub fn after(ran: Result<Summary, RunFault>, only: Option<u32>) -> Self
         ensures { result ≡ of.ending_of ran only }
     {
@@ -74,7 +70,7 @@ impl<T> Ending<T> {
         }
     }
 
-    /// The ending after a run that ended by itself.
+    /// Returns the ending after a run that ended by itself.
     fn after_all(summary: Summary, only: Option<u32>) -> Self
         ensures { result ≡ of.done_of summary only }
     {
@@ -88,8 +84,7 @@ impl<T> Ending<T> {
     }
 }
 
-/// Writes the help that was asked for to a sink, and tells how the program ends if its words are not obeyed.
-/// Example: of `CliError::Memory` it is `Ending::no_memory()`, and nothing is written.
+/// Writes the requested help to a sink, and returns the ending of a program whose arguments are no command.
 pub fn end_unread<'a, K: Sink>(error: &'a CliError, sink: &mut K) -> Ending<&'a str>
     requires { K.is_failed sink.old ≡ false }
     ensures { EndsUnread (K.taken sink.old) (K.taken sink.new) (K.is_failed sink.new) error.now result }
@@ -105,8 +100,7 @@ pub fn end_unread<'a, K: Sink>(error: &'a CliError, sink: &mut K) -> Ending<&'a 
     }
 }
 
-/// The line that a program writes on standard error at an ending, behind its name.
-/// Example: of `dw` and `Ending::NoProblem(7)` it is `dw: no problem 7`, with a line end.
+/// The line that a program writes to standard error at an ending, after its name.
 #[derive(Drop)]
 pub struct Message<'a, T> {
     pub program: &'a str,
@@ -145,7 +139,7 @@ impl<T: Display> Display for Message<'_, T> {
     }
 }
 
-/// The number of a fault of a token, as the report and the program name it.
+/// Returns the number of a fault of a token, as the report and the program name it.
 fn number_of(fault: TokenFault) -> u8 {
     match fault {
         TokenFault::NotHex => 1,
@@ -158,7 +152,6 @@ fn number_of(fault: TokenFault) -> u8 {
 }
 
 /// The exit status, 0 to 3, and whether the line of the ending is written on standard error.
-/// See [`outcome`] for an example.
 #[derive(Clone, Copy, Debug, PartialEq, Eq)]
 pub struct Exit {
     pub status: u8,
@@ -169,7 +162,6 @@ pub struct Exit {
 ///
 /// Status 0 is done, 1 that something was refused, undecided or is not there, 2 that the arguments are no command, 3
 /// that the program was stopped or a stream failed.
-/// Example: for `Ending::Done` the status is 0, and there is no line.
 pub fn outcome<T>(ending: &Ending<T>) -> Exit
     ensures { result ≡ of.outcome_of ending.now }
 {
@@ -185,7 +177,7 @@ pub fn outcome<T>(ending: &Ending<T>) -> Exit
     }
 }
 
-/// An exit without a line.
+/// Returns an exit without a line.
 fn quiet(status: u8) -> Exit
     ensures { result ≡ of.quiet status }
 {
@@ -195,7 +187,7 @@ fn quiet(status: u8) -> Exit
     }
 }
 
-/// An exit with the line of its ending.
+/// Returns an exit with the line of its ending.
 fn told(status: u8) -> Exit
     ensures { result ≡ of.told status }
 {

@@ -1,7 +1,7 @@
-//! What the programs do between their arguments and their exit status, so far as both or `dw` alone do it.
+//! The work of the programs between their arguments and their exit status: the parts that both share, and all of `dw`.
 //!
-//! Begin with `Job::new`, which makes a request ready, `Job::run`, which writes its report over any source and sink,
-//! and `outcome`, which tells the exit status. Nothing here knows an operating system.
+//! Begin with `Job::new`, which prepares a request, `Job::run`, which writes its report over any source and sink, and
+//! `outcome`, which returns the exit status. This crate knows no operating system.
 #![tactic(auto)]
 
 pub mod ending;

@@ -8,9 +8,8 @@ use dw_memo::{AnyMemo, Bounds, DeepMemo, LruMemo, Memo, NoMemo, Noted, SlotMemo}
 use std::alloc::{AllocError, Global};
 use std::marker::Model;
 
-/// A memo whose memory is not given back. A program that is done with it is about to end, and then the system takes
-/// all memory at once: to give back that of each entry before takes longer.
-/// Example: `LeakedMemo::new(memo)` looks up and notes what `memo` does.
+/// A memo whose memory is not given back. A program that is done with it is about to end, and then the system takes all
+/// memory at once: to give back that of each entry before takes longer.
 pub struct LeakedMemo<B: Board> {
     memo: AnyMemo<B>,
 }
@@ -24,8 +23,7 @@ impl<B: Board> Model for LeakedMemo<B> {
 }
 
 impl<B: Board> LeakedMemo<B> {
-    /// This memo, to the end of the program.
-    /// Example: `LeakedMemo::new(AnyMemo::<Ten>::None(NoMemo::new()))` keeps nothing.
+    /// Returns this memo, to the end of the program.
     pub fn new(memo: AnyMemo<B>) -> Self
         ensures { result ≡ memo }
     {
@@ -68,12 +66,11 @@ impl<B: Board> Memo<B> for LeakedMemo<B> {
     }
 }
 
-/// Makes a memo of this kind for so many positions, 1 to 4,000,000. Nothing is noted in it yet.
+/// Returns an empty memo of this kind for 1 to 4,000,000 positions.
 ///
 /// # Errors
 ///
 /// Memory was refused.
-/// Example: of `MemoKind::None` it is a memo that keeps nothing, whatever the number is.
 pub fn memo_of<B: Board>(
     alloc: Global,
     kind: MemoKind,

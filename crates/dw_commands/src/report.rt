@@ -24,8 +24,7 @@ use dw_report::{Command, RunFault, Settings, Summary};
 use dw_solve::ByTrial;
 use std::alloc::Global;
 
-/// A report that is ready to be written: what is asked of the run, and an empty memo.
-/// See [`Job::new`] for an example.
+/// A report that is ready to be written: its settings, and an empty memo.
 #[derive(Drop)]
 pub struct Job<B: Board> {
     pub settings: Settings<B>,
@@ -43,7 +42,6 @@ impl<B: Board> Job<B> {
     /// # Errors
     ///
     /// The program ends: the token cannot be read, or memory was refused.
-    /// Example: of the arguments of `dw list -n 2 --after 0x` it is `Ending::TokenRefused(TokenFault::NotHex)`.
     pub fn new<T>(alloc: Global, args: &ReportArgs<'_>) -> Result<Self, Ending<T>>
         ensures request { IfOk result (λ job. (after : Option (List AnyMove))
             × IsLineOf B.geometry (option_copied args.now.after) after
@@ -64,8 +62,7 @@ impl<B: Board> Job<B> {
         })
     }
 
-    /// Writes the report on the problems of a source to a sink, and tells how the program ends.
-    /// Example: judged within 1 move, `W:W32:B28` gives two lines, and the program ends with `Ending::Done`.
+    /// Writes the report on the problems of a source to a sink, and returns how the program ends.
     pub fn run<T, S: Source, K: Sink>(
         self,
         alloc: Global,
@@ -89,7 +86,7 @@ impl<B: Board> Job<B> {
     }
 }
 
-/// The line of the token, if there is one.
+/// Returns the line of the token, if there is one.
 fn line_of<B: Board>(
     token: Option<&str>,
 ) -> Result<Option<ArrayVec<Move<B>, MAX_MOVES>>, TokenFault>
@@ -103,7 +100,7 @@ fn line_of<B: Board>(
     }
 }
 
-/// What is asked of the run, with the line after which lines are listed.
+/// Returns the settings of the run, with the line after which lines are listed.
 fn settings_of<B: Board>(
     args: &ReportArgs<'_>,
     after: Option<ArrayVec<Move<B>, MAX_MOVES>>,
@@ -129,7 +126,7 @@ fn settings_of<B: Board>(
     }
 }
 
-/// The command of the report that the arguments name.
+/// Returns the command of the report that the arguments name.
 fn command_of(command: ReportCommand) -> Command
     ensures { result ≡ command_for command }
 {

@@ -1,4 +1,4 @@
-//! `dw-desk`: what composers, editors and judges ask about problems of international draughts.
+//! `dw-desk`: a tool for composers, editors and judges of problems of international draughts.
 #![tactic(auto)]
 
 ghost use Rattle.std.specs.Prelude.{◌≡◌, ◌⊎◌};
@@ -17,7 +17,7 @@ use std::fs::File;
 use std::io::{IsTerminal, Read};
 use std::process::ExitCode;
 
-/// The program's name, in what it says of itself.
+/// The program's name in its messages.
 const PROGRAM: &str = "dw-desk";
 
 /// How many positions the first slice of a search expands that is shown.
@@ -34,7 +34,7 @@ fn main(rt: HostRuntime) -> ExitCode {
     }
 }
 
-/// Does what the arguments ask for, on the board that they name.
+/// Runs the command on its board.
 fn run<'a>(rt: &HostRuntime, args: &DeskArgs<'a>) -> Ending<&'a str> {
     match args.board {
         BoardSize::Ten => run_from::<Ten>(rt, args),
@@ -42,7 +42,7 @@ fn run<'a>(rt: &HostRuntime, args: &DeskArgs<'a>) -> Ending<&'a str> {
     }
 }
 
-/// Does what was asked for, with the problems of the file or of standard input.
+/// Runs the command with the problems of the file or of standard input.
 fn run_from<'a, B: Board>(rt: &HostRuntime, args: &DeskArgs<'a>) -> Ending<&'a str>
     requires { (B.geometry.rows ≡ 10) ⊎ (B.geometry.rows ≡ 8) }
 {
@@ -55,8 +55,7 @@ fn run_from<'a, B: Board>(rt: &HostRuntime, args: &DeskArgs<'a>) -> Ending<&'a s
     }
 }
 
-/// Does what was asked for, with the problems that the reader gives. A file and standard input are read through the
-/// same code.
+/// Runs the command with the problems of the reader. A file and standard input share this code.
 fn run_with<'a, B: Board>(
     rt: &HostRuntime,
     args: &DeskArgs<'a>,
@@ -70,7 +69,7 @@ fn run_with<'a, B: Board>(
     run_on::<B, _, _, _>(rt.alloc(), &mut slices, args, &mut source, &mut sink)
 }
 
-/// The slices of the searches, and who is told of them. If nobody looks on, the first slice is all of a search.
+/// Returns the slices of the searches and their watcher. If nobody watches, a search is one slice.
 fn slices_of<'a>(rt: &'a HostRuntime, args: &DeskArgs<'_>) -> Slices<Progress<'a>> {
     let is_shown = args.progress || rt.stderr().is_terminal();
     let first = if is_shown { FIRST_SLICE } else { u64::MAX };

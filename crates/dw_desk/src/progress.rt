@@ -17,14 +17,14 @@ pub(crate) struct Progress<'a> {
     is_shown: bool,
     /// The problem that is searched.
     problem: u32,
-    /// When its search began, if it is to be shown.
+    /// The start of its search, if it is to be shown.
     begun: Option<Instant>,
-    /// When the line was written last, if it stands there.
+    /// The time of the last write, if the line is visible.
     written: Option<Instant>,
 }
 
 impl<'a> Progress<'a> {
-    /// No search has begun. The line is never shown if nobody looks on.
+    /// Returns the line before any search. It is never shown if nobody watches.
     pub(crate) fn new(rt: &'a HostRuntime, is_shown: bool) -> Progress<'a> {
         Progress {
             rt,
@@ -35,7 +35,7 @@ impl<'a> Progress<'a> {
         }
     }
 
-    /// Whether the line may be written now.
+    /// Returns whether the line may be written now.
     fn is_due(&self) -> bool {
         let Some(begun) = self.begun else {
             return false;
@@ -47,7 +47,7 @@ impl<'a> Progress<'a> {
             }
     }
 
-    /// Whether so many milliseconds have passed since a moment.
+    /// Returns whether `millis` milliseconds have passed since a moment.
     fn has_passed(&self, since: &Instant, millis: u64) -> bool {
         match since.elapsed(self.rt) {
             Ok(passed) => passed >= Duration::from_millis(millis),
@@ -66,7 +66,7 @@ impl Watcher for Progress<'_> {
         let _ = eprint!(self.rt; "\r\x1b[Kproblem {problem}: {moves} moves, {expanded} positions");
     }
 
-    /// Takes the line away, if it stands there.
+    /// Removes the line, if it is visible.
     fn make_way(&mut self) {
         if self.written.is_some() {
             self.written = None;
@@ -76,7 +76,7 @@ impl Watcher for Progress<'_> {
 }
 
 impl DeskWatcher for Progress<'_> {
-    /// The search for a problem begins. Without a clock it is not shown.
+    /// Starts the search for a problem. Without a clock it is not shown.
     fn begin(&mut self, problem: u32) {
         self.problem = problem;
         self.begun = if self.is_shown {
@@ -86,7 +86,7 @@ impl DeskWatcher for Progress<'_> {
         };
     }
 
-    /// The search is over: the line is taken away.
+    /// Ends the search, and removes the line.
     fn end(&mut self) {
         self.begun = None;
         self.make_way();

@@ -23,6 +23,6 @@ Certifies g n p TooManyPositions text = text ≡ []
 Certifies g n p (Failed fault) text = text ≡ []
 Certifies g n p other text = ⊥
 
--- what is done with a problem
+-- the effect of the command on a problem
 abbrev pub IsCertifyOf : {T : Type 0} → Geometry → (n : ℕ) → Numbered → Ending T → List ℕ → Type 0
 IsCertifyOf g n problem ending text = IsDoneWith (Certifies g n) (first_line g problem) problem.found ending text

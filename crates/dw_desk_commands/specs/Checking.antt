@@ -84,7 +84,7 @@ pub record IsCheckedText (g : Geometry) (problem : Numbered) (p : Placement) (n 
   pub texts : AreTexts (IsRemarkText g p) remarks told
   pub is : text ≡ first_line g problem ++ (line ++ (told ++ last_line n (counted remarks)))
 
--- what is counted of a solution, in a row of JSON
+-- the counts of a solution's remarks, in a row of JSON
 abbrev pub numbers_of : (wins : Bool) → Counted → CheckNumbers
 numbers_of wins c = record {
   wins = wins;
@@ -124,13 +124,13 @@ refused_line what place =
     codes "solution refused: " ++ (decimal (number_of what) ++ (codes " " ++ (name_of what ++ (codes " at "
     ++ (decimal place ++ codes "\n")))))
 
--- what is written of a solution that is refused
+-- the output for a refused solution
 abbrev pub fault_text : Geometry → (json : Bool) → Numbered → Placement → MovetextFaultKind → (place : ℕ) → List ℕ
 fault_text g json problem p what place =
     if json then refused_solution_row g problem.number p what place
     else first_line g problem ++ refused_line what place
 
--- what is written of a problem that is refused
+-- the output for a refused problem
 abbrev pub refused_text : Geometry → (json : Bool) → Numbered → ProblemFault → List ℕ
 refused_text g json problem fault = if json then refused_row problem.number fault else first_line g problem
 
@@ -146,7 +146,7 @@ IsCheckFor g asked problem movetext (Ok p) refused text =
 IsCheckFor g asked problem movetext (Err fault) refused text =
     (text ≡ refused_text g asked.json problem fault) × (refused ≡ true)
 
--- what is written of a game
+-- the output for a game
 abbrev pub IsCheckOf : Geometry → CheckArgs → NumberedGame → (refused : Bool) → List ℕ → Type 0
 IsCheckOf g asked game refused text =
     IsCheckFor g asked (problem_of game) game.said.movetext game.said.found refused text

@@ -20,7 +20,7 @@ AreGamesIn g Fens text games =
     (problems : List Numbered) × AreProblems g Fens true text problems × (games ≡ map as_game problems)
 AreGamesIn g Pdn text games = AreGames g text games
 
--- not behind the last number, if there is one
+-- not after the last number, if there is one
 abbrev pub is_up_to : Option ℕ → ℕ → Bool
 is_up_to None number = true
 is_up_to (Some last) number = nat_le number last
@@ -35,7 +35,7 @@ AreChosen g form portion text games =
     (all : List NumberedGame) × AreGamesIn g form text all
     × (games ≡ filter (λ game. is_in portion game.number) all)
 
--- the games of a portion of what a source has still to give, if that is known
+-- the games of a portion among the bytes that a source has still to give, if they are known
 abbrev pub AreChosenOf : Geometry → Form → Portion → (coming : Option (List ℕ)) → List NumberedGame → Type 0
 AreChosenOf g form portion None games = ⊤
 AreChosenOf g form portion (Some text) games = AreChosen g form portion text games

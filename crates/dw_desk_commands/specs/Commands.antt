@@ -11,7 +11,7 @@ use Rattle.dw_desk_commands.specs.Mending.{IsMendOf}
 use Rattle.dw_desk_commands.specs.Moving.{IsMovesOf}
 use Rattle.dw_desk_commands.specs.Paging.{IsPageOf}
 use Rattle.dw_desk_commands.specs.ProblemText.{IsReportOnAll, IsReportOnOne}
-use Rattle.dw_desk_commands.specs.Solving.{IsGameOf}
+use Rattle.dw_desk_commands.specs.Solving.{IsSolutionOf}
 use Rattle.dw_desk_commands.specs.Writing.{IsTokenFor}
 use Rattle.dw_desk_commands.specs.declared.desk.Counts.{Counts}
 use Rattle.dw_commands.specs.declared.ending.Ending.{Ending}
@@ -36,7 +36,7 @@ Tells g portion (task.Find asked) games ending text =
     IsReportOnAll (λ game. IsFindOf g asked.json asked.most asked.each (problem_of game)) portion games ending text
 Tells g portion (task.Check asked) games ending text = IsReportOnAll (IsCheckOf g asked) portion games ending text
 Tells g portion (task.Solution asked) games ending text =
-    IsReportOnAll (IsGameOf g asked) portion games ending text
+    IsReportOnAll (IsSolutionOf g asked) portion games ending text
 Tells g portion (task.Page asked) games ending text =
     (counts : Counts) × IsPageOf g asked portion games counts text
     × (ending ≡ ending_after counts.shown counts.refused portion)

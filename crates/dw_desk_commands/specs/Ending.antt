@@ -7,11 +7,11 @@ use Rattle.dw_report.specs.declared.settings.RunFault.{RunFault}
 use Rattle.dw_report.specs.declared.settings.RunFault.TheVariants as faults
 use Rattle.dw_solve.specs.declared.stop.Stop.TheVariants as stops
 
--- after problems of which so many count as refused
+-- after problems, given how many of them count as refused
 abbrev pub done_of : {T : Type 0} → ℕ → Ending T
 done_of refused = if refused == 0 then end.Done else end.Refused
 
--- after so many problems were reported; those that were asked for by number may be not there
+-- after a number of reported problems; those that were requested by number may be missing
 abbrev pub ending_after : {T : Type 0} → (shown refused : ℕ) → Portion → Ending T
 ending_after shown refused portion =
     if portion.is_asked then (if shown == 0 then end.NoProblem portion.first else done_of refused) else done_of refused

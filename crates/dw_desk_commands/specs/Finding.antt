@@ -19,11 +19,11 @@ abbrev pub MayStayOpen : (each : Option ℕ) → Finding → Type 0
 MayStayOpen None finding = is_open finding ≡ false
 MayStayOpen (Some bound) finding = Unit {0}
 
--- what is found of a position within so many moves at most
+-- the finding for a position within a greatest number of moves
 abbrev pub IsFound : Geometry → (most : ℕ) → (each : Option ℕ) → Placement → Finding → Type 0
 IsFound g most each p finding = IsFinding g p most finding × MayStayOpen each finding
 
--- what is said of it in words; the problem counts as refused if the number of moves stays open
+-- its text; the problem counts as refused if the number of moves stays open
 abbrev pub SaysFound : Geometry → (most : ℕ) → (each : Option ℕ) → Placement → (refused : Bool) → List ℕ → Type 0
 SaysFound g most each p refused text =
     (finding : Finding) × IsFound g most each p finding × (refused ≡ is_open finding) × IsFoundText g p finding text
@@ -36,7 +36,7 @@ IsJsonOf g most each number (Ok p) refused text =
     × IsFoundRow g number p finding text
 IsJsonOf g most each number (Err fault) refused text = (refused ≡ true) × (text ≡ refused_row number fault)
 
--- what is written of a problem: a text in words, or a line of JSON
+-- the output for a problem: a text, or a row of JSON
 abbrev pub IsFindOf : Geometry → (json : Bool) → (most : ℕ) → (each : Option ℕ) → Numbered → (refused : Bool) → List ℕ
     → Type 0
 IsFindOf g json most each problem refused text =

@@ -1,4 +1,4 @@
--- The row of JSON for what `find` says of a problem.
+-- The row of JSON of `find` for a problem.
 use Rattle.std.specs.Prelude.{◌≡◌, ℕ, List, [], ◌∷◌, ◌++◌, codes}
 use Rattle.json.specs.Json.{string}
 use Rattle.dw_board.specs.FenText.{written}
@@ -23,14 +23,14 @@ verdict_word (cooked shortest keys) = codes "cooked"
 verdict_word (dual beginning choices) = codes "dual"
 verdict_word (sound key) = codes "sound"
 
--- what stands in front of the keys: if the problem is cooked, the least number of moves
+-- the members before the keys: the least number of moves of a cooked problem
 abbrev pub before_keys : Verdict → List Member
 before_keys unsolvable = []
 before_keys (cooked shortest keys) = (codes "shortest", count shortest) ∷ []
 before_keys (dual beginning choices) = []
 before_keys (sound key) = []
 
--- what stands behind the keys: if there is a dual, the line up to it and the choices
+-- the members after the keys: the line up to a dual and its choices
 abbrev pub AreAfterKeys : Geometry → Placement → Verdict → List Member → Type 0
 AreAfterKeys g p unsolvable members = members ≡ []
 AreAfterKeys g p (cooked shortest keys) members = members ≡ []
@@ -39,7 +39,7 @@ AreAfterKeys g p (dual beginning choices) members = (line : List ℕ) × (moves 
     × (members ≡ (codes "at", string line) ∷ (codes "choices", texts moves) ∷ [])
 AreAfterKeys g p (sound key) members = members ≡ []
 
--- the members that tell what is found of a position
+-- the members for the finding of a position
 abbrev pub AreFound : Geometry → Placement → Finding → List Member → Type 0
 AreFound g p (judged k verdict tries) members =
     (keys : List (List ℕ)) × (after : List Member) × (tried : List (List ℕ × List ℕ))
@@ -49,7 +49,7 @@ AreFound g p (judged k verdict tries) members =
 AreFound g p (undecided k) members =
     members ≡ (codes "verdict", string (codes "undecided")) ∷ (codes "no_win_in", count k) ∷ []
 
--- the row of a position and of what is found of it
+-- the row of a position and its finding
 abbrev pub IsFoundRow : Geometry → (problem : ℕ) → Placement → Finding → List ℕ → Type 0
 IsFoundRow g problem p finding text = (members : List Member) × AreFound g p finding members
     × (text ≡ row ((codes "problem", count problem) ∷ (codes "fen", string (written g p)) ∷ members))

@@ -14,34 +14,34 @@ use Rattle.dw_notation.specs.TextLines.{Found}
 use Rattle.dw_notation.specs.declared.problems.ProblemFault.{ProblemFault}
 use Rattle.dw_report.specs.Report.{first_line}
 
--- how neighbours are told: in words, or as rows of JSON
+-- the form of neighbours: text, or rows of JSON
 abbrev pub wording_for : (json : Bool) → Wording
 wording_for json = if json then Row else Words
 
--- Its sound neighbours are written, of the part that is asked for, after so many positions were expanded within the
--- bound for each. The problem counts as refused if a neighbour stays undecided.
+-- The sound neighbours of the requested part are written, after a number of expansions within the bound for each. The
+-- problem counts as refused if a neighbour stays undecided.
 abbrev pub SaysMended : Geometry → MendArgs → (expanded : ℕ) → Placement → (refused : Bool) → List ℕ → Type 0
 SaysMended g asked expanded p refused text =
     (all sound undecided : ℕ)
     × IsMendText (wording_for asked.json) g p asked.n asked.part asked.parts all sound undecided text
     × AreBounded asked.each all undecided 0 expanded × (refused ≡ not (undecided == 0))
 
--- what stands in front of them: the first line, or nothing if they are rows
+-- the text before them: the first line, or nothing if they are rows
 abbrev pub front : Geometry → MendArgs → Numbered → List ℕ
 front g asked problem = if asked.json then [] else first_line g problem
 
--- what is written of a problem that is refused
+-- the output for a refused problem
 abbrev pub refusal : Geometry → MendArgs → Numbered → ProblemFault → List ℕ
 refusal g asked problem fault = if asked.json then refused_row problem.number fault else first_line g problem
 
--- what is written of a problem, and whether it counts as refused
+-- the output for a problem, and whether it counts as refused
 abbrev pub IsMended : Geometry → MendArgs → (expanded : ℕ) → Numbered → Found → (refused : Bool) → List ℕ → Type 0
 IsMended g asked expanded problem (Ok p) refused text =
     (further : List ℕ) × SaysMended g asked expanded p refused further × (text ≡ front g asked problem ++ further)
 IsMended g asked expanded problem (Err fault) refused text =
     (refused ≡ true) × (text ≡ refusal g asked problem fault)
 
--- what is done with a problem
+-- the effect of the command on a problem
 abbrev pub IsMendOf : {T : Type 0} → Geometry → MendArgs → (expanded : ℕ) → Numbered → Ending T → List ℕ → Type 0
 IsMendOf g asked expanded problem ending text = (refused : Bool)
     × IsMended g asked expanded problem problem.found refused text × (ending ≡ (if refused then Refused else Done))

@@ -14,7 +14,7 @@ use Rattle.dw_notation.specs.Problems.{Numbered}
 use Rattle.dw_notation.specs.TextLines.{Found}
 use Rattle.dw_rows.specs.FirstMovesRow.{IsFirstMovesRow}
 
--- what the first moves of a position do, of the part i of m; the problem never counts as refused by that
+-- the effects of the first moves of a position, of the part i of m; they never make the problem count as refused
 abbrev pub SaysFirstMoves : Geometry → (n i m : ℕ) → Placement → (refused : Bool) → List ℕ → Type 0
 SaysFirstMoves g n i m p refused text = (done : List (Move × Effect)) × AreFirstMoves g p n i m done
     × IsFirstMovesText g p done text × (refused ≡ false)
@@ -25,13 +25,13 @@ IsFirstMovesLine g n i m problem (Ok p) refused text = (done : List (Move × Eff
     × IsFirstMovesRow g problem p n done text × (refused ≡ false)
 IsFirstMovesLine g n i m problem (Err fault) refused text = (refused ≡ true) × (text ≡ refused_row problem fault)
 
--- what is written of a problem
+-- the output for a problem
 abbrev pub IsMovesText : Geometry → MovesArgs → Numbered → (refused : Bool) → List ℕ → Type 0
 IsMovesText g asked problem refused text = MatchBool asked.json
     (IsFirstMovesLine g asked.n asked.part asked.parts problem.number problem.found refused text)
     (IsProblemText g (SaysFirstMoves g asked.n asked.part asked.parts) problem refused text)
 
--- what is done with a problem
+-- the effect of the command on a problem
 abbrev pub IsMovesOf : {T : Type 0} → Geometry → MovesArgs → Numbered → Ending T → List ℕ → Type 0
 IsMovesOf g asked problem ending text = (refused : Bool) × IsMovesText g asked problem refused text
     × (ending ≡ (if refused then Refused else Done))

@@ -31,7 +31,7 @@ use Rattle.dw_report.specs.Report.{refusal_text}
 use Rattle.dw_verdict.specs.Verdict.{IsVerdict, Tries, Verdict, cooked, dual, sound, unsolvable}
 use Rattle.dw_study.specs.Finding.{IsJudgedAt}
 
--- the language of a page by the one that is asked for
+-- the language of a page, given the requested one
 abbrev pub language_for : PageLanguage → Language
 language_for asks.English = English
 language_for asks.Dutch = Dutch
@@ -107,13 +107,13 @@ pub record IsSolved (g : Geometry) (language : Language) (lines : ℕ) (which : 
   pub is_solution : IsSolution g p n lines movetext
   pub shown : IsSolutionShown g language number p is_apart row rows movetext text
 
--- a solution stands behind its problem, or apart at the end, or nowhere
+-- a solution follows its problem, or is apart at the end, or is left out
 abbrev pub Stands : Placing → (Says : (is_apart : Bool) → List ℕ → Type 0) → (behind later : List ℕ) → Type 0
 Stands After Says behind later = Says false behind × (later ≡ [])
 Stands End Says behind later = (behind ≡ []) × Says true later
 Stands Nowhere Says behind later = (behind ≡ []) × (later ≡ [])
 
--- the number of moves that a problem asks for: the least with a win up to the number that is given, or that number
+-- the number of moves of a problem: the least with a win up to the given number, or that number
 abbrev pub IsAskedIn : Geometry → PageArgs → Placement → ℕ → Type 0
 IsAskedIn g asked p n = MatchBool asked.is_least (IsJudgedAt g p asked.moves n) (n ≡ asked.moves)
 
@@ -122,8 +122,8 @@ abbrev pub task_part : Geometry → PageArgs → (number : ℕ) → Placement �
 task_part g asked number p tags n =
     problem g (language_for asked.language) asked.numbers number (value (codes "White") tags) (source tags) p n
 
--- The part of a page that a position has, and what comes later of it: its number, its tags, its diagram and its task,
--- and the solution where it is to stand.
+-- The part of a page for a position, and its later part: its number, its tags, its diagram and its task, and the
+-- solution in its place.
 pub record IsPositionPart (g : Geometry) (asked : PageArgs) (number : ℕ) (p : Placement) (section part later : List ℕ)
     : Type 0 where
   pub tags : List TagText
@@ -135,7 +135,7 @@ pub record IsPositionPart (g : Geometry) (asked : PageArgs) (number : ℕ) (p : 
       behind later
   pub is : part ≡ task_part g asked number p (map (λ t. t.tag) tags) n ++ (behind ++ end_of_problem)
 
--- the part that a problem has, and what comes later of it; a refused problem has the reason
+-- the part of a page for a problem, and its later part; a refused problem has the reason
 abbrev pub IsPart : Geometry → PageArgs → (number : ℕ) → Found → (section : List ℕ) → (refused : Bool)
     → (part later : List ℕ) → Type 0
 IsPart g asked number (Ok p) section is_refused part later =
@@ -143,7 +143,7 @@ IsPart g asked number (Ok p) section is_refused part later =
 IsPart g asked number (Err fault) section is_refused part later =
     (is_refused ≡ true) × (part ≡ refused (language_for asked.language) number (refusal_text fault)) × (later ≡ [])
 
--- a game on a page: whether it counts as refused, its part, and what comes later of it
+-- a game on a page: whether it counts as refused, its part, and its later part
 pub record Shown : Type 0 where
   pub game : NumberedGame
   pub is_refused : Bool
@@ -161,8 +161,8 @@ heading_of After language = []
 heading_of End language = solutions_heading language
 heading_of Nowhere language = []
 
--- A page of some games: its head, the part of each game in turn, what comes later of them, and its end; how many games
--- there are, and how many count as refused. A text has no more games than are counted.
+-- A page of some games: its head, the part of each game in turn, their later parts, and its end; the number of games,
+-- and how many count as refused. A text has no more games than are counted.
 pub record IsPage (g : Geometry) (asked : PageArgs) (games : List NumberedGame) (counts : Counts) (text : List ℕ)
     : Type 0 where
   pub games_shown : List Shown

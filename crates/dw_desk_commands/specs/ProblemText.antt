@@ -14,21 +14,20 @@ use Rattle.dw_notation.specs.TextLines.{Found}
 use Rattle.dw_notation.specs.declared.problems.TheConstants.{MAX_PROBLEMS}
 use Rattle.dw_report.specs.Report.{first_line}
 
--- what follows a first line: what is said of the position, and whether the problem counts as refused by that; after a
--- refusal nothing
+-- the text after the first line, and whether it makes the problem count as refused; after a refusal nothing
 abbrev pub IsFurther : (Says : Placement → (refused : Bool) → List ℕ → Type 0) → Found → (refused : Bool) → List ℕ
     → Type 0
 IsFurther Says (Ok p) refused text = Says p refused text
 IsFurther Says (Err fault) refused text = (refused ≡ true) × (text ≡ [])
 
--- The text of a problem: its first line, and what follows it.
+-- The text of a problem: its first line, and the rest.
 pub record IsProblemText (g : Geometry) (Says : Placement → (refused : Bool) → List ℕ → Type 0) (problem : Numbered)
     (refused : Bool) (text : List ℕ) : Type 0 where
   pub further : List ℕ
   pub follows : IsFurther Says problem.found refused further
   pub is : text ≡ first_line g problem ++ further
 
--- texts of what was read in turn, one after another
+-- the texts of items in turn, one after another
 pub data AreTexts {X : Type 0} (One : X → List ℕ → Type 0) : List X → List ℕ → Type 0 where
   nothing : AreTexts One [] []
   one_more : {xs : List X} {text : List ℕ} (x : X) (one : List ℕ) → AreTexts One xs text → One x one
@@ -39,8 +38,8 @@ pub record Reported : Type 0 where
   pub game : NumberedGame
   pub is_refused : Bool
 
--- The report on some games: what is written of each in turn; how many they are, and how many count as refused. A text
--- has no more games than are counted.
+-- The report on some games: the output for each in turn; the number of games, and how many count as refused. A text has
+-- no more games than are counted.
 pub record IsReport (One : NumberedGame → (refused : Bool) → List ℕ → Type 0) (games : List NumberedGame)
     (counts : Counts) (text : List ℕ) : Type 0 where
   pub reported : List Reported
@@ -62,7 +61,7 @@ abbrev pub IsReportOnOne : {T : Type 0} → (One : NumberedGame → Ending T →
 IsReportOnOne One number [] ending text = (ending ≡ NoProblem number) × (text ≡ [])
 IsReportOnOne One number (game ∷ more) ending text = One game ending text
 
--- what a command does with a problem that has a position; a refused one leaves its first line alone
+-- the effect of a command on a problem with a position; a refused one has only its first line
 abbrev pub IsDoneWith : {T : Type 0} → (Does : Placement → Ending T → List ℕ → Type 0) → (line : List ℕ) → Found
     → Ending T → List ℕ → Type 0
 IsDoneWith Does line (Ok p) ending text = Does p ending text

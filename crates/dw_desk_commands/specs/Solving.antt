@@ -16,7 +16,11 @@ use Rattle.dw_games.specs.TagRows.{TagText, AreTags}
 use Rattle.dw_solve.specs.Lines.{Lines}
 use Rattle.dw_report.specs.Report.{refusal_text}
 use Rattle.dw_verdict.specs.Verdict.{Verdict, IsVerdict, unsolvable, cooked, dual, sound}
+use Rattle.dw_desk_commands.specs.FindingJson.{refused_row}
+use Rattle.dw_rows.specs.SolutionRow.{IsSolutionRow}
+use Rattle.dw_solution.specs.FirstLines.{LinesFrom}
 use Rattle.dw_solution.specs.Movetext.{IsMovetext}
+use Rattle.dw_solution.specs.declared.heading.Heading.{Heading}
 use Rattle.dw_solution.specs.declared.heading.VerdictKind.{VerdictKind}
 use Rattle.dw_solution.specs.declared.heading.VerdictKind.TheVariants as kinds
 
@@ -27,14 +31,22 @@ kind_of (cooked shortest keys) = kinds.Cooked
 kind_of (dual beginning choices) = kinds.Dual
 kind_of (sound key) = kinds.Sound
 
--- The movetext of a win within n moves: that of its first lines, as many as are asked for, with the verdict in front.
-pub record IsSolution (g : Geometry) (p : Placement) (n most : ℕ) (text : List ℕ) : Type 0 where
+-- The solution of a position within n moves: its verdict without moves, its first lines, as many as requested, and a
+-- movetext of them.
+pub record IsMovetextOf (g : Geometry) (p : Placement) (n most : ℕ) (heading : Heading) (first : LinesFrom) (many : ℕ)
+    (movetext : List ℕ) : Type 0 where
   pub verdict : Verdict
   pub is_verdict : IsVerdict g p n verdict
+  pub heads : heading ≡ record { kind = kind_of verdict; moves = n }
   pub lines : List (List Move)
   pub are_lines : Lines g p n lines
-  pub is : IsMovetext g p (record { kind = kind_of verdict; moves = n }) (take most lines)
-      (nat_lt most (length lines)) text
+  pub are_first : first ≡ record { start = p; lines = take most lines; more = nat_lt most (length lines) }
+  pub is : IsMovetext g heading first many movetext
+
+-- the movetext of a win within n moves
+abbrev pub IsSolution : Geometry → Placement → (n most : ℕ) → List ℕ → Type 0
+IsSolution g p n most text =
+    (heading : Heading) × (first : LinesFrom) × (many : ℕ) × IsMovetextOf g p n most heading first many text
 
 -- a tag in a line of its own; nothing of the two that are written anew
 abbrev pub own_line : TagText → List ℕ
@@ -57,7 +69,7 @@ abbrev pub AreWrittenTags : Geometry → Placement → (section text : List ℕ)
 AreWrittenTags g p section text =
     (tags : List TagText) × AreTags section tags × (text ≡ flat_map own_line tags ++ new_lines g p)
 
--- the number of moves that is asked for: the least with a win up to the number that is given, or that number
+-- the number of moves: the least with a win up to the given number, or that number
 abbrev pub IsNumberOf : Geometry → SolutionArgs → Placement → ℕ → Type 0
 IsNumberOf g asked p n = MatchBool asked.is_least (IsJudgedAt g p asked.moves n) (n ≡ asked.moves)
 
@@ -68,7 +80,7 @@ IsGameText g asked p section text =
     × IsSolution g p n asked.lines movetext
     × (text ≡ tags ++ (movetext ++ codes "\n\n"))
 
--- a refused problem as a game, whose event tells why
+-- a refused problem as a game, whose event has the reason
 abbrev pub refused_game : (number : ℕ) → ProblemFault → List ℕ
 refused_game number fault =
     codes "[Event \"problem " ++ (decimal number ++ (codes ": refused: " ++ (refusal_text fault
@@ -80,6 +92,19 @@ abbrev pub IsGameFor : Geometry → SolutionArgs → (number : ℕ) → Found �
 IsGameFor g asked number (Ok p) section refused text = (refused ≡ false) × IsGameText g asked p section text
 IsGameFor g asked number (Err fault) section refused text = (refused ≡ true) × (text ≡ refused_game number fault)
 
--- what is written of a game that was read
-abbrev pub IsGameOf : Geometry → SolutionArgs → NumberedGame → (refused : Bool) → List ℕ → Type 0
-IsGameOf g asked game refused text = IsGameFor g asked game.number game.said.found game.said.tags refused text
+-- A position as a row of JSON, with the moves of its movetext.
+abbrev pub IsPositionRow : Geometry → SolutionArgs → (number : ℕ) → Placement → List ℕ → Type 0
+IsPositionRow g asked number p text =
+    (n : ℕ) × (heading : Heading) × (first : LinesFrom) × (many : ℕ) × (movetext : List ℕ) × IsNumberOf g asked p n
+    × IsMovetextOf g p n asked.lines heading first many movetext × IsSolutionRow g number heading first many text
+
+-- a problem as a row of JSON, and whether it counts as refused
+abbrev pub IsSolutionLine : Geometry → SolutionArgs → (number : ℕ) → Found → (refused : Bool) → List ℕ → Type 0
+IsSolutionLine g asked number (Ok p) refused text = (refused ≡ false) × IsPositionRow g asked number p text
+IsSolutionLine g asked number (Err fault) refused text = (refused ≡ true) × (text ≡ refused_row number fault)
+
+-- the output for a game that was read
+abbrev pub IsSolutionOf : Geometry → SolutionArgs → NumberedGame → (refused : Bool) → List ℕ → Type 0
+IsSolutionOf g asked game refused text = MatchBool asked.json
+    (IsSolutionLine g asked game.number game.said.found refused text)
+    (IsGameFor g asked game.number game.said.found game.said.tags refused text)

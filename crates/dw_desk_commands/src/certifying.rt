@@ -21,7 +21,7 @@ use std::mem::replace;
 impl<B: Board, E> ReportOne<B, E> for CertifyArgs {
     ghost says = { λ asked expanded game. IsCertifyOf B.geometry asked.n (problem_of game) };
 
-    /// Writes the certificate of whether a problem is won within so many moves, and returns how that ended. A refused
+    /// Writes the certificate of whether a problem is won within `n` moves, and returns how that ended. A refused
     /// problem leaves its first line alone.
     fn report<W: DeskWatcher, K: Sink>(
         &self,
@@ -57,7 +57,7 @@ impl<B: Board, E> ReportOne<B, E> for CertifyArgs {
     }
 }
 
-/// The text of the certificate of a position, out of the memo of the desk, which has an empty one then.
+/// Makes the text of the certificate of a position, out of the memo of the desk, which has an empty one then.
 fn text_of<B: Board>(
     desk: &mut Desk<B>,
     position: &Position<B>,
@@ -73,7 +73,7 @@ fn text_of<B: Board>(
     Ok(certificate_text(desk.alloc, position, n, &certificate)?)
 }
 
-/// A solver that keeps nothing.
+/// Makes a solver that keeps nothing.
 fn unused_solver<B: Board>(alloc: Global) -> Result<Solver<B, LeakedMemo<B>, ByTrial>, AllocError>
     ensures { IfOk result (λ solver. solver.limit ≡ u64.MAX) }
 {

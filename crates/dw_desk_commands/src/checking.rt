@@ -1,4 +1,4 @@
-//! The command `check`: what the solution in each game gets wrong, and what it leaves out.
+//! The command `check`: the faults of the solution in each game, and the moves that it leaves out.
 ghost use Rattle.std.specs.Prelude.{◌≡◌, ◌+◌, ◌≤◌, ◌<◌, ◌↔◌, ℕ, List, [], Some, false, map, IfOk, OnOk, IsTrue};
 ghost use Rattle.std.specs.Prelude.{codes, if◌then◌else◌, IsErrOf};
 ghost use Rattle.std.specs.Io.KnownBytes.{Appends};
@@ -138,7 +138,7 @@ struct Solution<'a, B: Board> {
     checked: &'a Checked<B>,
 }
 
-/// Within how many moves a solution is looked at: as many as are asked for, or as it has.
+/// Returns the number of moves within which a solution is looked at: the number of `-n`, or that of the solution.
 fn moves_for<B: Board>(asked: Option<u8>, tree: &Tree<B>) -> u8
     ensures number { IsNumberFor asked tree.now result }
     ensures some { 1 ≤ result }
@@ -173,7 +173,7 @@ fn checked<B: Board, W: DeskWatcher>(
     checked
 }
 
-/// That a solution has this fault.
+/// Makes the line of a fault of a solution.
 fn refused_line(alloc: Global, what: MovetextFaultKind, place: u32) -> Result<String, AllocError>
     ensures { IfOk result (λ line. string_bytes line ≡ of.refused_line what place) }
 {
@@ -191,7 +191,7 @@ fn refused_line(alloc: Global, what: MovetextFaultKind, place: u32) -> Result<St
     .concat(alloc)
 }
 
-/// Writes what was found out of a solution, unless it is to be left out, and answers whether it fails.
+/// Writes the remarks on a solution, unless it is to be left out, and returns whether it fails.
 fn write_solution<B: Board, K: Sink>(
     alloc: Global,
     asked: &CheckArgs,
@@ -216,7 +216,7 @@ fn write_solution<B: Board, K: Sink>(
     Ok(!tally.holds())
 }
 
-/// Whether nothing is to be written of a solution, since nothing is remarked of it.
+/// Returns whether nothing is to be written of a solution, since there are no remarks on it.
 fn is_left_out<B: Board>(asked: &CheckArgs, solution: &Solution<'_, B>) -> bool
     ensures { (said : List AnyRemark)
         → map (remark_in solution.now.tree.now) solution.now.checked.now.remarks.items ≡ map (λ r. Some r) said
@@ -225,7 +225,7 @@ fn is_left_out<B: Board>(asked: &CheckArgs, solution: &Solution<'_, B>) -> bool
     asked.faults && solution.checked.remarks.is_empty()
 }
 
-/// Writes what was found out of a solution: its row, or words.
+/// Writes the remarks on a solution: its row, or words.
 fn write_checked<B: Board, K: Sink>(
     alloc: Global,
     json: bool,
@@ -257,7 +257,7 @@ fn write_checked<B: Board, K: Sink>(
     write_words(alloc, solution, tally, sink)
 }
 
-/// The row of a solution.
+/// Makes the row of a solution.
 fn row_of<B: Board>(
     alloc: Global,
     solution: &Solution<'_, B>,
@@ -292,7 +292,7 @@ fn row_of<B: Board>(
     )
 }
 
-/// Writes what was found out of a solution in words.
+/// Writes the remarks on a solution in words.
 fn write_words<B: Board, K: Sink>(
     alloc: Global,
     solution: &Solution<'_, B>,
@@ -325,7 +325,7 @@ fn write_words<B: Board, K: Sink>(
     Ok(())
 }
 
-/// A line that says that there is no win, if so.
+/// Makes the line that there is no win, if there is none.
 fn win_line(alloc: Global, wins: bool, n: u8) -> Result<String, AllocError>
     ensures win { IsTrue wins → IfOk result (λ line. string_bytes line ≡ []) }
     ensures none { wins ≡ false → IfOk result (λ line. string_bytes line ≡ no_win_line n) }
@@ -381,7 +381,7 @@ fn write_remark<B: Board, K: Sink>(
     Ok(())
 }
 
-/// How many remarks there are of each kind.
+/// The numbers of remarks of each kind.
 #[derive(Clone, Copy, Default)]
 struct Tally {
     fails: u64,
@@ -391,7 +391,7 @@ struct Tally {
 }
 
 impl Tally {
-    /// One remark more.
+    /// Adds a remark.
     fn with<B: Board>(self, remark: &Remark<B>) -> Tally
         requires { total self < 18446744073709551615 }
         ensures counts { (tree : List (List Move)) (r : AnyRemark) → remark_in tree remark.now ≡ Some r
@@ -418,7 +418,7 @@ impl Tally {
         }
     }
 
-    /// Whether a solution with these remarks holds: no move of it fails, and no path of it ends too soon.
+    /// Returns whether a solution with these remarks holds: no move of it fails, and no path of it ends too soon.
     fn holds(self) -> bool
         ensures { result ≡ of.holds (tallied self) }
     {
@@ -426,7 +426,7 @@ impl Tally {
     }
 }
 
-/// How many of these remarks there are of each kind.
+/// Counts the remarks of each kind.
 fn tally_of<B: Board>(remarks: &[Remark<B>]) -> Tally
     ensures { (tree : List (List Move)) (said : List AnyRemark)
         → map (remark_in tree) remarks.now ≡ map (λ r. Some r) said → tallied result ≡ counted said }
@@ -438,7 +438,7 @@ fn tally_of<B: Board>(remarks: &[Remark<B>]) -> Tally
     tally
 }
 
-/// The last line: whether the solution holds, and the numbers of remarks.
+/// Makes the last line: whether the solution holds, and the numbers of remarks.
 fn last_line(alloc: Global, n: u8, tally: Tally) -> Result<String, AllocError>
     ensures { IfOk result (λ line. string_bytes line ≡ of.last_line n (tallied tally)) }
 {
@@ -464,7 +464,7 @@ fn last_line(alloc: Global, n: u8, tally: Tally) -> Result<String, AllocError>
     .concat(alloc)
 }
 
-/// Whether a solution holds, in a word.
+/// Returns the word that says whether a solution holds.
 fn word(holds: bool) -> &'static str
     ensures { result.now ≡ (if holds then codes "holds" else codes "fails") }
 {

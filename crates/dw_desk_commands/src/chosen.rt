@@ -1,4 +1,4 @@
-//! The problems that a command speaks of, one after another.
+//! The chosen problems, one after another.
 ghost use Rattle.std.specs.Prelude.{◌≡◌, ◌<◌, ◌-◌, if◌then◌else◌, ℕ, List, false, option_map, IfOk, IfErr, IfSome};
 ghost use Rattle.std.specs.Prelude.{OnOk};
 
@@ -16,7 +16,7 @@ pub(crate) struct Chosen<'a, B: Board, S> {
     alloc: Global,
     text: Text<'a, B, S>,
     portion: Portion,
-    /// How many problems of the text are still looked at.
+    /// The number of problems of the text that are still looked at.
     left: u32,
 }
 
@@ -29,7 +29,7 @@ impl<'a, B: Board, S: Source> Chosen<'a, B, S> {
     ghost use Rattle.dw_games.specs.GameReading.{numbered_game};
     ghost use Rattle.dw_games.specs.Games.{NumberedGame};
 
-    /// The problems of a portion, of a text of this form that the source gives.
+    /// Returns the problems of a portion, of a text of this form that the source gives.
     pub(crate) fn new(alloc: Global, source: &'a mut S, form: Form, portion: Portion) -> Self
         requires { S.is_failed source.old ≡ false }
         ensures fresh { IsFresh B.geometry S.coming S.has_ended form portion result }
@@ -44,21 +44,21 @@ impl<'a, B: Board, S: Source> Chosen<'a, B, S> {
         }
     }
 
-    /// The number of the first problem of the portion.
+    /// Returns the number of the first problem of the portion.
     pub(crate) fn first(&self) -> u32
         ensures { result ≡ self.now.portion.first }
     {
         self.portion.first
     }
 
-    /// Whether these problems were asked for by their numbers.
+    /// Returns whether these problems were asked for by their numbers.
     pub(crate) fn is_asked(&self) -> bool
         ensures { result ≡ self.now.portion.is_asked }
     {
         self.portion.is_asked
     }
 
-    /// The next of them, or none if there is no more. Reading ends behind the last.
+    /// Returns the next of them, or none if there is no more. Reading ends after the last.
     pub(crate) fn next(&mut self) -> Result<Option<Game<B>>, DeskFault>
         requires { Runs self.old.text }
         ensures given { IfOk result (λ found. HandsOut (AreToCome B.geometry S.coming S.has_ended self.old)
@@ -84,7 +84,7 @@ impl<'a, B: Board, S: Source> Chosen<'a, B, S> {
         Ok(None)
     }
 
-    /// Whether a number is in the portion.
+    /// Returns whether a number is in the portion.
     fn has(&self, number: u32) -> bool
         ensures { result ≡ is_in self.now.portion number }
     {
@@ -95,7 +95,7 @@ impl<'a, B: Board, S: Source> Chosen<'a, B, S> {
             }
     }
 
-    /// How many problems are still looked at behind a number: none, if the portion ends there.
+    /// Returns how many problems are still looked at after a number: none, if the portion ends there.
     fn left_behind(&self, number: u32) -> u32
         requires { 0 < self.now.left }
         ensures { result ≡ (if is_met self.now.portion.last number then 0 else self.now.left - 1) }
@@ -107,7 +107,7 @@ impl<'a, B: Board, S: Source> Chosen<'a, B, S> {
     }
 }
 
-/// A text by how it has its problems.
+/// A text, by the form of its problems.
 #[derive(Drop)]
 enum Text<'a, B: Board, S> {
     Fens(Problems<'a, B, S>),
@@ -120,7 +120,7 @@ impl<'a, B: Board, S: Source> Text<'a, B, S> {
     ghost use Rattle.dw_desk_commands.specs.inner.Faults.{IsCaused};
     ghost use Rattle.dw_games.specs.Games.{NumberedGame};
 
-    /// A text of this form that the source gives.
+    /// Returns a text of this form that the source gives.
     fn new(alloc: Global, source: &'a mut S, form: Form) -> Self
         requires { S.is_failed source.old ≡ false }
         ensures source { source_of result ≡ source.old }
@@ -136,7 +136,7 @@ impl<'a, B: Board, S: Source> Text<'a, B, S> {
         }
     }
 
-    /// The next problem, chosen or not.
+    /// Returns the next problem, chosen or not.
     fn next(&mut self, alloc: Global) -> Result<Option<Game<B>>, DeskFault>
         requires { Runs self.old }
         ensures given { IfOk result (ComesNext B.geometry S.coming S.has_ended self.old self.new) }

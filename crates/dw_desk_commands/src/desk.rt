@@ -1,4 +1,4 @@
-//! What every command does: it searches with a solver, and counts what it reports.
+//! The solver and the counters that all commands share.
 ghost use Rattle.std.specs.Prelude.{◌≡◌, ◌⊎◌, ◌+◌, ◌<◌, ◌≤◌, false, if◌then◌else◌, Bool, IfOk, IfErr, OnOk};
 ghost use Rattle.dw_desk_commands.specs.Commands.{DoesIt, Obeys, form_for};
 ghost use Rattle.dw_desk_commands.specs.Ending.{FailsForCause, HasCause, ending_after};
@@ -23,7 +23,7 @@ use dw_solve::{ByTrial, Solver};
 use dw_study::Slices;
 use std::alloc::{AllocError, Global};
 
-/// How many problems were reported, and how many of them were refused, stayed undecided or fail.
+/// The number of reported problems, and the number of those that were refused, stayed undecided or fail.
 #[derive(Clone, Copy, Default)]
 pub struct Counts {
     pub shown: u32,
@@ -31,7 +31,7 @@ pub struct Counts {
 }
 
 impl Counts {
-    /// How the program ends after these.
+    /// Returns how the program ends after these.
     pub(crate) fn ending<T>(self, args: &DeskArgs<'_>) -> Ending<T>
         ensures { result ≡ ending_after self.shown self.refused args.now.portion }
     {
@@ -44,7 +44,7 @@ impl Counts {
         }
     }
 
-    /// One problem more is reported.
+    /// Counts one problem more.
     pub(crate) fn with(self, is_refused: bool) -> Counts
         ensures more { self.shown < 4294967295 → self.refused < 4294967295 → result ≡ record {
           shown = self.shown + 1;
@@ -59,7 +59,7 @@ impl Counts {
     }
 }
 
-/// Why a problem was not reported to its end.
+/// The reason why a problem was not reported to its end.
 #[derive(Clone, Copy)]
 pub(crate) enum DeskFault {
     Stopped(Stop),
@@ -68,7 +68,7 @@ pub(crate) enum DeskFault {
 }
 
 impl DeskFault {
-    /// The fault as that of a run, after so many expansions.
+    /// Returns the fault as that of a run, after `expanded` positions.
     fn in_run(self, expanded: u64) -> RunFault
         ensures { result ≡ run_fault self expanded }
     {
@@ -134,7 +134,7 @@ impl From<WriteFault> for DeskFault {
     }
 }
 
-/// What searches for the problems: a solver without a limit, over a memo of this kind and size.
+/// The solver for all problems: it has no limit, and a memo of this kind and size.
 #[derive(Drop)]
 pub(crate) struct Desk<B: Board> {
     pub(crate) alloc: Global,
@@ -147,7 +147,7 @@ pub(crate) struct Desk<B: Board> {
 }
 
 impl<B: Board> Desk<B> {
-    /// A desk over an empty memo.
+    /// Makes a desk over an empty memo.
     fn new(alloc: Global, args: &DeskArgs<'_>) -> Result<Self, AllocError> {
         Ok(Desk {
             alloc,
@@ -165,8 +165,7 @@ impl<B: Board> Desk<B> {
         Ok(())
     }
 
-    /// Begins with another problem: the memo may forget those before, and the line that shows how far a search is tells
-    /// its number.
+    /// Begins another problem: the memo may forget those before, and the progress line shows the new number.
     pub(crate) fn begin<W: DeskWatcher>(&mut self, slices: &mut Slices<W>, number: u32)
         ensures count { self.new.solver.expanded ≡ self.old.solver.expanded }
         ensures first { slices.new.first ≡ slices.old.first }
@@ -176,9 +175,8 @@ impl<B: Board> Desk<B> {
     }
 }
 
-/// Does what was asked for, with the problems of a source, and tells how the program ends. It fails only if memory was
-/// refused, if a stream failed, or if 2^64 - 1 positions were expanded.
-/// Example: of `dw-desk find`, `W:W32:B28` gives two lines, and the program ends with `Ending::Done`.
+/// Runs a command on the problems of a source, and returns how the program ends. It fails only if memory was refused,
+/// if a stream failed, or if 2^64 - 1 positions were expanded.
 pub fn run_on<'a, B: Board, W: DeskWatcher, S: Source, K: Sink>(
     alloc: Global,
     slices: &mut Slices<W>,
@@ -201,7 +199,7 @@ pub fn run_on<'a, B: Board, W: DeskWatcher, S: Source, K: Sink>(
     }
 }
 
-/// Does what was asked for, with the problems of a source, unless something stops it.
+/// Runs a command on the problems of a source, unless something stops it.
 fn dispatch<'a, B: Board, W: DeskWatcher, S: Source, K: Sink>(
     desk: &mut Desk<B>,
     slices: &mut Slices<W>,
@@ -222,7 +220,7 @@ fn dispatch<'a, B: Board, W: DeskWatcher, S: Source, K: Sink>(
     do_with(desk, slices, args, &mut chosen, sink)
 }
 
-/// Does what was asked for, with the chosen problems, unless something stops it.
+/// Runs a command on the chosen problems, unless something stops it.
 fn do_with<'a, B: Board, W: DeskWatcher, S: Source, K: Sink>(
     desk: &mut Desk<B>,
     slices: &mut Slices<W>,
@@ -274,7 +272,7 @@ fn do_with<'a, B: Board, W: DeskWatcher, S: Source, K: Sink>(
     }
 }
 
-/// How the text has its problems: solutions stand in games alone.
+/// Returns the form of the text: solutions stand in games alone.
 fn form_of(args: &DeskArgs<'_>) -> Form
     ensures { result ≡ form_for args.now.task args.now.form }
 {
@@ -284,7 +282,7 @@ fn form_of(args: &DeskArgs<'_>) -> Form
     }
 }
 
-/// A solver without a limit, over an empty memo of this kind and size.
+/// Makes a solver without a limit, over an empty memo of this kind and size.
 fn solver_of<B: Board>(
     alloc: Global,
     memo: MemoKind,

@@ -41,7 +41,7 @@ impl<B: Board> ReportEach<B> for FindArgs {
     }
 }
 
-/// Reports one problem in words: its first line, and what is found of its position.
+/// Reports one problem in words: its first line, and the result of the search.
 fn report_in_words<B: Board, W: DeskWatcher, K: Sink>(
     desk: &mut Desk<B>,
     slices: &mut Slices<W>,
@@ -87,7 +87,7 @@ fn report_in_json<B: Board, W: DeskWatcher, K: Sink>(
     Ok(is_refused)
 }
 
-/// The line of JSON of one problem, and whether it was refused or stayed undecided.
+/// Makes the line of JSON of one problem, and returns whether it was refused or stayed undecided.
 fn json_of<B: Board, W: DeskWatcher>(
     desk: &mut Desk<B>,
     slices: &mut Slices<W>,
@@ -109,7 +109,7 @@ fn json_of<B: Board, W: DeskWatcher>(
     }
 }
 
-/// Whether the number of moves is not known.
+/// Returns whether the number of moves is not known.
 fn is_undecided<B: Board>(finding: &Finding<B>) -> bool
     ensures { result ≡ is_open (told_by finding.now) }
 {

@@ -1,4 +1,4 @@
-//! Rows of JSON, each an object in a line: what `find` says of a problem.
+//! The rows of JSON of `find`, each an object in a line.
 ghost use Rattle.std.specs.Prelude.{◌≡◌, ℕ, ◌∷◌, [], List, codes, IfOk, OnOk};
 ghost use Rattle.std.specs.String.{string_bytes};
 ghost use Rattle.json.specs.Json.{string};
@@ -20,7 +20,7 @@ use dw_verdict::{Judged, Verdict};
 use json::Writer;
 use std::alloc::{AllocError, Global};
 
-/// The row of a problem that is refused.
+/// Makes the row of a problem that is refused.
 pub(crate) fn refused_line(
     alloc: Global,
     number: u32,
@@ -34,7 +34,7 @@ pub(crate) fn refused_line(
     end_row(row)
 }
 
-/// The row of a position, and of what was found of it.
+/// Makes the row of a position, and of the result of the search.
 pub(crate) fn found_line<B: Board>(
     alloc: Global,
     number: u32,
@@ -52,7 +52,7 @@ pub(crate) fn found_line<B: Board>(
     end_row(row)
 }
 
-/// Writes the members that tell what was found.
+/// Writes the members for the result of the search.
 fn put_found<B: Board>(
     alloc: Global,
     row: &mut Writer,
@@ -78,7 +78,7 @@ fn put_undecided(row: &mut Writer, no_win_in: u8) -> Result<(), AllocError>
     put_number(row, "no_win_in", no_win_in.into())
 }
 
-/// Writes the members that tell a verdict and the tries.
+/// Writes the members for a verdict and the tries.
 fn put_judged<B: Board>(
     alloc: Global,
     row: &mut Writer,
@@ -133,7 +133,7 @@ fn put_choice<B: Board>(
     }
 }
 
-/// The word of a verdict.
+/// Returns the word of a verdict.
 fn name_of<B: Board>(verdict: &Verdict<B>) -> &'static str
     ensures { result.now ≡ verdict_word (said_by verdict.now) }
 {

@@ -1,7 +1,7 @@
-//! What `dw-desk` does between its arguments and its exit status.
+//! The commands of `dw-desk`, between its arguments and its exit status.
 //!
-//! Begin with `run_on`, which does what was asked for over any source and sink. Nothing here knows an operating system:
-//! who looks on is told by a `DeskWatcher`.
+//! Begin with `run_on`, which runs a command over any source and sink. This crate knows no operating system. A
+//! `DeskWatcher` learns how far the searches are.
 #![tactic(auto)]
 
 mod certifying;

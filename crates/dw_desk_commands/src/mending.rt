@@ -16,8 +16,9 @@ use dw_board::Board;
 use dw_commands::Ending;
 use dw_games::Game;
 use dw_mend::mend::mend;
-use dw_mend::{MendBounds, Mended, Part, Wording};
+use dw_mend::{MendBounds, Mended, Wording};
 use dw_notation::{Problem, ProblemFault, Sink, write_all};
+use dw_parts::Part;
 use dw_report::problem_line;
 use dw_study::Slices;
 use std::alloc::Global;
@@ -25,8 +26,8 @@ use std::alloc::Global;
 impl<B: Board, E> ReportOne<B, E> for MendArgs {
     ghost says = { λ asked expanded game. IsMendOf B.geometry asked expanded (problem_of game) };
 
-    /// Writes the neighbours of a problem that are sound, each as soon as it is found, and returns how that ended. A
-    /// refused problem leaves its first line alone, or its row.
+    /// Writes the sound neighbours of a problem, each as soon as it is found, and returns how that ended. A refused
+    /// problem leaves its first line alone, or its row.
     fn report<W: DeskWatcher, K: Sink>(
         &self,
         desk: &mut Desk<B>,
@@ -59,14 +60,14 @@ impl<B: Board, E> ReportOne<B, E> for MendArgs {
     }
 }
 
-/// How neighbours are told.
+/// Returns the form of the lines.
 fn wording_for(json: bool) -> Wording
     ensures { result ≡ wording_for json }
 {
     if json { Wording::Row } else { Wording::Words }
 }
 
-/// Writes what stands in front of the neighbours: the problem's first line, or nothing.
+/// Writes the text before the neighbours: the problem's first line, or nothing.
 fn write_front<B: Board, K: Sink>(
     asked: &MendArgs,
     problem: &Problem<B>,
@@ -107,7 +108,7 @@ fn write_refusal<B: Board, K: Sink>(
     Ok(())
 }
 
-/// How the command ends: as with a refused problem, if a neighbour stays undecided.
+/// Returns how the command ends: as with a refused problem, if a neighbour stays undecided.
 fn ending_with<T>(mended: &Mended) -> Ending<T>
     ensures { result ≡ (if not (mended.now.undecided == 0) then Refused else Done) }
 {

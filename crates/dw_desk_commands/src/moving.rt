@@ -1,4 +1,4 @@
-//! The command `moves`: what each first move of a problem does.
+//! The command `moves`: the effect of each first move of a problem.
 ghost use Rattle.std.specs.Prelude.{◌≡◌, ℕ, List, false, map, IfOk, IsErrOf};
 ghost use Rattle.std.specs.Io.KnownBytes.{Appends};
 ghost use Rattle.std.specs.String.{string_bytes};
@@ -31,8 +31,8 @@ impl<B: Board, E> ReportOne<B, E> for MovesArgs {
     ghost says = { λ asked expanded game.
         IsMovesOf B.geometry asked (problem_of game) };
 
-    /// Writes what each first move of a problem does, and returns how that ended. A refused problem leaves its first
-    /// line alone, or its row.
+    /// Writes the effects of the first moves of a problem, and returns how that ended. A refused problem leaves its
+    /// first line alone, or its row.
     fn report<W: DeskWatcher, K: Sink>(
         &self,
         desk: &mut Desk<B>,
@@ -53,7 +53,7 @@ impl<B: Board, E> ReportOne<B, E> for MovesArgs {
     }
 }
 
-/// Writes a problem in words: its first line, and what its first moves do; and answers whether it is refused.
+/// Writes a problem in words: its first line, and the effects of its first moves. Returns whether it is refused.
 fn write_words<B: Board, W: DeskWatcher, K: Sink>(
     desk: &mut Desk<B>,
     slices: &mut Slices<W>,
@@ -78,7 +78,7 @@ fn write_words<B: Board, W: DeskWatcher, K: Sink>(
     Ok(false)
 }
 
-/// Writes a problem as a row, and answers whether it is refused.
+/// Writes a problem as a row, and returns whether it is refused.
 fn write_row<B: Board, W: DeskWatcher, K: Sink>(
     desk: &mut Desk<B>,
     slices: &mut Slices<W>,
@@ -98,7 +98,7 @@ fn write_row<B: Board, W: DeskWatcher, K: Sink>(
     Ok(is_refused)
 }
 
-/// The row of a problem, and whether it is refused.
+/// Makes the row of a problem, and returns whether it is refused.
 fn row_of<B: Board, W: DeskWatcher>(
     desk: &mut Desk<B>,
     slices: &mut Slices<W>,
@@ -120,7 +120,7 @@ fn row_of<B: Board, W: DeskWatcher>(
     }
 }
 
-/// Searches for what the first moves of a position do, and shows how far it is.
+/// Searches for the effects of the first moves of a position, and shows how far it is.
 fn searched<B: Board, W: DeskWatcher>(
     desk: &mut Desk<B>,
     slices: &mut Slices<W>,

@@ -16,7 +16,7 @@ use dw_verdict::{Judged, Verdict};
 use itoa::Buffer;
 use std::alloc::{AllocError, Global};
 
-/// What a verdict says, with the moves that it names.
+/// Makes the row of a verdict, with the moves that it names.
 pub(crate) fn verdict_row<B: Board>(
     alloc: Global,
     language: Language,
@@ -41,7 +41,7 @@ pub(crate) fn verdict_row<B: Board>(
     }
 }
 
-/// That there is no win.
+/// Makes the row of a verdict without a win.
 fn no_win_row(alloc: Global, language: Language, moves: u8) -> Result<String, AllocError>
     ensures { IfOk result (λ row. string_bytes row
         ≡ words.phrase language Phrase.NoWin ++ (decimal moves ++ words.moves language moves)) }
@@ -55,7 +55,7 @@ fn no_win_row(alloc: Global, language: Language, moves: u8) -> Result<String, Al
     .concat(alloc)
 }
 
-/// The only first move that wins.
+/// Makes the row of the only first move that wins.
 fn sound_row(alloc: Global, language: Language, keys: &str) -> Result<String, AllocError>
     ensures { IfOk result (λ row. string_bytes row
         ≡ words.phrase language Phrase.Sound ++ (codes ": " ++ keys.now)) }
@@ -66,7 +66,7 @@ fn sound_row(alloc: Global, language: Language, keys: &str) -> Result<String, Al
     Ok(row)
 }
 
-/// The first moves that win, and in how many moves there is a win already.
+/// Makes the row of the first moves that win, and of the number of moves in which there is a win already.
 fn cooked_row(
     alloc: Global,
     language: Language,
@@ -84,7 +84,7 @@ fn cooked_row(
     Ok(row)
 }
 
-/// That there is a win in fewer moves already, if so.
+/// Makes the text that there is a win in fewer moves already, if so.
 fn shorter(alloc: Global, language: Language, moves: u8, shortest: u8) -> Result<String, AllocError>
     ensures { IfOk result (λ text. string_bytes text ≡ of.shorter language moves shortest) }
 {
@@ -102,7 +102,7 @@ fn shorter(alloc: Global, language: Language, moves: u8, shortest: u8) -> Result
     .concat(alloc)
 }
 
-/// The line up to a choice, and the choices.
+/// Makes the row of the line up to a choice, and of the choices.
 fn dual_row<B: Board>(
     alloc: Global,
     language: Language,
@@ -131,7 +131,7 @@ fn dual_row<B: Board>(
     Ok(row)
 }
 
-/// The rows of the tries that are to be shown: all, or none.
+/// Makes the rows of the tries that are shown: all, or none.
 pub(crate) fn tries_shown<B: Board>(
     alloc: Global,
     which: PageTries,
@@ -148,7 +148,7 @@ pub(crate) fn tries_shown<B: Board>(
     }
 }
 
-/// The tries, each with the reply that refutes it.
+/// Makes the rows of the tries, each with the reply that refutes it.
 fn tries_row<B: Board>(
     alloc: Global,
     position: &Position<B>,
@@ -162,7 +162,7 @@ fn tries_row<B: Board>(
     rows_of(alloc, texts.as_slice())
 }
 
-/// The rows of tries with these texts.
+/// Makes the rows of tries with these texts.
 fn rows_of(alloc: Global, texts: &[(String, String)]) -> Result<Vec<String>, AllocError>
     ensures { IfOk result (λ rows. map string_bytes rows.items
         ≡ map try_row (map (λ t. (string_bytes t.0, string_bytes t.1)) texts.now)) }

@@ -22,7 +22,7 @@ ghost use Rattle.dw_study.specs.Telling.{told_by};
 use crate::chosen::Chosen;
 use crate::desk::{Counts, Desk, DeskFault};
 use crate::page_rows::{tries_shown, verdict_row};
-use crate::solving::movetext_of;
+use crate::solving::solved_within;
 use crate::watcher::DeskWatcher;
 use dw_arguments::{PageArgs, PageLanguage, Placing};
 use dw_board::{Board, Position};
@@ -91,8 +91,8 @@ fn empty_page<B: Board, K: Sink>(
     Ok(Counts::default())
 }
 
-/// Writes the head of a page, and returns what is to stand at its end: so far the heading of the solutions, if they
-/// stand there.
+/// Writes the head of a page, and returns the text for its end: so far the heading of the solutions, if they stand
+/// there.
 fn begin_page<B: Board, K: Sink>(
     alloc: Global,
     asked: &PageArgs<'_>,
@@ -112,7 +112,7 @@ fn begin_page<B: Board, K: Sink>(
     Ok(heading_of(alloc, asked)?)
 }
 
-/// The heading of the solutions, if they stand at the end.
+/// Makes the heading of the solutions, if they stand at the end.
 fn heading_of(alloc: Global, asked: &PageArgs<'_>) -> Result<Vec<u8>, AllocError>
     ensures { IfOk result (λ text. text.items ≡ of.heading_of asked.now.solutions (language_for asked.now.language)) }
 {
@@ -124,7 +124,7 @@ fn heading_of(alloc: Global, asked: &PageArgs<'_>) -> Result<Vec<u8>, AllocError
     Ok(text)
 }
 
-/// Writes what stands at the end of a page, and its end.
+/// Writes the text for the end of a page, and its end.
 fn end_page<K: Sink>(alloc: Global, later: &mut Vec<u8>, sink: &mut K) -> Result<(), DeskFault>
     requires { K.is_failed sink.old ≡ false }
     ensures text { OnOk result (Appends (K.taken sink.old) (K.taken sink.new) (later.old.items ++ end)) }
@@ -135,7 +135,7 @@ fn end_page<K: Sink>(alloc: Global, later: &mut Vec<u8>, sink: &mut K) -> Result
     Ok(())
 }
 
-/// Writes the part of the page that a problem has, and answers whether the problem is refused.
+/// Writes the part of a problem, and returns whether the problem is refused.
 fn write_part<B: Board, W: DeskWatcher, K: Sink>(
     desk: &mut Desk<B>,
     slices: &mut Slices<W>,
@@ -168,7 +168,7 @@ fn write_part<B: Board, W: DeskWatcher, K: Sink>(
     }
 }
 
-/// The part of a problem that is refused.
+/// Makes the part of a problem that is refused.
 fn refused_part(
     alloc: Global,
     asked: &PageArgs<'_>,
@@ -184,7 +184,7 @@ fn refused_part(
     Ok(part)
 }
 
-/// The part of a problem that has a position.
+/// Makes the part of a problem that has a position.
 fn known_part<B: Board, W: DeskWatcher>(
     desk: &mut Desk<B>,
     slices: &mut Slices<W>,
@@ -222,7 +222,7 @@ fn known_part<B: Board, W: DeskWatcher>(
     }
 }
 
-/// The least number of moves with a win, and the verdict.
+/// Finds the least number of moves with a win, and the verdict.
 fn found<B: Board, W: DeskWatcher>(
     desk: &mut Desk<B>,
     slices: &mut Slices<W>,
@@ -244,7 +244,7 @@ fn found<B: Board, W: DeskWatcher>(
     finding
 }
 
-/// The verdict within the number of moves that is asked for.
+/// Finds the verdict within the requested number of moves.
 fn judged_within<B: Board, W: DeskWatcher>(
     desk: &mut Desk<B>,
     slices: &mut Slices<W>,
@@ -263,7 +263,7 @@ fn judged_within<B: Board, W: DeskWatcher>(
     judged
 }
 
-/// The part of a problem that is judged, with its solution where that is to stand.
+/// Makes the part of a judged problem, with its solution if that belongs there.
 fn judged_part<B: Board>(
     desk: &mut Desk<B>,
     asked: &PageArgs<'_>,
@@ -289,7 +289,7 @@ fn judged_part<B: Board>(
     Ok(part)
 }
 
-/// The solution of a problem where it is to stand: behind its problem, or later.
+/// Appends the solution of a problem where it is to stand: after its problem, or later.
 fn push_placed<B: Board>(
     desk: &mut Desk<B>,
     asked: &PageArgs<'_>,
@@ -322,7 +322,7 @@ fn push_placed<B: Board>(
     }
 }
 
-/// A problem up to what is asked, under the tags of its section.
+/// Appends a problem up to its task, with the tags of its section.
 fn push_tagged<B: Board>(
     desk: &Desk<B>,
     asked: &PageArgs<'_>,
@@ -347,7 +347,7 @@ fn push_tagged<B: Board>(
     Ok(())
 }
 
-/// The heading of a problem whose tags have these values.
+/// Makes the heading of a problem whose tags have these values.
 fn heading_under<'v>(
     author: Option<&'v [u8]>,
     event: Option<&'v [u8]>,
@@ -362,7 +362,7 @@ fn heading_under<'v>(
     Heading { author, source }
 }
 
-/// The solution of a problem, apart from it or not.
+/// Appends the solution of a problem, apart from it or not.
 fn push_solved<B: Board>(
     desk: &mut Desk<B>,
     asked: &PageArgs<'_>,
@@ -381,7 +381,7 @@ fn push_solved<B: Board>(
     ensures stop { IsErrOf result Limit → desk.new.solver.expanded ≡ u64.MAX }
 {
     let position = task.position;
-    let movetext = movetext_of(desk, position, task.moves, asked.lines, &judged.verdict)?;
+    let solved = solved_within(desk, position, task.moves, asked.lines, &judged.verdict)?;
     let verdict = verdict_row(
         desk.alloc,
         language_of(asked.language),
@@ -393,13 +393,13 @@ fn push_solved<B: Board>(
     let solution = Solution {
         verdict: verdict.as_str(),
         tries: tries.as_slice(),
-        movetext: movetext.as_slice(),
+        movetext: solved.movetext.text.as_slice(),
     };
     push_solution(desk.alloc, page, &look_of(asked), task, &solution, is_apart)?;
     Ok(())
 }
 
-/// How the page is written that is asked for.
+/// Returns the look of the requested page.
 fn look_of<'a>(asked: &PageArgs<'a>) -> Look<'a>
     ensures { result ≡ record {
       title = asked.now.title;
@@ -414,7 +414,7 @@ fn look_of<'a>(asked: &PageArgs<'a>) -> Look<'a>
     }
 }
 
-/// The language of the page that is asked for.
+/// Returns the language of the requested page.
 fn language_of(language: PageLanguage) -> Language
     ensures { result ≡ language_for language }
 {

@@ -1,4 +1,4 @@
-//! What a command writes of games: of each that is chosen, or of the first alone.
+//! Reports on games: on each that is chosen, or on the first alone.
 ghost use Rattle.std.specs.Prelude.{◌≡◌, ◌-◌, ℕ, Bool, List, Option, false, IfOk};
 ghost use Rattle.std.specs.Io.KnownBytes.{Appends};
 ghost use Rattle.dw_commands.specs.declared.ending.Ending.{Ending};
@@ -20,7 +20,7 @@ use dw_study::Slices;
 
 /// A command that reports each of the chosen games.
 pub(crate) trait ReportEach<B: Board> {
-    /// It is what is written of a game, and whether the game counts as refused.
+    /// The report on a game, and whether the game counts as refused.
     ghost says: { Self → NumberedGame → Bool → List ℕ → Type 0 };
 
     /// Reports one game, and returns whether it counts as refused.
@@ -64,10 +64,10 @@ pub(crate) fn report_all<B: Board, W: DeskWatcher, S: Source, K: Sink, R: Report
 
 /// A command that reports the first of the chosen games alone. `E` is the type of the texts that its ending names.
 pub(crate) trait ReportOne<B: Board, E> {
-    /// What it asks for.
+    /// The condition on the command.
     ghost asks: { Self → Type 0 } = { λ command. Unit {0} };
 
-    /// It is what is done with a game, after so many expansions: how the program ends, and what is written.
+    /// The report on a game after `expanded` positions: the text, and how the program ends.
     ghost says: { Self → ℕ → NumberedGame → Ending E → List ℕ → Type 0 };
 
     /// Reports a game, and returns how that ended.
@@ -87,7 +87,7 @@ pub(crate) trait ReportOne<B: Board, E> {
         ensures fails { ReportFails (K.is_failed sink.new) desk.new.solver.expanded result };
 }
 
-/// Reports the first of the chosen games, and returns how that ended; or that it is not there.
+/// Reports the first of the chosen games, and returns how that ended, or that it is not there.
 pub(crate) fn report_first<E, B: Board, W: DeskWatcher, S: Source, K: Sink, R: ReportOne<B, E>>(
     command: &R,
     desk: &mut Desk<B>,

@@ -1,37 +1,39 @@
-//! The command `solution`: each problem as a game of a PDN file, with its solution.
+//! The command `solution`: each problem with its solution, as a game of a PDN file or as a row of JSON.
 ghost use Rattle.std.specs.Prelude.{◌≡◌, ◌≤◌, ℕ, List, false, map, IfOk, OnOk, IsErrOf};
 ghost use Rattle.std.specs.Io.KnownBytes.{Appends};
 ghost use Rattle.std.specs.List.{flat_map};
 ghost use Rattle.std.specs.String.{string_bytes};
-ghost use Rattle.dw_desk_commands.specs.Solving.{AreWrittenTags, IsGameOf, IsSolution, new_lines, own_line};
-ghost use Rattle.dw_desk_commands.specs.Solving.{IsNumberOf};
+ghost use Rattle.dw_desk_commands.specs.Solving.{AreWrittenTags, IsGameFor, IsMovetextOf, IsSolutionLine};
+ghost use Rattle.dw_desk_commands.specs.Solving.{IsNumberOf, IsSolutionOf, new_lines, own_line};
 ghost use Rattle.dw_study.specs.Finding.{IsJudgedAt};
 ghost use Rattle.dw_desk_commands.specs.Solving as of;
-ghost use Rattle.dw_desk_commands.specs.inner.Faults.{SinkFails};
+ghost use Rattle.dw_desk_commands.specs.inner.Faults.{ReportFails, SinkFails};
 ghost use Rattle.dw_games.specs.TagRows.{tag_text};
 ghost use Rattle.dw_solve.specs.declared.stop.Stop.TheVariants.{Limit};
 ghost use Rattle.dw_verdict.specs.Judging.{said_by};
 ghost use Rattle.dw_verdict.specs.Verdict.{IsVerdict};
 
 use crate::desk::{Desk, DeskFault};
+use crate::json_rows::refused_line;
 use crate::reporting::ReportEach;
 use crate::watcher::DeskWatcher;
 use dw_arguments::SolutionArgs;
 use dw_board::{Board, Position, fen_text};
 use dw_games::{Game, Tag, read_tags};
-use dw_notation::{ProblemFault, Sink, write_all};
+use dw_notation::{Problem, ProblemFault, Sink, write_all};
 use dw_report::{Stop, refusal_text};
+use dw_rows::solution_row;
 use dw_solution::movetext::movetext;
-use dw_solution::{Heading, VerdictKind, first_lines};
+use dw_solution::{FirstLines, Heading, SolutionText, VerdictKind, first_lines};
 use dw_study::{Slices, verdict_in_slices, wins_resuming};
 use dw_verdict::Verdict;
 use itoa::Buffer;
 use std::alloc::{AllocError, Global};
 
 impl<B: Board> ReportEach<B> for SolutionArgs {
-    ghost says = { λ asked. IsGameOf B.geometry asked };
+    ghost says = { λ asked. IsSolutionOf B.geometry asked };
 
-    /// Writes a problem as a game, with the tags that its section has, and returns whether it is refused.
+    /// Writes a problem as a game, or as a row, and returns whether it is refused.
     fn report<W: DeskWatcher, K: Sink>(
         &self,
         desk: &mut Desk<B>,
@@ -39,25 +41,90 @@ impl<B: Board> ReportEach<B> for SolutionArgs {
         game: &Game<B>,
         sink: &mut K,
     ) -> Result<bool, DeskFault> {
-        let number = game.problem.number;
-        match &game.problem.found {
-            Ok(position) => {
-                let text = searched(desk, slices, self, number, position)?;
-                write_tags(desk, position, game.tags.as_slice(), sink)?;
-                write_all(sink, text.as_slice())?;
-                write_all(sink, b"\n\n")?;
-                Ok(false)
-            }
-            Err(fault) => {
-                let text = refused_game(desk.alloc, number, *fault)?;
-                write_all(sink, text.as_str().as_bytes())?;
-                Ok(true)
-            }
+        if self.json {
+            write_row(desk, slices, self, &game.problem, sink)
+        } else {
+            write_game(desk, slices, self, game, sink)
         }
     }
 }
 
-/// A refused problem as a game, whose event tells why.
+/// Writes a problem as a game, with the tags of its section, and returns whether it is refused.
+fn write_game<B: Board, W: DeskWatcher, K: Sink>(
+    desk: &mut Desk<B>,
+    slices: &mut Slices<W>,
+    asked: &SolutionArgs,
+    game: &Game<B>,
+    sink: &mut K,
+) -> Result<bool, DeskFault>
+    requires { K.is_failed sink.old ≡ false }
+    ensures text { IfOk result (λ refused. (text : List ℕ)
+        × IsGameFor B.geometry asked.now game.now.problem.number game.now.problem.found game.now.tags.items refused text
+        × Appends (K.taken sink.old) (K.taken sink.new) text) }
+    ensures works { IfOk result (λ _. K.is_failed sink.new ≡ false) }
+    ensures fails { ReportFails (K.is_failed sink.new) desk.new.solver.expanded result }
+{
+    let number = game.problem.number;
+    match &game.problem.found {
+        Ok(position) => {
+            let solved = searched(desk, slices, asked, number, position)?;
+            write_tags(desk, position, game.tags.as_slice(), sink)?;
+            write_all(sink, solved.movetext.text.as_slice())?;
+            write_all(sink, b"\n\n")?;
+            Ok(false)
+        }
+        Err(fault) => {
+            let text = refused_game(desk.alloc, number, *fault)?;
+            write_all(sink, text.as_str().as_bytes())?;
+            Ok(true)
+        }
+    }
+}
+
+/// Writes a problem as a row, and returns whether it is refused.
+fn write_row<B: Board, W: DeskWatcher, K: Sink>(
+    desk: &mut Desk<B>,
+    slices: &mut Slices<W>,
+    asked: &SolutionArgs,
+    problem: &Problem<B>,
+    sink: &mut K,
+) -> Result<bool, DeskFault>
+    requires { K.is_failed sink.old ≡ false }
+    ensures text { IfOk result (λ refused. (text : List ℕ)
+        × IsSolutionLine B.geometry asked.now problem.now.number problem.now.found refused text
+        × Appends (K.taken sink.old) (K.taken sink.new) text) }
+    ensures works { IfOk result (λ _. K.is_failed sink.new ≡ false) }
+    ensures fails { ReportFails (K.is_failed sink.new) desk.new.solver.expanded result }
+{
+    let (line, is_refused) = row_of(desk, slices, asked, problem)?;
+    write_all(sink, line.as_str().as_bytes())?;
+    Ok(is_refused)
+}
+
+/// Makes the row of a problem, and says whether the problem is refused.
+fn row_of<B: Board, W: DeskWatcher>(
+    desk: &mut Desk<B>,
+    slices: &mut Slices<W>,
+    asked: &SolutionArgs,
+    problem: &Problem<B>,
+) -> Result<(String, bool), Stop>
+    ensures row { IfOk result (λ told. IsSolutionLine B.geometry asked.now problem.now.number problem.now.found told.1
+        (string_bytes told.0)) }
+    ensures stop { IsErrOf result Limit → desk.new.solver.expanded ≡ u64.MAX }
+{
+    let number = problem.number;
+    match &problem.found {
+        Ok(position) => {
+            let solved = searched(desk, slices, asked, number, position)?;
+            let lines = solved.movetext.lines;
+            let line = solution_row(desk.alloc, number, solved.heading, &solved.first, lines)?;
+            Ok((line, false))
+        }
+        Err(fault) => Ok((refused_line(desk.alloc, number, *fault)?, true)),
+    }
+}
+
+/// Makes the game of a refused problem, whose event says why.
 fn refused_game(alloc: Global, number: u32, fault: ProblemFault) -> Result<String, AllocError>
     ensures { IfOk result (λ text. string_bytes text ≡ of.refused_game number fault) }
 {
@@ -80,34 +147,36 @@ fn searched<B: Board, W: DeskWatcher>(
     asked: &SolutionArgs,
     number: u32,
     position: &Position<B>,
-) -> Result<Vec<u8>, Stop>
-    ensures text { IfOk result (λ text. (n : ℕ) × IsNumberOf B.geometry asked.now position.now n
-        × IsSolution B.geometry position.now n asked.now.lines text.items) }
+) -> Result<Solved<B>, Stop>
+    ensures solved { IfOk result (λ s. (n : ℕ) × IsNumberOf B.geometry asked.now position.now n
+        × IsMovetextOf B.geometry position.now n asked.now.lines s.heading s.first s.movetext.lines
+        s.movetext.text.items) }
     ensures stop { IsErrOf result Limit → desk.new.solver.expanded ≡ u64.MAX }
 {
     desk.begin(slices, number);
-    let text = solution_of(desk, slices, asked, position);
+    let solved = solution_of(desk, slices, asked, position);
     slices.watcher.end();
-    text
+    solved
 }
 
-/// The movetext of the first lines of a position, with its verdict.
+/// Finds the solution of a position.
 fn solution_of<B: Board, W: DeskWatcher>(
     desk: &mut Desk<B>,
     slices: &mut Slices<W>,
     asked: &SolutionArgs,
     position: &Position<B>,
-) -> Result<Vec<u8>, Stop>
-    ensures text { IfOk result (λ text. (n : ℕ) × IsNumberOf B.geometry asked.now position.now n
-        × IsSolution B.geometry position.now n asked.now.lines text.items) }
+) -> Result<Solved<B>, Stop>
+    ensures solved { IfOk result (λ s. (n : ℕ) × IsNumberOf B.geometry asked.now position.now n
+        × IsMovetextOf B.geometry position.now n asked.now.lines s.heading s.first s.movetext.lines
+        s.movetext.text.items) }
     ensures stop { IsErrOf result Limit → desk.new.solver.expanded ≡ u64.MAX }
 {
     let moves = number_for(desk, slices, asked, position)?;
     let verdict = verdict_in_slices(desk.alloc, &mut desk.solver, position, moves, slices)?;
-    movetext_of(desk, position, moves, asked.lines, &verdict)
+    solved_within(desk, position, moves, asked.lines, &verdict)
 }
 
-/// The number of moves that is asked for.
+/// Finds the requested number of moves.
 fn number_for<B: Board, W: DeskWatcher>(
     desk: &mut Desk<B>,
     slices: &mut Slices<W>,
@@ -126,7 +195,7 @@ fn number_for<B: Board, W: DeskWatcher>(
     }
 }
 
-/// The least number of moves within which there is a win, or the most, if there is none within fewer.
+/// Finds the least number of moves within which there is a win; or the most, if there is none within fewer.
 fn least_number<B: Board, W: DeskWatcher>(
     desk: &mut Desk<B>,
     slices: &mut Slices<W>,
@@ -150,18 +219,27 @@ fn least_number<B: Board, W: DeskWatcher>(
     Ok(most)
 }
 
-/// The movetext of the first lines of a position within so many moves, with this verdict.
-pub(crate) fn movetext_of<B: Board>(
+/// The solution of a position: its verdict, its first lines, and their movetext.
+#[derive(Drop)]
+pub(crate) struct Solved<B: Board> {
+    pub(crate) heading: Heading,
+    pub(crate) first: FirstLines<B>,
+    pub(crate) movetext: SolutionText,
+}
+
+/// Writes the movetext of the first lines of a position within `moves` moves, with this verdict.
+pub(crate) fn solved_within<B: Board>(
     desk: &mut Desk<B>,
     position: &Position<B>,
     moves: u8,
     lines: usize,
     verdict: &Verdict<B>,
-) -> Result<Vec<u8>, Stop>
+) -> Result<Solved<B>, Stop>
     requires some { 1 ≤ moves }
     requires few { moves ≤ 20 }
     requires verdict { IsVerdict B.geometry position.now moves (said_by verdict.now) }
-    ensures text { IfOk result (λ text. IsSolution B.geometry position.now moves lines text.items) }
+    ensures solved { IfOk result (λ s. IsMovetextOf B.geometry position.now moves lines s.heading s.first
+        s.movetext.lines s.movetext.text.items) }
     ensures stop { IsErrOf result Limit → desk.new.solver.expanded ≡ u64.MAX }
 {
     dw_list::laws::lines_exist();
@@ -170,10 +248,15 @@ pub(crate) fn movetext_of<B: Board>(
         kind: kind_of(verdict),
         moves,
     };
-    Ok(movetext(desk.alloc, position, &first, heading)?)
+    let movetext = movetext(desk.alloc, &first, heading)?;
+    Ok(Solved {
+        heading,
+        first,
+        movetext,
+    })
 }
 
-/// What a verdict says, without its moves.
+/// Returns the kind of a verdict.
 fn kind_of<B: Board>(verdict: &Verdict<B>) -> VerdictKind
     ensures { result ≡ of.kind_of (said_by verdict.now) }
 {
@@ -185,8 +268,8 @@ fn kind_of<B: Board>(verdict: &Verdict<B>) -> VerdictKind
     }
 }
 
-/// Writes the tags of a game, and the empty line behind them: those of its section but for `GameType` and `FEN`, as
-/// they stood, and then these two.
+/// Writes the tags of a game, and the empty line after them: those of its section but for `GameType` and `FEN`, as they
+/// stood, and then these two.
 fn write_tags<B: Board, K: Sink>(
     desk: &Desk<B>,
     position: &Position<B>,
@@ -220,7 +303,7 @@ fn write_own_tags<K: Sink>(tags: &[Tag<'_>], sink: &mut K) -> Result<(), DeskFau
     Ok(())
 }
 
-/// The tags that are written anew, and the empty line behind them.
+/// Makes the tags that are written anew, and the empty line after them.
 fn new_tags<B: Board>(alloc: Global, position: &Position<B>) -> Result<String, AllocError>
     ensures { IfOk result (λ text. string_bytes text ≡ new_lines B.geometry position.now) }
 {
@@ -228,7 +311,7 @@ fn new_tags<B: Board>(alloc: Global, position: &Position<B>) -> Result<String, A
     [type_line::<B>(), "[FEN \"", fen.as_str(), "\"]\n\n"].concat(alloc)
 }
 
-/// The line that names the game on the board of ten rows.
+/// Returns the line that names the game on the board of ten rows.
 fn type_line<B: Board>() -> &'static str
     ensures { result.now ≡ of.type_line B.geometry }
 {

@@ -16,7 +16,7 @@ use dw_report::Stop;
 use dw_study::Slices;
 use std::alloc::Global;
 
-/// The line whose token is asked for.
+/// The line whose token is requested.
 #[derive(Clone, Copy)]
 pub(crate) struct Line<'a> {
     pub(crate) text: &'a str,

@@ -28,13 +28,13 @@ abbrev pub HasEffect : Geometry → Placement → ℕ → Move → Effect → Ty
 HasEffect g p n m (wins_in k) = WinsFirstIn g p n m k
 HasEffect g p n m (refuted_by replies) = Legal g p m × (IsWinning g p n m → ⊥) × Refutations g p n m replies
 
--- what each of these moves does, in their order
+-- the effects of these moves, in their order
 abbrev pub AreEffects : Geometry → Placement → ℕ → List Move → List (Move × Effect) → Type 0
 AreEffects g p n [] done = done ≡ []
 AreEffects g p n (m ∷ moves) done = (effect : Effect) × (rest : List (Move × Effect)) × HasEffect g p n m effect
     × AreEffects g p n moves rest × (done ≡ (m, effect) ∷ rest)
 
--- what the first moves of a part do: of all legal moves, in order, the part i of m
+-- the effects of the first moves of a part: of all legal moves, in order, the part i of m
 abbrev pub AreFirstMoves : Geometry → Placement → (n i m : ℕ) → List (Move × Effect) → Type 0
 AreFirstMoves g p n i m done =
     (moves : List Move) × IsListOf (Precedes g p) (Legal g p) moves × AreEffects g p n (part_of i m moves) done

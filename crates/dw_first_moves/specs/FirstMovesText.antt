@@ -7,13 +7,13 @@ use Rattle.dw_moves.specs.Moves.{Move, play}
 use Rattle.dw_notation.specs.Text.{IsMoveText, AreJoined}
 use Rattle.dw_first_moves.specs.FirstMoves.{Effect, wins_in, refuted_by}
 
--- what a first move does, in words
+-- the effect of a first move, in words
 abbrev pub IsEffectText : Geometry → Placement → Move → Effect → List ℕ → Type 0
 IsEffectText g p m (wins_in k) text = text ≡ codes " wins in " ++ decimal k
 IsEffectText g p m (refuted_by replies) text = (joined : List ℕ) × AreJoined g (play g p m) (codes ", ") replies joined
     × (text ≡ codes " refuted by " ++ joined)
 
--- the line of a first move: its text, and what it does
+-- the line of a first move: its text, and its effect
 abbrev pub IsEffectLine : Geometry → Placement → Move × Effect → List ℕ → Type 0
 IsEffectLine g p one line = (move : List ℕ) × (text : List ℕ) × IsMoveText g p one.0 move
     × IsEffectText g p one.0 one.1 text × (line ≡ move ++ text ++ codes "\n")
@@ -37,7 +37,7 @@ wins_among done = count_by is_win done
 abbrev pub count_line : List (Move × Effect) → List ℕ
 count_line done = decimal (wins_among done) ++ codes " of " ++ decimal (length done) ++ codes " win\n"
 
--- what is written of first moves: their lines, and the last one
+-- the text of first moves: their lines, and the last one
 abbrev pub IsFirstMovesText : Geometry → Placement → List (Move × Effect) → List ℕ → Type 0
 IsFirstMovesText g p done text =
     (lines : List ℕ) × AreEffectLines g p done lines × (text ≡ lines ++ count_line done)

@@ -1,4 +1,4 @@
-//! What one first move does.
+//! The effect of one first move.
 ghost use Rattle.std.specs.Prelude.{◌≡◌, ◌≤◌, ◌↔◌, ◌++◌, ◌∷◌, [], IfOk, OnOk, IsErrOf, IsTrue};
 ghost use Rattle.dw_memo.specs.Content.{IsMap};
 ghost use Rattle.dw_moves.specs.Moves.{Legal};
@@ -21,8 +21,8 @@ use dw_solve::{Guide, Solver, Stop};
 use dw_study::{Slices, Watcher, wins_resuming};
 use std::alloc::{AllocError, Global};
 
-/// What a legal move does within so many moves. A win is looked for within 1 move, then within 2 and so on; if there is
-/// none, each reply is looked at within the moves left after the first.
+/// Finds the effect of a legal move within `moves` moves. It looks for a win within 1 move, then within 2 and so on. If
+/// there is none, it looks at each reply within the moves left after the first.
 pub(crate) fn effect_of<B: Board, M: Memo<B>, G: Guide<B>, W: Watcher>(
     alloc: Global,
     solver: &mut Solver<B, M, G>,
@@ -57,7 +57,7 @@ pub(crate) fn effect_of<B: Board, M: Memo<B>, G: Guide<B>, W: Watcher>(
     }
 }
 
-/// Whether there is a win within so many moves after each reply.
+/// Returns whether there is a win within `left` moves after each reply.
 fn is_lost<B: Board, M: Memo<B>, G: Guide<B>, W: Watcher>(
     alloc: Global,
     solver: &mut Solver<B, M, G>,
@@ -83,7 +83,7 @@ fn is_lost<B: Board, M: Memo<B>, G: Guide<B>, W: Watcher>(
     Ok(true)
 }
 
-/// The replies after which there is no win within so many moves, in order.
+/// Lists the replies after which there is no win within `left` moves, in order.
 fn refutations<B: Board, M: Memo<B>, G: Guide<B>, W: Watcher>(
     alloc: Global,
     solver: &mut Solver<B, M, G>,
@@ -111,7 +111,7 @@ fn refutations<B: Board, M: Memo<B>, G: Guide<B>, W: Watcher>(
     Ok(replies)
 }
 
-/// Adds an item to a list.
+/// Appends an item to a list.
 pub(crate) fn push<T: Drop>(list: &mut Vec<T>, item: T) -> Result<(), AllocError>
     ensures { OnOk result (list.new.items ≡ list.old.items ++ item ∷ []) }
 {

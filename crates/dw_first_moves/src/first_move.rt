@@ -1,9 +1,8 @@
-//! What a first move does.
+//! The effect of a first move.
 use dw_board::Board;
 use dw_moves::Move;
 
-/// What a first move does within so many moves.
-/// Example: at `W:W27,32:B18`, within 2 moves, `32-28` wins in 2, and `27-22` is refuted by `18x38`.
+/// The effect of a first move within some number of moves.
 #[derive(Drop)]
 pub enum Effect<B: Board> {
     /// It wins, within this number of moves and not within fewer.
@@ -12,8 +11,7 @@ pub enum Effect<B: Board> {
     RefutedBy(Vec<Move<B>>),
 }
 
-/// A first move, and what it does.
-/// See [`Effect`] for an example.
+/// A first move and its effect.
 #[derive(Drop)]
 pub struct FirstMove<B: Board> {
     pub mv: Move<B>,

@@ -1,4 +1,4 @@
-//! What each first move does, searched for in slices.
+//! The effects of the first moves, searched for in slices.
 ghost use Rattle.std.specs.Prelude.{◌≡◌, ◌≤◌, IfOk, IsErrOf, map};
 ghost use Rattle.dw_board.specs.Lists.{Member};
 ghost use Rattle.dw_memo.specs.Content.{IsMap};
@@ -22,12 +22,10 @@ use dw_solve::{Guide, Solver, Stop};
 use dw_study::{Slices, Watcher};
 use std::alloc::{AllocError, Global};
 
-/// What each legal move of a part of them does within so many moves of the side to move, 1 to 20, in the order of
-/// moves: the least number of moves within which it wins, or all replies after which there is no win within the moves
-/// then left. The slices begin anew; no answer depends on them. After a stop all bounds in the memo are right, and the
-/// call can be made again.
-/// Example: at `W:W27,32:B18`, within 2 moves, `27-21` is refuted by `18-22` and `18-23`, `27-22` by `18x38`, and
-/// `32-28` wins in 2. The part 2 of 2 has `27-22` alone.
+/// Finds the effects of the legal moves of a part, within `moves` moves of the side to move, 1 to 20, in the order of
+/// moves. An effect is the least number of moves within which the move wins; or it is the list of all replies after
+/// which there is no win within the moves then left. The slices begin anew, and no answer depends on them. After a stop
+/// all bounds in the memo are right, and the call can be made again.
 pub fn first_moves<B: Board, M: Memo<B>, G: Guide<B>, W: Watcher>(
     alloc: Global,
     solver: &mut Solver<B, M, G>,
@@ -53,7 +51,7 @@ pub fn first_moves<B: Board, M: Memo<B>, G: Guide<B>, W: Watcher>(
     effects_of(alloc, solver, position, some.as_slice(), moves, slices)
 }
 
-/// All legal moves, in order.
+/// Lists all legal moves, in order.
 fn all_moves<B: Board>(alloc: Global, position: &Position<B>) -> Result<Vec<Move<B>>, AllocError>
     ensures { IfOk result (λ moves. IsListOf (Precedes B.geometry position.now) (Legal B.geometry position.now)
         moves.items) }
@@ -66,7 +64,7 @@ fn all_moves<B: Board>(alloc: Global, position: &Position<B>) -> Result<Vec<Move
     Ok(moves)
 }
 
-/// What each of some legal moves does, in their order.
+/// Finds the effects of some legal moves, in their order.
 fn effects_of<B: Board, M: Memo<B>, G: Guide<B>, W: Watcher>(
     alloc: Global,
     solver: &mut Solver<B, M, G>,

@@ -1,8 +1,7 @@
 //! A law of the definitions, the contract of a function that does nothing.
 ghost use Rattle.dw_first_moves.specs.Laws.{OneEffect};
 
-/// Each legal move does something, and only one thing.
-/// Example: at `W:W27,32:B18`, within 2 moves, `32-28` wins in 2 and not in 1, and no reply refutes it.
+/// Each legal move has one effect.
 pub fn one_effect()
     ensures { OneEffect }
 {

@@ -1,10 +1,8 @@
-//! What each first move of a position does: the least number of moves within which it wins, or the replies that refute
-//! it.
+//! The effects of the first moves of a position: the least number of moves within which each wins, or the replies that
+//! refute it.
 //!
-//! Begin with `first_moves`, which answers a `FirstMove` for each legal move, or for those of a part of them; its text
-//! is that of `first_moves_text`.
-//!
-//! An example tells a position by its FEN text, on the board of ten rows if it names no other.
+//! Begin with `first_moves`, which returns a `FirstMove` for each legal move of a part. Its text is that of
+//! `first_moves_text`.
 #![tactic(auto)]
 
 mod effects;

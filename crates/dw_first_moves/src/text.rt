@@ -18,9 +18,8 @@ use dw_report::joined_text;
 use itoa::Buffer;
 use std::alloc::{AllocError, Global};
 
-/// The text of what `first_moves` answered of a position: a line for each move, and how many win, of how many.
-/// Example: at `W:W27,32:B18`, within 2 moves, it has the lines `27-21 refuted by 18-22, 18-23`,
-/// `27-22 refuted by 18x38`, `32-28 wins in 2` and `1 of 3 win`.
+/// Writes the effects that `first_moves` found: a line for each move, and a last line with the number of those that
+/// win.
 pub fn first_moves_text<B: Board>(
     alloc: Global,
     position: &Position<B>,
@@ -40,7 +39,7 @@ pub fn first_moves_text<B: Board>(
     Ok(text)
 }
 
-/// The line of a first move.
+/// Writes the line of a first move.
 fn effect_line<B: Board>(
     alloc: Global,
     position: &Position<B>,
@@ -54,7 +53,7 @@ fn effect_line<B: Board>(
     [mv.as_str(), effect.as_str(), "\n"].concat(alloc)
 }
 
-/// What a first move does, in words, by the position after it.
+/// Writes the effect of a first move in words, by the position after the move.
 fn effect_text<B: Board>(
     alloc: Global,
     after: &Position<B>,
@@ -74,8 +73,7 @@ fn effect_text<B: Board>(
     }
 }
 
-/// How many of these first moves win.
-/// Example: at `W:W27,32:B18`, within 2 moves, it is 1 of all.
+/// Counts the first moves that win.
 pub fn wins_among<B: Board>(done: &[FirstMove<B>]) -> usize
     ensures { result ≡ wins_among (map told_by done.now) }
 {
@@ -88,7 +86,7 @@ pub fn wins_among<B: Board>(done: &[FirstMove<B>]) -> usize
     wins
 }
 
-/// The last line: how many first moves win, of how many.
+/// Writes the last line: how many first moves win, of how many.
 fn count_line(alloc: Global, wins: usize, all: usize) -> Result<String, AllocError>
     ensures { (done : _) → wins ≡ wins_among done → all ≡ length done
         → IfOk result (λ line. string_bytes line ≡ of_text.count_line done) }

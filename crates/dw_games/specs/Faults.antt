@@ -1,4 +1,4 @@
--- The first fault of a movetext, by the grammar: what may stand behind the tokens before it, and does not.
+-- The first fault of a movetext, by the grammar: a token that may not follow the tokens before.
 use Rattle.std.specs.Prelude.{◌≡◌, ◌≢◌, ◌⊎◌, ℕ, ◌+◌, ◌<◌, ◌≤◌, true, Result, Ok, Err, List, [], ◌∷◌, ◌++◌, codes}
 use Rattle.std.specs.Prelude.{length}
 use Rattle.std.proofs.Common.{zero, suc}
@@ -79,7 +79,7 @@ pub record IsNeither (g : Geometry) (t : Token) : Type 0 where
 abbrev pub IsUnreadable : Geometry → Token → Type 0
 IsUnreadable g t = (t.what ≡ Unknown) ⊎ ((t.what ≡ CutOff) ⊎ IsNeither g t)
 
--- behind the tokens before, this one is at fault
+-- after the tokens before, this one is at fault
 pub data FaultAt (g : Geometry) (p : Placement) : List Token → Token → MovetextFaultKind → Type 0 where
   unreadable : {room : ℕ} {ts : List Token} {before moves : List Move} {t : Token}
       → IsOpen g p room ts before moves → IsUnreadable g t → FaultAt g p ts t NoToken
@@ -105,13 +105,13 @@ pub data FaultAt (g : Geometry) (p : Placement) : List Token → Token → Movet
       → IsOpen g p room ts before moves → length (before ++ moves) ≡ MAX_PATH → HasForm g t
       → FaultAt g p ts t TooLong
 
--- behind all tokens something is missing: the end of a variation, or any move
+-- after all tokens something is missing: the end of a variation, or any move
 pub data FaultAtEnd (g : Geometry) (p : Placement) : List Token → MovetextFaultKind → Type 0 where
   unclosed : {room : ℕ} {ts : List Token} {before moves : List Move} → IsOpen g p room ts before moves
       → room < MAX_OPEN → FaultAtEnd g p ts Unclosed
   no_move : {ts : List Token} → IsPlay g p ts [] ⊎ IsOver g p ts [] → FaultAtEnd g p ts Empty
 
--- The first fault of a text, and its place: that of the token at fault, or the one behind the text. A text that is too
+-- The first fault of a text, and its place: that of the token at fault, or the end of the text. A text that is too
 -- large has no other.
 pub data IsFirstFault (g : Geometry) (p : Placement) : List ℕ → MovetextFaultKind → ℕ → Type 0 where
   too_large : {text : List ℕ} → MAX_MOVETEXT < length text → IsFirstFault g p text TooLarge (MAX_MOVETEXT + 1)

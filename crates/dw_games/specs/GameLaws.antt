@@ -11,7 +11,7 @@ use Rattle.dw_games.specs.Faults.{IsAnswer}
 use Rattle.dw_games.specs.Games.{NumberedGame, AreGames, problem_of, told}
 use Rattle.dw_games.specs.declared.fault.MovetextFault.{MovetextFault}
 
--- what the games of a text say are its problems, under the same numbers
+-- the games of a text have its problems, under the same numbers
 abbrev pub GamesSayProblems : Type 0
 GamesSayProblems = (g : Geometry) (bytes : List ℕ) (games : List NumberedGame) → AreGames g bytes games
     → AreProblems g Pdn true bytes (map problem_of games)
@@ -28,13 +28,13 @@ pub record SaysPosition (g : Geometry) (position : Placement) (text : List ℕ) 
   pub is : IsSection text tags false false
   pub says : SectionSays g (length text) false tags (Ok position)
 
--- of a game with a position the section is told that says it
+-- the tags of a game with a position are the section that has it
 abbrev pub GamesTellSections : Type 0
 GamesTellSections = (g : Geometry) (bytes : List ℕ) (games : List NumberedGame) (game : NumberedGame)
     (position : Placement) → AreGames g bytes games → Member game games → game.said.found ≡ Ok position
     → SaysPosition g position game.said.tags
 
--- what is told of a movetext has the answers of the whole
+-- the kept part of a movetext is read like the whole
 abbrev pub ToldIsEnough : Type 0
 ToldIsEnough = (g : Geometry) (p : Placement) (movetext : List ℕ) (answer : Result (List (List Move)) MovetextFault)
     → IsAnswer g p (told (Ok p) movetext) answer → IsAnswer g p movetext answer

@@ -1,4 +1,4 @@
--- What a reader of games shows its caller, and what a call for the next game does.
+-- The value of a reader of games, and the effect of a call for the next game.
 use Rattle.std.specs.Prelude.{◌≡◌, ◌⊎◌, ℕ, List, [], ◌∷◌, ◌++◌, Bool, true, false, Option, Some, None, Result, Ok, Err}
 use Rattle.std.specs.Borrow.{GName}
 use Rattle.std.specs.Io.KnownBytes.{Consumes, IsAtEnd}
@@ -9,7 +9,7 @@ use Rattle.dw_games.specs.declared.games.Games.{Games}
 use Rattle.dw_games.specs.declared.games.GameFault.{GameFault}
 use Rattle.dw_games.specs.declared.games.GameFault.TheVariants.{Failed, Memory}
 
--- what a game handed out says, whatever the type of its board
+-- a game that was returned, as a value, for any type of its board
 abbrev pub numbered_game : {B : Type 0} → Game B → NumberedGame
 numbered_game game = record {
   number = game.problem.number;
@@ -24,7 +24,7 @@ lender games = games.source.ghost_name
 abbrev pub source_of : {B S : Type 0} → Games B S → S
 source_of games = games.source.now
 
--- How far a reader has come. Callers know of it what the clauses say, and nothing else.
+-- The progress of a reader. Callers know of it only the clauses.
 pub record Reader : Type 1 where
   -- the games not yet handed out, if these bytes are still to be read and the text ends with them
   pub ahead : Geometry → List ℕ → List NumberedGame → Type 0
@@ -39,7 +39,7 @@ pub record Reader : Type 1 where
 abbrev pub MayCome : Reader → List ℕ → Type 0
 MayCome reader bytes = reader.met_end ≡ true → bytes ≡ []
 
--- what a call of `next` that read these bytes did
+-- the effect of a call of `next` that read these bytes
 abbrev pub Gives : {B : Type 0} → Geometry → Reader → Reader → List ℕ → Result (Option (Game B)) GameFault → Type 0
 Gives g old new read (Ok (Some game)) =
     ((bytes : List ℕ) (games : List NumberedGame) → new.ahead g bytes games
@@ -60,7 +60,7 @@ pub record GivesNext {B : Type 0} (g : Geometry) (coming left : Option (List ℕ
 abbrev pub EndIsTrue : Option (List ℕ) → Bool → Reader → Type 0
 EndIsTrue coming has_ended reader = reader.met_end ≡ true → IsAtEnd coming × (has_ended ≡ true)
 
--- what a reader answers that is over, or that a fault has stopped: the same each time
+-- the answer of a reader at its end, or after a fault: the same each time
 abbrev pub StandsStill : {B : Type 0} → Reader → Result (Option (Game B)) GameFault → Type 0
 StandsStill old result =
     (old.is_over ≡ true → result ≡ Ok None) × ((fault : GameFault) → old.fault ≡ Some fault → result ≡ Err fault)

@@ -1,4 +1,4 @@
--- The games of a text of tags: what each of its sections says, with the section's bytes and the movetext behind them.
+-- The games of a text of tags: the problem of each section, with the section's bytes and the movetext after them.
 use Rattle.std.specs.Prelude.{◌≡◌, ◌==◌, ◌+◌, ◌||◌, ◌⊎◌, if◌then◌else◌, ℕ, not, List, [], ◌∷◌, ◌++◌, length, take, Bool}
 use Rattle.std.specs.Prelude.{true, false, Ok, Err, nat_lt}
 use Rattle.dw_board.specs.Geometry.{Geometry}
@@ -10,18 +10,18 @@ use Rattle.dw_notation.specs.declared.problems.TheConstants.{MAX_PROBLEMS}
 use Rattle.dw_notation.specs.declared.problems.ProblemFault.TheVariants.{UnclosedComment, TooManyProblems}
 use Rattle.dw_games.specs.declared.movetext.TheConstants.{MAX_MOVETEXT}
 
--- what a section says, its bytes up to the end of its last tag, and its movetext
+-- the problem of a section, its bytes up to the end of its last tag, and its movetext
 pub record Said : Type 0 where
   pub found : Found
   pub tags : List ℕ
   pub movetext : List ℕ
 
--- a section is told as it stands in the text; of a refused one nothing is
+-- the bytes of a section; a refused one has none
 abbrev pub tags_if_valid : Found → List ℕ → List ℕ
 tags_if_valid (Ok position) text = text
 tags_if_valid (Err fault) text = []
 
--- Of a movetext so many bytes are told that one which is too large is seen to be; of that of a refused section none.
+-- The kept part of a movetext: enough to see that it is too large, and nothing for a refused section.
 abbrev pub told : Found → List ℕ → List ℕ
 told (Ok position) movetext = take (MAX_MOVETEXT + 1) movetext
 told (Err fault) movetext = []
@@ -33,8 +33,8 @@ said_with found text movetext = record {
   movetext = told found movetext;
 }
 
--- A row of comments, sections and other bytes: its front, before the first section, and what the sections say in turn.
--- The movetext of a section is what stands behind its last tag, up to the next section.
+-- A row of comments, sections and other bytes: its front, before the first section, and the games of its sections in
+-- turn. The movetext of a section is everything after its last tag, up to the next section.
 pub data HasGames : Geometry → (text front : List ℕ) → List Said → Type 0 where
   nothing : {g : Geometry} → HasGames g [] [] []
   other : {g : Geometry} {more front : List ℕ} {games : List Said} (byte : ℕ)

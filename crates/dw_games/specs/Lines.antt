@@ -51,15 +51,15 @@ abbrev pub line_fault_of : MovetextFault → LineFault
 line_fault_of (text.Refused what place) = Refused (Movetext what) place
 line_fault_of text.Memory = Memory
 
--- behind the tokens before, this one is at fault: it begins a variation, or it is at fault in any movetext
+-- after the tokens before, this one is at fault: it begins a variation, or it is at fault in any movetext
 pub data LineFaultAt (g : Geometry) (p : Placement) : List Token → Token → MovetextFaultKind → Type 0 where
   begins_variation : {ts : List Token} {moves : List Move} {t : Token} → IsStraight g p ts moves → t.what ≡ Opens
       → LineFaultAt g p ts t Variation
   other : {ts : List Token} {moves : List Move} {t : Token} {what : MovetextFaultKind} → IsPlainGame g p ts moves
       → FaultAt g p ts t what → LineFaultAt g p ts t what
 
--- The first fault of a text as a line, and its place: that of the token at fault, or the one behind the text. A text
--- that is too large has no other.
+-- The first fault of a text as a line, and its place: that of the token at fault, or the end of the text. A text that
+-- is too large has no other.
 pub data IsFirstLineFault (g : Geometry) (p : Placement) : List ℕ → LineFaultKind → ℕ → Type 0 where
   too_large : {text : List ℕ} → MAX_MOVETEXT < length text
       → IsFirstLineFault g p text (Movetext TooLarge) (MAX_MOVETEXT + 1)

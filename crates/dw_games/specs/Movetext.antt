@@ -12,7 +12,7 @@ use Rattle.dw_games.specs.declared.movetext.TheConstants.{MAX_MOVETEXT}
 abbrev pub IsGame : Geometry → Placement → List Token → List (List Move) → Type 0
 IsGame g p ts paths = IsPlay g p ts paths ⊎ IsOver g p ts paths
 
--- a list without its repeats: of each path what stands first
+-- a list without its repeats: each path where it comes first
 pub data AreDistinct : (paths tree : List (List Move)) → Type 0 where
   nothing : AreDistinct [] []
   again : {paths tree : List (List Move)} (path : List Move) → AreDistinct paths tree → Member path tree

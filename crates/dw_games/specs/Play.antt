@@ -38,13 +38,13 @@ pub record IsMove (g : Geometry) (p : Placement) (t : Token) (m : Move) : Type 0
   pub no_result : IsResult t → ⊥
   pub named : IsRead g p (crossed t.text) (Ok m)
 
--- what is passed over within a variation: comments, numbers and marks
+-- a token without effect within a variation: a comment, a number or a mark
 abbrev pub IsPassed : TokenKind → Type 0
 IsPassed what = (what ≡ Comment) ⊎ (what ≡ Passed)
 
--- A variation: how many variations may be open in it, the moves before it, its tokens, its own moves, and all paths
--- that it goes through, in turn. It is empty, or a variation and behind it something that is passed over, or a move, or
--- between parentheses another variation, which begins before the last move.
+-- A variation: the number of variations that may be open in it, the moves before it, its tokens, its own moves, and all
+-- paths through it, in turn. It is empty, or a variation followed by a token without effect, or by a move, or by
+-- another variation in parentheses, which begins before the last move.
 pub data IsVariation (g : Geometry) (p : Placement)
     : ℕ → (before : List Move) → List Token → (moves : List Move) → (paths : List (List Move)) → Type 0 where
   empty : {room : ℕ} {before : List Move} → IsVariation g p room before [] [] []

@@ -5,13 +5,12 @@ use Rattle.dw_notation.specs.ReadTags.{NoTag, said_by_tag}
 use Rattle.dw_notation.specs.declared.tags.Tag.{Tag as ReadTag}
 use Rattle.dw_games.specs.Tokens.{begins_with}
 
--- a tag as it stands in a text: its bytes, from the first bracket to the last, and what it says
+-- a tag in a text: its bytes, from the first bracket to the last, and its value
 pub record TagText : Type 0 where
   pub text : List ℕ
   pub tag : Tag
 
--- the whole tags of a text in turn, with spaces alone before and between them, up to the first place behind spaces
--- where none stands
+-- the whole tags of a text in turn, with only spaces before and between them, up to the first place without one
 pub data AreTags : List ℕ → List TagText → Type 0 where
   nothing : {bytes : List ℕ} → begins_with is_space bytes ≡ false → NoTag bytes → AreTags bytes []
   space : {byte : ℕ} {bytes : List ℕ} {tags : List TagText} → is_space byte ≡ true → AreTags bytes tags
@@ -23,6 +22,6 @@ pub data AreTags : List ℕ → List TagText → Type 0 where
 abbrev pub tag_text : ReadTag → TagText
 tag_text read = record { text = read.text.now; tag = said_by_tag read }
 
--- what the tags say that were read
+-- the values of the tags that were read
 abbrev pub said_by : List ReadTag → List Tag
 said_by = map said_by_tag

@@ -35,7 +35,7 @@ is_praise byte = (byte == 33) || (byte == 63)
 abbrev pub is_dot : ℕ → Bool
 is_dot byte = byte == full_stop
 
--- what a move or a result is written with: a digit, a dash, x in either case, a colon or a slash
+-- a byte of moves and results: a digit, a dash, x in either case, a colon or a slash
 abbrev pub is_written : ℕ → Bool
 is_written byte = is_digit byte || list_any (λ sign. byte == sign) (codes "-xX:/")
 
@@ -72,7 +72,7 @@ pub data IsToken : Bool → TokenKind → (text after : List ℕ) → Type 0 whe
       → IsToken fresh Comment (semicolon ∷ line) after
   -- a whole line that is a comment
   whole_line : {line after : List ℕ} → IsRun is_in_line line after → IsToken true Comment (per_cent ∷ line) after
-  -- the number of a move: digits and dots behind them, or dots alone
+  -- the number of a move: digits with dots after them, or dots alone
   number : {fresh : Bool} (digits : List ℕ) {dots after : List ℕ} → list_all is_digit digits ≡ true → 0 < length dots
       → IsRun is_dot dots after → IsToken fresh Passed (digits ++ dots) after
   -- a mark by its number
@@ -84,7 +84,7 @@ pub data IsToken : Bool → TokenKind → (text after : List ℕ) → Type 0 whe
   -- where a variation begins and ends
   opens : {fresh : Bool} {after : List ℕ} → IsToken fresh Opens (open_parenthesis ∷ []) after
   closes : {fresh : Bool} {after : List ℕ} → IsToken fresh Closes (close_parenthesis ∷ []) after
-  -- something written as moves and results are, and no number with a dot behind it
+  -- a row of bytes of moves and results, and no number with a dot after it
   written : {fresh : Bool} {digit : ℕ} {more after : List ℕ} → is_digit digit ≡ true
       → IsRun is_written (digit ∷ more) after
       → (list_all is_digit (digit ∷ more) ≡ true → begins_with is_dot after ≡ false)

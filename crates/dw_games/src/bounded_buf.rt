@@ -14,7 +14,7 @@ pub(crate) struct BoundedBuf {
 }
 
 impl BoundedBuf {
-    /// Of the empty text.
+    /// Makes the buffer of an empty text.
     pub(crate) fn new(alloc: Global, limit: usize) -> BoundedBuf
         ensures { IsKept limit [] result }
     {
@@ -42,7 +42,7 @@ impl BoundedBuf {
         self.bytes.clear();
     }
 
-    /// The bytes that were kept.
+    /// Returns the bytes that were kept.
     pub(crate) fn into_bytes(self) -> Vec<u8>
         ensures { result.items ≡ self.bytes.items }
     {
@@ -54,7 +54,7 @@ impl BoundedBuf {
         bytes
     }
 
-    /// The bytes that were kept, without the spaces at their end.
+    /// Returns the bytes that were kept, without the spaces at their end.
     pub(crate) fn into_trimmed(self) -> Vec<u8>
         ensures { IsTrimAsciiEnd self.bytes.items result.items }
     {

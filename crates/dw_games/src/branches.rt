@@ -7,12 +7,12 @@ ghost use Rattle.dw_games.specs.inner.Branches.{first_linked, next_linked, IsChi
 use dw_board::Board;
 use dw_moves::Move;
 
-/// A place in a tree behind a beginning that is not empty.
+/// A place in a tree, after at least one move.
 #[derive(Clone, Copy, Debug, PartialEq, Eq)]
 pub struct Node(pub(crate) usize);
 
-/// The last move of a beginning; the node behind the beginning before it, `None` at the root; the node behind the first
-/// move after it, and that behind the next move after the same beginning as its own.
+/// The last move; the node before it, `None` at the root; the node of its first continuation; the node of the next
+/// alternative to it.
 #[derive(Drop)]
 pub(crate) struct Branch<B: Board> {
     pub(crate) mv: Move<B>,
@@ -27,7 +27,7 @@ pub(crate) enum ChildOrLast {
     Last(Option<Node>),
 }
 
-/// The first child of a node, or of the root.
+/// Returns the first child of a node, or of the root.
 pub(crate) fn first_child<B: Board>(branches: &[Branch<B>], node: Option<Node>) -> Option<Node>
     requires { Hang branches.now }
     ensures { IsFirstChild (steps_of branches.now) (place_of node) 0 (place_of result) }
@@ -39,7 +39,7 @@ pub(crate) fn first_child<B: Board>(branches: &[Branch<B>], node: Option<Node>) 
     }
 }
 
-/// The next child of the parent of a node.
+/// Returns the next child of the parent of a node.
 pub(crate) fn next_sibling<B: Board>(branches: &[Branch<B>], node: Node) -> Option<Node>
     requires { Hang branches.now }
     ensures { MatchOption (slice_get (steps_of branches.now) node.0) (result ≡ None)
@@ -48,7 +48,7 @@ pub(crate) fn next_sibling<B: Board>(branches: &[Branch<B>], node: Node) -> Opti
     branches.get(node.0)?.next_sibling
 }
 
-/// The child of a node by a move, or its last child, if it has one, where none is by this move.
+/// Returns the child of a node by a move, or its last child, if it has one, where none is by this move.
 pub(crate) fn child_by<B: Board>(
     branches: &[Branch<B>],
     parent: Option<Node>,
@@ -69,7 +69,7 @@ pub(crate) fn child_by<B: Board>(
     ChildOrLast::Last(last)
 }
 
-/// Whether a node is behind this move.
+/// Returns whether the last move of a node is this move.
 fn is_by<B: Board>(branches: &[Branch<B>], node: Node, mv: &Move<B>) -> bool
     requires { node.0 < length branches.now }
     ensures { (parent : _) (m : _) → slice_get (steps_of branches.now) node.0

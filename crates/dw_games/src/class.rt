@@ -17,12 +17,12 @@ pub(crate) enum Class {
     Inside,
     /// All but the end of a line.
     InLine,
-    /// What stands between tags.
+    /// A byte between tags.
     Space,
 }
 
 impl Class {
-    /// Whether a byte is of this class.
+    /// Returns whether a byte is of this class.
     pub(crate) fn has(self, byte: u8) -> bool
         ensures { result ≡ test_of self byte }
     {

@@ -9,7 +9,6 @@ use std::fmt;
 use thiserror::Error;
 
 /// What is wrong with a text that is no movetext. Its number is that of the variant, from 1 on.
-/// Example: in ` 1. 32-28 (` the variation does not end: `MovetextFaultKind::Unclosed`, whose number is 5.
 #[derive(Clone, Copy, Debug, PartialEq, Eq)]
 pub enum MovetextFaultKind {
     /// A byte that begins no token, or a token that ends too soon.
@@ -22,7 +21,7 @@ pub enum MovetextFaultKind {
     Variation,
     /// The text ends, or its result comes, within a variation.
     Unclosed,
-    /// Something other than a comment stands after the result.
+    /// Something else than a comment follows the result.
     Rest,
     /// More than 40 variations are open.
     TooDeep,
@@ -35,8 +34,7 @@ pub enum MovetextFaultKind {
 }
 
 impl MovetextFaultKind {
-    /// Its number, from 1 on.
-    /// Example: of `MovetextFaultKind::Unclosed` it is 5.
+    /// Returns its number, from 1 on.
     pub fn number(self) -> u8
         ensures { result ≡ number_of self }
     {
@@ -54,8 +52,7 @@ impl MovetextFaultKind {
         }
     }
 
-    /// Its name in texts.
-    /// Example: of `MovetextFaultKind::NoSuchMove` it is `no such move`.
+    /// Returns its name in texts.
     pub fn name(self) -> &'static str
         ensures { result.now ≡ name_of self }
     {
@@ -84,7 +81,6 @@ impl fmt::Display for MovetextFaultKind {
 
 /// Why no tree was read from a text: its first fault, and the place of the token where it is found, the number from 1
 /// on of that token's first byte; or that memory was refused.
-/// Example: that of ` 1. 32-27` at `W:W27,32:B18` is `no such move at 5`.
 #[derive(Clone, Copy, Debug, PartialEq, Eq, Error)]
 pub enum MovetextFault {
     /// The first fault of the text.
@@ -105,7 +101,6 @@ impl From<AllocError> for MovetextFault {
 
 /// What is wrong with a text that is no written line. Its number is 11 for `Even`, and else that of the fault of a
 /// movetext.
-/// Example: `1. 32-28 18-22` has two moves: `LineFaultKind::Even`, whose number is 11.
 #[derive(Clone, Copy, Debug, PartialEq, Eq)]
 pub enum LineFaultKind {
     /// A fault that movetexts have too. `Variation` is any variation.
@@ -115,8 +110,7 @@ pub enum LineFaultKind {
 }
 
 impl LineFaultKind {
-    /// Its number, from 1 on.
-    /// Example: of `LineFaultKind::Even` it is 11.
+    /// Returns its number, from 1 on.
     pub fn number(self) -> u8
         ensures { result ≡ line_number_of self }
     {
@@ -126,8 +120,7 @@ impl LineFaultKind {
         }
     }
 
-    /// Its name in texts.
-    /// Example: of `LineFaultKind::Even` it is `even`.
+    /// Returns its name in texts.
     pub fn name(self) -> &'static str
         ensures { result.now ≡ line_name_of self }
     {
@@ -148,7 +141,6 @@ impl fmt::Display for LineFaultKind {
 
 /// Why no line was read from a text: its first fault, and the place of the token where it is found, the number from 1
 /// on of that token's first byte; or that memory was refused.
-/// Example: that of ` 1. 32-28 18-22` at `W:W27,32:B18` is `even at 16`.
 #[derive(Clone, Copy, Debug, PartialEq, Eq, Error)]
 pub enum LineFault {
     /// The first fault of the text.

@@ -1,4 +1,4 @@
-//! The games of a text of tags: what its sections say, each with its bytes and the movetext behind it.
+//! The games of a text of tags: its sections, each with its bytes and its movetext.
 ghost use Rattle.std.specs.Prelude.{◌≡◌, ◌∷◌, ◌+◌, ◌≤◌, ◌||◌, [], false, None, List, ℕ, drop};
 ghost use Rattle.std.specs.Prelude.{OnOk};
 ghost use Rattle.dw_games.specs.declared.games.GameFault.TheVariants.{Failed, Memory};
@@ -17,12 +17,10 @@ use std::alloc::{AllocError, Global};
 use std::marker::PhantomData;
 use thiserror::Error;
 
-/// A game of a text: the problem that its section poses, the section's tags as they stand in the text, from the first
-/// bracket to the last, and the movetext behind them, up to the next section. Of tags at most `MAX_SECTION` bytes are
-/// held. Of a movetext at most `MAX_MOVETEXT` + 1 bytes are held, of which `read_movetext` says that it is too large.
-/// The tags and the movetext of a refused problem are empty.
-/// Example: `[FEN "W:W27,32:B18"] 1. 32-28 *` has a position, the tags `[FEN "W:W27,32:B18"]` and the movetext
-/// ` 1. 32-28 *`.
+/// A game of a text: the problem of its section, the bytes of the section's tags from the first bracket to the last,
+/// and the movetext after them, up to the next section. At most `MAX_SECTION` bytes of tags are kept, and at most
+/// `MAX_MOVETEXT` + 1 bytes of a movetext, which `read_movetext` then refuses as too large. Tags and movetext of a
+/// refused problem are empty.
 #[derive(Drop)]
 pub struct Game<B: Board> {
     pub problem: Problem<B>,
@@ -31,7 +29,6 @@ pub struct Game<B: Board> {
 }
 
 /// Why a game could not be read. It says nothing of the text.
-/// Example: `GameFault::Failed` is written `the source failed`.
 #[derive(Clone, Copy, Debug, PartialEq, Eq, Error)]
 pub enum GameFault {
     #[error("the source failed")]
@@ -56,7 +53,7 @@ impl From<ReadFault> for GameFault {
     }
 }
 
-/// Where a reader of games stands.
+/// The place of a reader of games.
 #[derive(Clone, Copy)]
 enum Stage {
     /// Before a section, or outside.
@@ -67,7 +64,7 @@ enum Stage {
     Stopped(GameFault),
 }
 
-/// Where a reader stands behind a movetext that ends so.
+/// Returns the place of a reader after a movetext with this end.
 fn stage_behind(end: PlayEnd) -> Stage
     ensures { result ≡ stage_behind end }
 {
@@ -77,7 +74,7 @@ fn stage_behind(end: PlayEnd) -> Stage
     }
 }
 
-/// What is kept of a movetext that begins so, by what its section says.
+/// Returns the part of a movetext that is kept, given its first part and the problem of its section.
 fn movetext_if_valid<B: Board>(
     alloc: Global,
     found: &Result<Position<B>, ProblemFault>,
@@ -91,7 +88,8 @@ fn movetext_if_valid<B: Board>(
     }
 }
 
-/// What is told of a section's tags, by what it says and by what is kept of it and of the spaces behind.
+/// Returns the tags of a game, given the problem of its section, and the bytes kept of the section and of the spaces
+/// after it.
 fn tags_if_valid<B: Board>(
     alloc: Global,
     found: &Result<Position<B>, ProblemFault>,
@@ -107,7 +105,6 @@ fn tags_if_valid<B: Board>(
 
 /// The games of a source. Of its input it holds 2,048 bytes of the last read, and the tags and the movetext that are
 /// read.
-/// See [`Games::next`] for an example.
 #[derive(Drop)]
 pub struct Games<'a, B: Board, S> {
     alloc: Global,
@@ -127,8 +124,7 @@ impl<'a, B: Board, S: Source> Games<'a, B, S> {
     ghost use Rattle.dw_notation.specs.Numbering.{handed_out};
     ghost use Rattle.dw_games.specs.inner.Playing.{unclosed};
 
-    /// A reader of all games that the source has still to give.
-    /// See [`Games::next`] for an example.
+    /// Returns a reader of all games that the source has still to give.
     #[tactic(auto, unfolding(crate::specs::inner::GameReaders::reading_of))]
     pub fn new(alloc: Global, source: &'a mut S) -> Games<'a, B, S>
         ensures lender { lender result ≡ source.entry.ghost_name }
@@ -149,7 +145,7 @@ impl<'a, B: Board, S: Source> Games<'a, B, S> {
         }
     }
 
-    /// Whether all games are handed out.
+    /// Returns whether all games are handed out.
     fn is_over(&self) -> bool
         ensures { result ≡ is_done self.now.stage (handed_out self.now.numbers) }
     {
@@ -227,14 +223,13 @@ impl<'a, B: Board, S: Source> Games<'a, B, S> {
         }
     }
 
-    /// The next game, or `None` if the text has no more. It is read up to the next section, or to the end of the text.
+    /// Returns the next game, or `None` if the text has no more. It reads up to the next section, or to the end of the
+    /// text.
     ///
     /// # Errors
     ///
-    /// `Failed` is the source's fault, and `Memory` says that memory was refused: the game that was begun is lost, and
-    /// each later call answers the same.
-    /// Example: of `[FEN "W:W32:B28"] 1. 32x23 [FEN "x"]` it gives a position with the tags `[FEN "W:W32:B28"]` and the
-    /// movetext ` 1. 32x23 `, then a problem that was refused, and then `None`.
+    /// `Failed` is the source's fault. `Memory` means that memory was refused: the game that was being read is lost,
+    /// and each later call returns the same error.
     #[tactic(auto, unfolding(crate::specs::inner::GameReaders::reading_of))]
     pub fn next(&mut self) -> Result<Option<Game<B>>, GameFault>
         ensures lender { lender self.new ≡ lender self.old }

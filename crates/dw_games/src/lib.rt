@@ -1,13 +1,9 @@
-//! The games of a PDN text, the tags of each, and the solution that an author gave in one: the moves and variations
-//! behind the tags of its section, as a tree of moves.
+//! The games of a PDN text, their tags, and the author's solution in each: its moves and variations as a tree.
 //!
-//! Everything but tags is generic over the board. Memory is taken by tags, by a movetext and by the tree, and at a move
-//! by `read_move` of `dw_notation`.
+//! Everything but tags is generic over the board. Tags, movetexts, trees, and `read_move` of `dw_notation` allocate.
 //!
-//! Begin with `Games`, which reads the games of a `Source`, with `read_tags`, and with `read_movetext`; walk the `Tree`
-//! that it reads.
-//!
-//! An example tells a position by its FEN text, on the board of ten rows if it names no other.
+//! Begin with `Games`, which reads the games of a `Source`, with `read_tags`, and with `read_movetext`, which returns a
+//! `Tree`.
 #![tactic(auto)]
 
 mod bounded_buf;

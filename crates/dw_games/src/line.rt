@@ -14,14 +14,13 @@ use dw_board::{Board, Position};
 use dw_moves::Move;
 use std::alloc::Global;
 
-/// Reads a written line from a position: the moves of a movetext without variations, 1 to 39 and odd in number, or the
-/// first fault. By `laws::one_line` a text has no other moves or first fault there.
+/// Parses a line from a position: the moves of a movetext without variations, 1 to 39 and odd in number, or the first
+/// fault. By `laws::one_line` a text has no other moves or first fault there.
 ///
 /// # Errors
 ///
-/// The first fault of the text with its place, `Variation` at any `(` before the result; `Even` behind the text if the
+/// The first fault of the text with its place; `Variation` at any `(` before the result; `Even` after the text if the
 /// number of moves is even; `Memory` if memory is refused.
-/// Example: at `W:W27,32:B18` the text ` 1. 32-28 (1. 27-22)` is refused as `variation at 11`.
 pub fn read_line<B: Board>(
     alloc: Global,
     position: &Position<B>,
@@ -62,14 +61,14 @@ fn reads_line<B: Board>(
     Ok(false)
 }
 
-/// Whether a token of a kind begins a variation.
+/// Returns whether a token of a kind begins a variation.
 fn is_opening(what: TokenKind) -> bool
     ensures { IsTrue result ↔ (what ≡ TokenKind.Opens) }
 {
     matches!(what, TokenKind::Opens)
 }
 
-/// The moves that were read from a text of so many bytes, if they are odd in number.
+/// Returns the moves of a text of `bytes` bytes, if they are odd in number.
 fn odd_line<B: Board>(
     tree: &Tree<B>,
     bytes: usize,
@@ -92,7 +91,7 @@ fn odd_line<B: Board>(
     Ok(moves)
 }
 
-/// The moves of a tree whose nodes stand behind one another.
+/// Returns the moves of a tree without variations.
 fn moves_of<B: Board>(tree: &Tree<B>) -> ArrayVec<Move<B>, MAX_PATH>
     requires { length tree.now ≤ MAX_PATH }
     ensures { (moves : _) → tree.now ≡ beginnings_after [] moves → result.items ≡ moves }

@@ -12,15 +12,12 @@ use dw_notation::MAX_MOVES;
 use std::alloc::Global;
 
 /// The most bytes of a movetext.
-/// Example: a text of 1,048,577 bytes is refused as `too large at 1048577`.
 pub const MAX_MOVETEXT: usize = 1_048_576;
 
 /// The most moves of a path, 39: those of the longest line.
-/// Example: a 40th move is refused as `too long`.
 pub const MAX_PATH: usize = MAX_MOVES;
 
 /// The most variations that may be open at once.
-/// Example: the last of 41 `(` that none closes is refused as `too deep`.
 pub const MAX_OPEN: usize = 40;
 
 /// Reads the movetext of a solution to a position: the tree of its moves, or the first fault. By `laws::one_answer` a
@@ -29,7 +26,6 @@ pub const MAX_OPEN: usize = 40;
 /// # Errors
 ///
 /// The first fault of the text with its place; `Memory` if memory is refused.
-/// Example: at `W:W27,32:B18` the text ` 1. 32-27` is refused as `no such move at 5`.
 pub fn read_movetext<B: Board>(
     alloc: Global,
     position: &Position<B>,
@@ -50,7 +46,7 @@ pub fn read_movetext<B: Board>(
     tree_of(reader, text.len())
 }
 
-/// The tree that was read from a text of so many bytes, if it has a move.
+/// Returns the tree of a text of `bytes` bytes, if it has a move.
 fn tree_of<B: Board>(reader: Reader<B>, bytes: usize) -> Result<Tree<B>, MovetextFault>
     requires { bytes ≤ MAX_MOVETEXT }
     ensures { MatchResult result (λ tree. (tree ≡ reader.tree) × (0 < length tree))
@@ -64,7 +60,7 @@ fn tree_of<B: Board>(reader: Reader<B>, bytes: usize) -> Result<Tree<B>, Movetex
     }
 }
 
-/// A fault behind so many bytes.
+/// Returns a fault after a number of bytes.
 pub(crate) fn behind(what: MovetextFaultKind, bytes: usize) -> MovetextFault
     requires { bytes ≤ MAX_MOVETEXT }
     ensures { result ≡ MovetextFault.Refused what (bytes + 1) }
@@ -92,7 +88,7 @@ fn reads_result<B: Board>(
     Ok(false)
 }
 
-/// Reads what stands behind a result: comments alone.
+/// Reads the text after a result: comments only.
 pub(crate) fn read_comments(tokens: &mut Tokens<'_>) -> Result<(), MovetextFault>
     ensures { AreLast tokens.old result }
 {

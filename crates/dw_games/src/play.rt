@@ -7,7 +7,7 @@ use crate::bounded_buf::BoundedBuf;
 use crate::games::GameFault;
 use dw_notation::{Buffer, SectionFinder, Source};
 
-/// What stands after bytes without a section.
+/// The token after bytes without a section.
 #[derive(Clone, Copy)]
 pub(crate) enum PlayEnd {
     /// The bracket that begins a section.
@@ -44,7 +44,7 @@ pub(crate) fn scan_to_section<S: Source>(
     }
 }
 
-/// What stands after the bytes where the text ends.
+/// Returns the token after the bytes at the end of the text.
 fn end_of_text(finder: SectionFinder) -> PlayEnd
     ensures { result ≡ end_of_text finder }
 {

@@ -19,7 +19,7 @@ use dw_notation::read_move::read_move;
 use dw_notation::{MAX_MOVE_TEXT, MoveFault};
 use std::alloc::{AllocError, Global};
 
-/// Where reading stands: behind a beginning of the tree, by its node, the position after it, and how many moves it has.
+/// The place of a reader in the tree: its node, the position there, and the number of moves before it.
 #[derive(Clone, Copy)]
 struct Cursor<B: Board> {
     node: Option<Node>,
@@ -27,7 +27,7 @@ struct Cursor<B: Board> {
     moves: usize,
 }
 
-/// A variation that is open: where it stands now, and where it stood before its last move, if it has one.
+/// An open variation: its present place, and the place before its last move, if it has one.
 #[derive(Clone, Copy)]
 struct OpenLine<B: Board> {
     now: Cursor<B>,
@@ -35,7 +35,7 @@ struct OpenLine<B: Board> {
 }
 
 impl<B: Board> OpenLine<B> {
-    /// A variation without moves.
+    /// Returns a variation without moves.
     fn from(now: Cursor<B>) -> Self
         ensures { result ≡ record { now = now; before = None } }
     {
@@ -67,7 +67,7 @@ impl<B: Board> Reader<B> {
     ghost use Rattle.dw_games.specs.inner.Ahead.{token_value};
     ghost use Rattle.dw_games.specs.inner.Reading.{HasRead, IsReading, IsTaken, IsMoveOf};
 
-    /// Nothing is read, and no variation in parentheses is open.
+    /// Makes a reader at the start, with no open variation.
     pub(crate) fn new(alloc: Global, position: Position<B>) -> Self
         ensures { HasRead B.geometry position [] result }
     {
@@ -83,14 +83,14 @@ impl<B: Board> Reader<B> {
         }
     }
 
-    /// Whether a variation in parentheses is open.
+    /// Returns whether a variation in parentheses is open.
     pub(crate) fn is_within(&self) -> bool
         ensures { IsTrue result ↔ (0 < length self.now.outer.items) }
     {
         !self.outer.is_empty()
     }
 
-    /// The moves that were read.
+    /// Returns the moves that were read.
     pub(crate) fn into_tree(self) -> Tree<B>
         ensures { result ≡ self.tree }
     {
@@ -184,7 +184,7 @@ impl<B: Board> Reader<B> {
         Ok(false)
     }
 
-    /// The legal move that a token names, where a path may have one more move.
+    /// Returns the legal move that a token names, where a path may have one more move.
     fn move_of(&self, token: Token<'_>) -> Result<Move<B>, MovetextFault>
         requires reading { IsReading B.geometry self.now }
         requires written { token.what ≡ TokenKind.Written }
@@ -201,7 +201,7 @@ impl<B: Board> Reader<B> {
     }
 }
 
-/// The fault of a token of which no move was read, by whether the path has as many moves as it may.
+/// Returns the fault of a token that is no legal move, given whether the path has as many moves as it may.
 fn refusal(token: Token<'_>, is_full: bool, why: MoveFault) -> MovetextFault
     ensures { result ≡ refusal_of token.entry.place is_full why }
 {
@@ -214,7 +214,7 @@ fn refusal(token: Token<'_>, is_full: bool, why: MoveFault) -> MovetextFault
     }
 }
 
-/// The legal move that a text names in which a colon may stand for `x`.
+/// Returns the legal move that a text names in which a colon may stand for `x`.
 fn move_named<B: Board>(
     alloc: Global,
     position: &Position<B>,
@@ -232,7 +232,7 @@ fn move_named<B: Board>(
     read_move(alloc, position, crossed.as_slice())
 }
 
-/// Whether a text is a result.
+/// Returns whether a text is a result.
 fn is_result(text: &[u8]) -> bool
     ensures { IsTrue result ↔ Member text.now results }
 {

@@ -26,7 +26,7 @@ fn keep_spaces(spaces: &mut BoundedBuf, piece: &[u8]) -> Result<(), AllocError>
     spaces.extend(rest)
 }
 
-/// The place where the spaces at the end of a text begin.
+/// Returns the place where the spaces at the end of a text begin.
 fn spaces_at(text: &[u8]) -> usize
     ensures within { result ≤ length text.now }
     ensures spaces { list_all is_space_byte (drop result text.now) ≡ true }
@@ -39,7 +39,7 @@ fn spaces_at(text: &[u8]) -> usize
     start
 }
 
-/// Passes the bytes of a section and the spaces after it, and answers what it says. All of them are kept in a row, and
+/// Reads the bytes of a section and the spaces after it, and returns its problem. It keeps all of them in a row, and
 /// the spaces also alone.
 pub(crate) fn read_section<B: Board, S: Source>(
     source: &mut S,

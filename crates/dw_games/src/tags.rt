@@ -10,10 +10,9 @@ pub use dw_notation::tags::Tag;
 use dw_notation::tags::read_tag;
 use std::alloc::{AllocError, Global};
 
-/// The whole tags of a section, or of any other text: in turn, with spaces alone before and between them, up to the
-/// first place behind spaces where none stands. By `laws::one_row_of_tags` it has no others, and by
-/// `laws::sections_have_their_tags` those of a section are its own, if it leaves none unclosed.
-/// Example: `[A "1"] [B "2"] *` has two tags, and `* [A "1"]` has none.
+/// Returns the whole tags at the front of a section or any other text, with only spaces before and between them. By
+/// `laws::one_row_of_tags` there are no others, and by `laws::sections_have_their_tags` those of a section are its own,
+/// if it leaves none unclosed.
 pub fn read_tags<'t>(alloc: Global, section: &'t [u8]) -> Result<Vec<Tag<'t>>, AllocError>
     ensures { IfOk result (λ tags. AreTags section.now (map tag_text tags.items)) }
 {
@@ -27,8 +26,7 @@ pub fn read_tags<'t>(alloc: Global, section: &'t [u8]) -> Result<Vec<Tag<'t>>, A
     Ok(tags)
 }
 
-/// The value of the first of these tags that has this name, without regard to the case of letters.
-/// Example: of the tags of `[Event "a"] [EVENT "b"]` the first named `event` has the value `a`.
+/// Returns the value of the first of these tags that has this name, without regard to the case of letters.
 pub fn value_named<'v>(tags: &'v [Tag<'_>], name: &[u8]) -> Option<&'v [u8]>
     ensures { MatchOption result (values_named name.now (said_by tags.now) ≡ [])
         (λ value. (others : List (List ℕ)) × (values_named name.now (said_by tags.now) ≡ value.now ∷ others)) }
@@ -41,7 +39,7 @@ pub fn value_named<'v>(tags: &'v [Tag<'_>], name: &[u8]) -> Option<&'v [u8]>
     None
 }
 
-/// What stands behind the spaces at the front of a text.
+/// Returns the rest of a text after the spaces at its front.
 fn past_spaces(text: &[u8]) -> &[u8]
     ensures no_space { begins_with is_space result.now ≡ false }
     ensures not_longer { length result.now ≤ length text.now }

@@ -12,7 +12,6 @@ use crate::movetext::MAX_MOVETEXT;
 use dw_notation::bytes::{ends_line, is_space};
 
 /// What a token of a movetext is.
-/// Example: `32-28!` has a token that is `Written` and one that is `Passed`.
 #[derive(Clone, Copy, Debug, PartialEq, Eq)]
 pub enum TokenKind {
     /// `{` up to the first `}`; `;` to the end of the line, and `%` too if it begins the line.
@@ -32,7 +31,6 @@ pub enum TokenKind {
 }
 
 /// A token: its kind, its bytes, and the place of the first of them in the text, counted from 1.
-/// Example: the second token of `1. 32-28` is `Written`, with the bytes `32-28` and the place 4.
 #[derive(Clone, Copy)]
 pub(crate) struct Token<'a> {
     pub(crate) what: TokenKind,
@@ -41,7 +39,7 @@ pub(crate) struct Token<'a> {
 }
 
 impl<'a> Token<'a> {
-    /// The fault at its place.
+    /// Returns the fault at its place.
     pub(crate) fn fault(&self, what: MovetextFaultKind) -> MovetextFault
         ensures { result ≡ MovetextFault.Refused what self.now.place }
     {
@@ -53,7 +51,6 @@ impl<'a> Token<'a> {
 }
 
 /// A text, the place in it up to which it is read, and whether a line begins there.
-/// Example: `1. 32-28` has the tokens `1.` and `32-28`.
 #[derive(Drop)]
 pub(crate) struct Tokens<'a> {
     text: &'a [u8],
@@ -66,8 +63,7 @@ pub(crate) struct Tokens<'a> {
 impl<'a> Tokens<'a> {
     ghost use Rattle.dw_games.specs.inner.Ahead.{AreAhead, bytes_ahead, end_of, token_value};
 
-    /// The tokens of a text.
-    /// Example: of ` 1.` the first is `1.`, at place 2.
+    /// Returns the tokens of a text.
     pub(crate) fn new(text: &'a [u8]) -> Tokens<'a>
         requires { length text.now ≤ MAX_MOVETEXT }
         ensures tokens { (tokens : _) (rest : _) → AreAhead result tokens rest
@@ -81,8 +77,7 @@ impl<'a> Tokens<'a> {
         }
     }
 
-    /// The next token, or `None` if blanks alone are left.
-    /// Example: at the start of ` (` it is the `(` at place 2.
+    /// Returns the next token, or `None` if blanks alone are left.
     pub(crate) fn next(&mut self) -> Option<Token<'a>>
         ensures token { MatchOption result (AreAhead self.old [] [])
             (λ t. (tokens : _) (rest : _) → AreAhead self.new tokens rest
@@ -115,7 +110,7 @@ impl<'a> Tokens<'a> {
     }
 }
 
-/// The first place from this one on where no blank stands, and whether a line begins there, by whether one does here.
+/// Returns the next place without a blank, and whether a line begins there, given whether one begins here.
 fn past_blanks(text: &[u8], from: usize, begins: bool) -> (usize, bool)
     requires { from ≤ length text.now }
     ensures low { from ≤ result.0 }
@@ -133,7 +128,8 @@ fn past_blanks(text: &[u8], from: usize, begins: bool) -> (usize, bool)
     (at, fresh)
 }
 
-/// The token that begins with this byte, which is no blank: its kind, and how many of the bytes behind are part of it.
+/// Returns the token that begins with this byte, which is no blank: its kind, and how many of the next bytes belong to
+/// it.
 fn token_of(first: u8, behind: &[u8], fresh: bool) -> (TokenKind, usize)
     requires { is_space_byte first ≡ false }
     ensures within { result.1 ≤ length behind.now }
@@ -154,7 +150,7 @@ fn token_of(first: u8, behind: &[u8], fresh: bool) -> (TokenKind, usize)
     }
 }
 
-/// The comment that begins with a brace before these bytes, or the brace that none closes with all of them.
+/// Returns the comment that begins with a brace before these bytes, or the brace that none closes with all of them.
 fn comment(behind: &[u8]) -> (TokenKind, usize)
     ensures within { result.1 ≤ length behind.now }
     ensures token { (fresh : _) → IsToken fresh result.0 (123 ∷ take result.1 behind.now) (drop result.1 behind.now) }
@@ -167,7 +163,7 @@ fn comment(behind: &[u8]) -> (TokenKind, usize)
     }
 }
 
-/// The line that begins with a per cent sign before these bytes, if a line begins there.
+/// Returns the line that begins with a per cent sign before these bytes, if a line begins there.
 fn line_comment(behind: &[u8], fresh: bool) -> (TokenKind, usize)
     ensures within { result.1 ≤ length behind.now }
     ensures token { IsToken fresh result.0 (37 ∷ take result.1 behind.now) (drop result.1 behind.now) }
@@ -179,7 +175,7 @@ fn line_comment(behind: &[u8], fresh: bool) -> (TokenKind, usize)
     }
 }
 
-/// The mark that begins with `$` before these bytes.
+/// Returns the mark that begins with `$` before these bytes.
 fn numbered_mark(behind: &[u8]) -> (TokenKind, usize)
     ensures within { result.1 ≤ length behind.now }
     ensures token { (fresh : _) → IsToken fresh result.0 (36 ∷ take result.1 behind.now) (drop result.1 behind.now) }
@@ -192,8 +188,8 @@ fn numbered_mark(behind: &[u8]) -> (TokenKind, usize)
     }
 }
 
-/// The token that begins with a digit before these bytes: its digits with the dots behind them, if there is a dot, or
-/// all bytes that moves and results are written with.
+/// Returns the token that begins with a digit before these bytes: its digits with the dots after them, if there is a
+/// dot, or all bytes that moves and results are written with.
 fn number_or_written(first: u8, behind: &[u8]) -> (TokenKind, usize)
     requires { is_digit first ≡ true }
     ensures within { result.1 ≤ length behind.now }
@@ -209,7 +205,7 @@ fn number_or_written(first: u8, behind: &[u8]) -> (TokenKind, usize)
     }
 }
 
-/// How many bytes of a class stand at the front of a text.
+/// Returns how many bytes of a class stand at the front of a text.
 pub(crate) fn run_of(text: &[u8], class: Class) -> usize
     ensures within { result ≤ length text.now }
     ensures run { IsRun (test_of class) (take result text.now) (drop result text.now) }

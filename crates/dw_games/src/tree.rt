@@ -9,9 +9,8 @@ use dw_moves::Move;
 use std::alloc::{AllocError, Global};
 use std::marker::Model;
 
-/// The moves of an author's solution. Each beginning of a path stands in it once, in the order in which they first
-/// stand in the text. The root, before the first move, is no node.
-/// Example: `1. 32-28 (1. 27-22) 18-22` has three nodes: behind `32-28`, behind `27-22`, and behind `32-28 18-22`.
+/// The moves of an author's solution. Each beginning of a path is in it once, in the order of its first appearance in
+/// the text. The root, before the first move, is no node.
 #[derive(Drop)]
 pub struct Tree<B: Board> {
     branches: Vec<Branch<B>>,
@@ -37,7 +36,7 @@ impl<B: Board> Tree<B> {
     ghost use Rattle.dw_games.specs.Walk.{place_of, beginning_at, IsNext};
     ghost use Rattle.dw_games.specs.inner.Noting.{IsNoted};
 
-    /// The tree without a move.
+    /// Returns the tree without a move.
     pub(crate) fn new(alloc: Global) -> Self
         ensures { result ≡ [] }
     {
@@ -46,23 +45,21 @@ impl<B: Board> Tree<B> {
         }
     }
 
-    /// Whether it has no move.
+    /// Returns whether it has no move.
     pub(crate) fn is_empty(&self) -> bool
         ensures { result ≡ (length self.now == 0) }
     {
         self.len() == 0
     }
 
-    /// How many nodes it has.
-    /// Example: `1. 32-28 (1. 27-22) 18-22` has 3.
+    /// Returns how many nodes it has.
     pub fn len(&self) -> usize
         ensures { result ≡ length self.now }
     {
         self.branches.as_slice().len()
     }
 
-    /// The node of a place, from 0 on, in the order in which the beginnings first stand in the text.
-    /// Example: in `1. 32-28 (1. 27-22) 18-22` that of place 1 is the one behind `27-22`.
+    /// Returns the node of a place, from 0 on, in the order in which the beginnings first stand in the text.
     pub fn node(&self, place: usize) -> Option<Node>
         ensures { MatchOption result (length self.now ≤ place) (λ n. (n.0 ≡ place) × (place < length self.now)) }
     {
@@ -73,8 +70,7 @@ impl<B: Board> Tree<B> {
         }
     }
 
-    /// The node behind the first move after a node, or after the root.
-    /// Example: in `1. 32-28 18-22` that after the root is the one behind `32-28`.
+    /// Returns the node of the first move after a node, or after the root.
     pub fn first_child(&self, node: Option<Node>) -> Option<Node>
         ensures { MatchOption (beginning_at self.now (place_of node)) (result ≡ None)
             (λ b. IsNext self.now b 0 (place_of result)) }
@@ -82,8 +78,7 @@ impl<B: Board> Tree<B> {
         first_child(self.branches.as_slice(), node)
     }
 
-    /// The node behind the next move after the same beginning.
-    /// Example: in `1. 32-28 (1. 27-22)` that of the node behind `32-28` is the one behind `27-22`.
+    /// Returns the node of the next alternative to a node.
     pub fn next_sibling(&self, node: Node) -> Option<Node>
         ensures none { length self.now ≤ node.0 → result ≡ None }
         ensures next { (b : _) (m : _) → slice_get self.now node.0 ≡ Some (b ++ m ∷ [])
@@ -92,8 +87,7 @@ impl<B: Board> Tree<B> {
         next_sibling(self.branches.as_slice(), node)
     }
 
-    /// The move before a node.
-    /// Example: in `1. 32-28 18-22` that of the first node after the root is `32-28`.
+    /// Returns the move before a node.
     pub fn mv(&self, node: Node) -> Option<Move<B>>
         ensures { MatchOption result (slice_get self.now node.0 ≡ None)
             (λ m. (b : _) × (slice_get self.now node.0 ≡ Some (b ++ m ∷ []))) }
@@ -101,8 +95,7 @@ impl<B: Board> Tree<B> {
         Some(self.branches.get(node.0)?.mv)
     }
 
-    /// The node before the move before a node, or `None` if that is the root.
-    /// Example: in `1. 32-28 18-22` that of the node behind `18-22` is the one behind `32-28`.
+    /// Returns the node before the move before a node, or `None` if that is the root.
     pub fn parent(&self, node: Node) -> Option<Node>
         ensures { (b : _) (m : _) → slice_get self.now node.0 ≡ Some (b ++ m ∷ [])
             → beginning_at self.now (place_of result) ≡ Some b }
@@ -110,7 +103,7 @@ impl<B: Board> Tree<B> {
         self.branches.get(node.0)?.parent
     }
 
-    /// The node behind a move after a node. If there is none yet, it is put behind all others.
+    /// Returns the node of a move after a node. If there is none yet, it is added as the last one.
     pub(crate) fn note(&mut self, parent: Option<Node>, mv: &Move<B>) -> Result<Node, AllocError>
         requires { IsSome (beginning_at self.old (place_of parent)) }
         ensures noted { OnOk result ((b : _) → beginning_at self.old (place_of parent) ≡ Some b

@@ -9,23 +9,22 @@ ghost use Rattle.dw_json.specs.Writing.{Writes, WritesMembers};
 use json::Writer;
 use std::alloc::AllocError;
 
-/// Writes the members of an object for a thing of some kind.
-/// Example: one for moves writes the text of a move.
+/// Writes the members of an object for a value of type `T`.
 pub trait PutObject<T> {
-    /// What it asks of a thing.
+    /// The condition on a value.
     ghost asks: { Self → T → Type 0 };
 
-    /// They are the members for a thing.
+    /// The members for a value.
     ghost says: { Self → T → List Member → Type 0 };
 
-    /// Writes the members for a thing.
+    /// Writes the members for a value.
     fn put(&self, row: &mut Writer, item: &T) -> Result<(), AllocError>
         requires { asks self.now item.now }
         ensures { OnOk result ((members : List Member) × says self.now item.now members
             × WritesMembers members row.old row.new) };
 }
 
-/// Writes a member with an array of objects, one for each of some things.
+/// Writes a member with an array of objects, one for each of `all`.
 pub fn put_objects<T, P: PutObject<T>>(
     row: &mut Writer,
     name: &str,
@@ -44,7 +43,7 @@ pub fn put_objects<T, P: PutObject<T>>(
     row.end_array()
 }
 
-/// Writes an object for a thing.
+/// Writes the object for a value.
 fn put_object<T, P: PutObject<T>>(row: &mut Writer, item: &T, put: &P) -> Result<(), AllocError>
     requires { P.asks put.now item.now }
     ensures { OnOk result ((members : List Member) × P.says put.now item.now members

@@ -29,7 +29,7 @@ pub fn end_row(mut row: Writer) -> Result<String, AllocError>
     Ok(line)
 }
 
-/// The text that was written.
+/// Returns the text that was written.
 fn text_of(row: Writer) -> Result<String, AllocError>
     ensures { IfOk result (λ text. string_bytes text ≡ row.before ++ print row.tokens) }
 {

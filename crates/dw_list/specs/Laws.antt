@@ -31,7 +31,7 @@ pub record LineOrPlace : Type 0 where
   pub only : (g : Geometry) (p : Placement) (n : ℕ) (l : List Move) (j k : ℕ) →
       IsPlace g p n l j → IsPlace g p n l k → j ≡ k
 
--- what was given first and what was given then were given one after another, and nothing leaves all as it was
+-- lists that were given in two turns were given one after the other; an empty turn changes nothing
 pub record GivenInTurn : Type 0 where
   pub nothing : (g : Geometry) (s : LineStack) → Gives g s s []
   pub then : (g : Geometry) (a b c : LineStack) (first others : List (List Move)) → Gives g a b first

@@ -10,8 +10,8 @@ use Rattle.dw_solve.specs.Questions.{Asked}
 use Rattle.dw_list.specs.StackWalk.{SameToCome, GivesFirst, GivesNone}
 use Rattle.dw_list.specs.Listing.{lender, solver_of, stack_of}
 
--- The first of the lines still to come was lent, or there was none; after a stop they are what they were. The solver is
--- the same, and was asked about wins within as many moves.
+-- The first of the lines still to come was lent, or there was none; after a stop they are the same. The solver is the
+-- same, and was asked about wins within the same number of moves.
 pub record LendsNext {B M G : Type 0} (g : Geometry) (content : M → Content) (lost : M → ℕ)
     (old new : Lister B M G) (result : Result (Option (Bor (List Move))) Stop) : Type 0 where
   pub lender : lender new ≡ lender old

@@ -37,7 +37,7 @@ IsAhead (Some moves) l = BeginsAmong moves l
 abbrev pub IsBehind : Option (List Move) → Move → (List Move → Type 0) → List Move → Type 0
 IsBehind ahead m Ways l = IsAhead ahead l ⊎ ((rest : List Move) × (l ≡ m ∷ rest) × Ways rest)
 
--- it goes on in one of these ways at the last level, or with what is ahead at one of the levels before it
+-- it goes on in one of these ways at the last level, or with the rest of one of the levels before it
 abbrev pub Remains : List Level → List Move → (List Move → Type 0) → List Move → Type 0
 Remains [] [] Ways l = Ways l
 Remains (f ∷ outer) (m ∷ line) Ways l = Remains outer line (IsBehind f.ahead m Ways) l

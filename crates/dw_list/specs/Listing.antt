@@ -22,8 +22,8 @@ abbrev pub last_of : ℕ → List ℕ → ℕ
 last_of first [] = first
 last_of first (next ∷ more) = last_of next more
 
--- After turns under these limits the last one stands, raised to 1 and to what was expanded by then; without a turn the
--- limit is what it was.
+-- After turns under these limits the last one stays, raised to 1 and to the expansions by then; without a turn the
+-- limit is the same.
 abbrev pub LimitIsLast : {M : Type 0} → List ℕ → Solving M → Solving M → Type 0
 LimitIsLast [] old new = new.limit ≡ old.limit
 LimitIsLast (first ∷ limits) old new =

@@ -1,4 +1,4 @@
--- Lists of moves among the lines: what comes after one, and where one that is no line leaves all of them.
+-- Lists of moves among the lines: the lines after one, and the place where a list that is no line leaves them.
 use Rattle.std.specs.Prelude.{◌≡◌, ℕ, ◌+◌, ◌<◌, ◌≤◌, ◌⊎◌, List, [], ◌∷◌, ◌++◌, length, take}
 use Rattle.dw_board.specs.Geometry.{Geometry}
 use Rattle.dw_board.specs.Placement.{Placement}

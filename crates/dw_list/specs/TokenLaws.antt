@@ -13,7 +13,7 @@ pub record IsOnBoard (g : Geometry) (m : Move) : Type 0 where
   pub to : OnBoard g m.to
   pub taken : (s : ℕ) → set.contains m.taken s ≡ true → OnBoard g s
 
--- what is written of a line is a token of it
+-- the written token of a line is a token of it
 abbrev pub WrittenIsToken : Type 0
 WrittenIsToken = (g : Geometry) → IsBoard g → (g.rows ≡ 10) ⊎ (g.rows ≡ 8) → (line : List Move) →
     length line % 2 ≡ 1 → length line ≤ 39 → ((m : Move) → Member m line → IsOnBoard g m) →
@@ -28,7 +28,7 @@ OneLine = (g : Geometry) (text : List ℕ) (line other : List Move) →
 abbrev pub TokensHaveNoFault : Type 0
 TokensHaveNoFault = (g : Geometry) (text : List ℕ) (line : List Move) → IsToken g text line → token_fault g text ≡ None
 
--- on the board of 10 rows a text of version 1 means what the text of version 2 does that goes on in the same way
+-- on the board of 10 rows a token of version 1 means the same as the token of version 2 with the same moves
 abbrev pub Version1Keeps : Type 0
 Version1Keeps = (g : Geometry) → g.rows ≡ 10 → (old new counted : List ℕ) →
     decode_of old ≡ Ok (1 ∷ counted) → decode_of new ≡ Ok (2 ∷ 10 ∷ counted) →

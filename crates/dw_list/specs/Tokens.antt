@@ -77,7 +77,7 @@ number_below v (suc n) = bit_or (number_below v n) (cond (set.contains v (suc n)
 unfoldable pub number_of : Geometry → Squares → ℕ
 number_of g v = number_below v (squares g)
 
--- the ten bytes of a move: its start, its end, and the number of what it takes
+-- the ten bytes of a move: its start, its end, and the number of its taken squares
 unfoldable pub move_bytes : Geometry → Move → List ℕ
 move_bytes g m = m.from ∷ m.to ∷ to_be_bytes w64 (number_of g m.taken)
 
@@ -111,7 +111,7 @@ unfoldable pub moves_fault : Geometry → ℕ → List ℕ → Option TokenFault
 moves_fault g zero bytes = None
 moves_fault g (suc n) bytes = first_of (move_fault g (take 10 bytes)) (moves_fault g n (drop 10 bytes))
 
--- so many bytes are an odd number n of moves, at most 39
+-- this number of bytes is an odd number n of moves, at most 39
 abbrev pub are_moves : ℕ → ℕ → Bool
 are_moves n bytes = (n % 2 == 1 && nat_le n 39) && bytes == 10 * n
 
@@ -137,7 +137,7 @@ bytes_fault g (version ∷ rest) =
     else if version == 2 then board_fault g rest
     else Some Version
 
--- the first fault of what a text decodes to
+-- the first fault of the decoded bytes of a text
 unfoldable pub decoded_fault : Geometry → Result (List ℕ) FromHexError → Option TokenFault
 decoded_fault g (Err e) = Some NotHex
 decoded_fault g (Ok bytes) = bytes_fault g bytes

@@ -17,9 +17,8 @@ use dw_moves::{Listed, Move};
 use dw_solve::{Guide, Solver, Stop};
 use std::alloc::{AllocError, Global};
 
-/// All lines in which the side to move wins within so many of its moves, 1 to 20, in ascending order and each once.
-/// After a stop all bounds in the memo are right, and the call can be made again.
-/// Example: at `W:W27,45:B16` there is one within 2 moves: `45-40`, `16-21`, `27x16`.
+/// Returns all lines in which the side to move wins within `moves` moves, 1 to 20, in ascending order and each once.
+/// After a stop all bounds in the memo are right, and the call can be repeated.
 pub fn all_lines<B: Board, M: Memo<B>, G: Guide<B>>(
     alloc: Global,
     solver: &mut Solver<B, M, G>,
@@ -37,7 +36,7 @@ pub fn all_lines<B: Board, M: Memo<B>, G: Guide<B>>(
     ways(alloc, solver, position, true, moves)
 }
 
-/// All ways in which a line goes on from a position, where the attacker has so many moves left.
+/// Returns all continuations of a line from a position, with `moves` moves left for the attacker.
 #[cycle(ways)]
 fn ways<B: Board, M: Memo<B>, G: Guide<B>>(
     alloc: Global,
@@ -67,7 +66,7 @@ fn ways<B: Board, M: Memo<B>, G: Guide<B>>(
     Ok(lists)
 }
 
-/// The ways that go on with no move: one if the line ends, that is if the defender has no move.
+/// Returns the ways that go on with no move: one if the line ends, that is if the defender has no move.
 fn ends<B: Board>(
     alloc: Global,
     attacks: bool,
@@ -85,7 +84,7 @@ fn ends<B: Board>(
     Ok(lists)
 }
 
-/// Adds the ways through one move, with so many moves left for the attacker after it.
+/// Adds the continuations after one move, with `left` moves left for the attacker.
 #[cycle(ways)]
 fn push_ways<B: Board, M: Memo<B>, G: Guide<B>>(
     alloc: Global,
@@ -127,7 +126,7 @@ fn push_each<B: Board>(
     Ok(())
 }
 
-/// A move, and others after it.
+/// Returns a move, and others after it.
 fn joined<B: Board>(
     alloc: Global,
     mv: &Move<B>,

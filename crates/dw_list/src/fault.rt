@@ -1,9 +1,8 @@
-//! Why a lister can not go on after a list of moves.
+//! Why a lister cannot go on after a list of moves.
 use dw_solve::Stop;
 use thiserror::Error;
 
 /// Why the lines after a list of moves were not found.
-/// Example: at `W:W27,32,38:B18`, within 2 moves, the list of `32-28` alone gives `AfterFault::NotALine(2)`.
 #[derive(Clone, Copy, Debug, PartialEq, Eq, Error)]
 pub enum AfterFault {
     /// The list is no line. The place is that of the first move with which it leaves all lines, counted from 1, or

@@ -37,7 +37,7 @@ impl<B: Board> Model for Frame<B> {
 }
 
 impl<B: Board> Frame<B> {
-    /// A position whose moves are not listed.
+    /// Returns a position whose moves are not listed.
     pub(crate) fn new(position: Position<B>, attacks: bool, left: u8) -> Self
         ensures { result ≡ begun position attacks left }
     {
@@ -70,14 +70,14 @@ impl<B: Board> Frame<B> {
         &self.position
     }
 
-    /// Whether the attacker is to move.
+    /// Returns whether the attacker is to move.
     pub(crate) fn attacks(&self) -> bool
         ensures { result ≡ self.now.attacks }
     {
         self.attacks
     }
 
-    /// How many moves the attacker has left.
+    /// Returns how many moves the attacker has left.
     pub(crate) fn left(&self) -> u8
         ensures { result ≡ self.now.left }
     {
@@ -90,7 +90,7 @@ impl<B: Board> Frame<B> {
         self.moves.is_some()
     }
 
-    /// The next move, if one is listed.
+    /// Returns the next move, if one is listed.
     pub(crate) fn first(&self) -> Option<Move<B>>
         ensures { result ≡ first_ahead self.now.ahead }
     {
@@ -100,7 +100,7 @@ impl<B: Board> Frame<B> {
         }
     }
 
-    /// Whether a line ends here: the moves are listed, and the defender has none.
+    /// Returns whether a line ends here: the moves are listed, and the defender has none.
     pub(crate) fn ends_line(&self) -> bool
         ensures { IsTrue result ↔ ((self.now.attacks ≡ false) × (first_ahead self.now.ahead ≡ None)) }
     {
@@ -136,7 +136,7 @@ impl<B: Board> Frame<B> {
     }
 }
 
-/// The first move after so many.
+/// Returns the first move after `passed` moves.
 fn first_at<B: Board>(list: &[Listed<B>], passed: usize) -> Option<Move<B>>
     ensures { result ≡ first_ahead (Some (drop passed (map (λ l. l.step) list.now))) }
 {

@@ -1,8 +1,6 @@
 //! The lines of a forced win, each once and in order.
 //!
-//! Begin with `Lister`, which gives one line at a time. `all_lines::all_lines` gives all at once; a token names a line.
-//!
-//! An example tells a position by its FEN text, on the board of ten rows if it names no other.
+//! Begin with `Lister`, which gives one line at a time. `all_lines::all_lines` gives all at once. A token names a line.
 #![tactic(auto)]
 
 pub mod all_lines;

@@ -17,7 +17,6 @@ use std::alloc::Global;
 
 /// The lines of a position in ascending order, each once, without a list of them. It borrows the solver that answers
 /// which moves keep a win.
-/// See [`Lister::next`] for an example.
 #[derive(Drop)]
 pub struct Lister<'a, B: Board, M: Memo<B>, G: Guide<B>> {
     solver: &'a mut Solver<B, M, G>,
@@ -39,9 +38,8 @@ impl<'a, B: Board, M: Memo<B>, G: Guide<B>> Lister<'a, B, M, G> {
     ghost use Rattle.dw_list.specs.contracts.lister.Lister.{the_row};
     ghost use Rattle.dw_list.specs.Lending.{LendsNext};
 
-    /// A lister of all lines in which the side to move wins within so many of its moves, 1 to 20. It searches nothing
+    /// Returns a lister of all lines in which the side to move wins within `moves` moves, 1 to 20. It does not search
     /// yet, and takes no memory.
-    /// See [`Lister::next`] for an example.
     pub fn start(
         solver: &'a mut Solver<B, M, G>,
         position: &Position<B>,
@@ -62,9 +60,8 @@ impl<'a, B: Board, M: Memo<B>, G: Guide<B>> Lister<'a, B, M, G> {
         }
     }
 
-    /// Goes on after a line: the lines still to come become those after it, and none of those before it is listed. If
-    /// the list is no line, or the search is stopped, the lines still to come are what they were.
-    /// Example: at `W:W27,32:B18`, within 2 moves, `32-28`, `18-22`, `28x17` comes after `32-28`, `18-22`, `27x18`.
+    /// Continues after a line: the lines still to come become those after it, and the earlier ones are not searched. If
+    /// the moves are no line, or the search is stopped, the lines still to come stay the same.
     pub fn after(&mut self, alloc: Global, line: &[Move<B>]) -> Result<(), AfterFault>
         ensures lender { lender self.new ≡ lender self.old }
         ensures after { OnOk result (IsAlong B.geometry (stack_of self.old).position (stack_of self.old).moves line.now
@@ -91,9 +88,8 @@ impl<'a, B: Board, M: Memo<B>, G: Guide<B>> Lister<'a, B, M, G> {
         }
     }
 
-    /// The next line, lent as it stands in the lister's own array, or `None` if no line is still to come. After a stop
-    /// the lines still to come are what they were, and the call can be made again.
-    /// Example: at `W:W28:B`, within 1 move, it gives the line `28-22`, then `28-23`, and then `None`.
+    /// Returns the next line, borrowed from the lister, or `None` if none is left. After a stop the lines still to come
+    /// are the same, and the call can be repeated.
     pub fn next(&mut self, alloc: Global) -> Result<Option<&[Move<B>]>, Stop>
         ensures few { IfOk result (λ given. IfSome given (λ line. length line.now ≤ 39)) }
         ensures* after { sem 𝓛 (follows_so
@@ -109,16 +105,14 @@ impl<'a, B: Board, M: Memo<B>, G: Guide<B>> Lister<'a, B, M, G> {
         }
     }
 
-    /// How many positions the solver has expanded so far.
-    /// Example: of a lister that borrows a new solver it is 0 at the start.
+    /// Returns how many positions the solver has expanded so far.
     pub fn expanded(&self) -> u64
         ensures { result ≡ (solver_of self.now).expanded }
     {
         self.solver.expanded()
     }
 
-    /// How many entries the solver's memo has lost so far.
-    /// Example: over a new memo it is 0 at the start.
+    /// Returns how many entries the solver's memo has lost so far.
     pub fn dropped(&self) -> u64
         ensures { result ≡ M.dropped (solver_of self.now).memo }
     {
@@ -126,7 +120,6 @@ impl<'a, B: Board, M: Memo<B>, G: Guide<B>> Lister<'a, B, M, G> {
     }
 
     /// Ends the listing, and gives the solver back.
-    /// Example: what the solver then says it expanded is what `expanded` said before.
     pub fn into_solver(self) -> &'a mut Solver<B, M, G>
         ensures lender { result.ghost_name ≡ lender self.entry }
         ensures solver { result.now ≡ solver_of self.entry }
@@ -135,8 +128,7 @@ impl<'a, B: Board, M: Memo<B>, G: Guide<B>> Lister<'a, B, M, G> {
         solver
     }
 
-    /// Changes the solver's limit. It is at least 1, and not below what was expanded.
-    /// Example: after `set_limit(2_000)` the solver may expand 2,000 positions in all.
+    /// Changes the solver's limit. It becomes at least 1, and at least the number of expanded positions.
     pub fn set_limit(&mut self, limit: u64)
         requires some { 1 ≤ limit }
         requires enough { (solver_of self.old).expanded ≤ limit }

@@ -8,8 +8,8 @@ use dw_memo::Memo;
 use dw_solve::{Guide, Solver, Stop};
 use std::alloc::Global;
 
-/// Whether lines go on with a legal move that leads to this position: with each of the defender's, and with each of the
-/// attacker's that keeps a win within the moves that he has left.
+/// Returns whether lines go on with a legal move that leads to this position: with each of the defender's, and with
+/// each of the attacker's that keeps a win within the moves that he has left.
 pub(crate) fn keeps<B: Board, M: Memo<B>, G: Guide<B>>(
     alloc: Global,
     solver: &mut Solver<B, M, G>,
@@ -28,7 +28,7 @@ pub(crate) fn keeps<B: Board, M: Memo<B>, G: Guide<B>>(
     solver.loses(alloc, after, left)
 }
 
-/// How many moves the attacker has left after a move.
+/// Returns how many moves the attacker has left after a move.
 pub(crate) fn left_behind(attacks: bool, moves: u8) -> u8
     ensures { result ≡ left_after attacks moves }
 {
@@ -39,7 +39,7 @@ pub(crate) fn left_behind(attacks: bool, moves: u8) -> u8
     }
 }
 
-/// Whether a side can have a move in a line: the attacker has none if he has no moves left.
+/// Returns whether a side can have a move in a line: the attacker has none if he has no moves left.
 pub(crate) fn may_move(attacks: bool, moves: u8) -> bool
     ensures { IsTrue result ↔ (IsTrue attacks → 1 ≤ moves) }
 {

@@ -14,7 +14,6 @@ use dw_solve::Guide;
 use std::alloc::Global;
 
 /// What a lister gave under a list of limits.
-/// See [`in_portions`] for an example.
 #[derive(Drop)]
 pub struct Portions<B: Board> {
     /// The lines, in order.
@@ -25,10 +24,8 @@ pub struct Portions<B: Board> {
     pub ends: usize,
 }
 
-/// Asks a lister for the next line once under each of these limits. A limit below 1 or below what was expanded is
-/// raised to that. Where there is no memory for one more line, the lister is not asked, and that counts as a stop.
-/// Afterwards the limit is that of the last turn.
-/// Example: at `W:W28:B`, within 1 move, three ample limits give the lines `28-22` and `28-23` and one end.
+/// Asks a lister for the next line once under each of these limits. A limit below 1, or below the number of expanded
+/// positions, is raised to it. A lack of memory for one more line counts as a stop. The last limit stays.
 pub fn in_portions<B: Board, M: Memo<B>, G: Guide<B>>(
     alloc: Global,
     lister: &mut Lister<'_, B, M, G>,
@@ -84,7 +81,7 @@ fn take_turn<B: Board, M: Memo<B>, G: Guide<B>>(
     }
 }
 
-/// A line in an array of its own.
+/// Returns a line in an array of its own.
 fn copied<B: Board>(line: &[Move<B>]) -> ArrayVec<Move<B>, MAX_MOVES>
     requires { length line.now ≤ 39 }
     ensures { result.items ≡ line.now }

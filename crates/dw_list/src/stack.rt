@@ -82,7 +82,7 @@ impl<B: Board> Stack<B> {
     ghost use Rattle.dw_list.specs.inner.Steps.{begun, passed_last};
     ghost use Rattle.dw_list.specs.inner.Tasks.{IsTask, IsCandidate, IsListed};
 
-    /// The stack of all lines of a position within so many moves.
+    /// Returns the stack of all lines of a position within `moves` moves.
     pub(crate) fn new(position: &Position<B>, moves: u8) -> Self
         requires some { 1 ≤ moves }
         requires few { moves ≤ 20 }
@@ -104,7 +104,7 @@ impl<B: Board> Stack<B> {
         }
     }
 
-    /// The levels of a stack are those of its line, and not too many: a law, which does nothing.
+    /// States that the levels of a stack are those of its line, and not too many. A law, which does nothing.
     #[inline]
     pub(crate) fn keeps_its_levels(&self)
         ensures levels { AreLevels B.geometry self.now.position self.now.moves self.now.levels self.now.line }
@@ -114,7 +114,7 @@ impl<B: Board> Stack<B> {
         let _ = &self.moves;
     }
 
-    /// Within how many moves the attacker wins.
+    /// Returns the number of moves within which the attacker wins.
     pub(crate) fn moves(&self) -> u8
         ensures moves { result ≡ self.now.moves }
         ensures some { 1 ≤ result }
@@ -123,14 +123,14 @@ impl<B: Board> Stack<B> {
         self.moves
     }
 
-    /// The position whose lines these are.
+    /// Returns the position whose lines these are.
     pub(crate) fn position(&self) -> &Position<B>
         ensures { result.now ≡ self.now.position }
     {
         &self.position
     }
 
-    /// The line at which the stack stands.
+    /// Returns the line at which the stack stands.
     pub(crate) fn line(&self) -> &[Move<B>]
         ensures line { result.now ≡ reverse self.now.line }
         ensures few { length result.now ≤ 39 }
@@ -138,7 +138,7 @@ impl<B: Board> Stack<B> {
         self.line.as_slice()
     }
 
-    /// What is to be done next.
+    /// Returns the next step.
     pub(crate) fn task(&self) -> Task<B>
         ensures { IsTask B.geometry self.now.levels result }
     {
@@ -213,7 +213,7 @@ impl<B: Board> Stack<B> {
     }
 }
 
-/// A frame whose moves are not listed: one of the spare frames, or else a new one.
+/// Returns a frame whose moves are not listed: one of the spare frames, or else a new one.
 fn frame_at<B: Board>(
     spare: &mut ArrayVec<Frame<B>, LEVELS>,
     position: Position<B>,
@@ -248,7 +248,7 @@ fn leave_last<B: Board>(
     }
 }
 
-/// The position after a move of a level, and whose the move is.
+/// Returns the position after a move of a level, and whose the move is.
 fn candidate_of<B: Board>(frame: &Frame<B>, mv: Move<B>) -> Candidate<B>
     requires { Legal B.geometry frame.now.position mv }
     ensures mv { result.mv ≡ mv }

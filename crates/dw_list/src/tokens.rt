@@ -23,11 +23,9 @@ const MOVE_BYTES: usize = 10;
 const MAX_BYTES: usize = 3 + MAX_MOVES * MOVE_BYTES;
 
 /// The most digits of a token.
-/// Example: a token of 39 moves has so many, and one of 1 move has 26.
 pub const MAX_DIGITS: usize = 2 * MAX_BYTES;
 
 /// Why a text is no token. Its number is that of the variant, from 1 on.
-/// Example: the fault of `0g` is `TokenFault::NotHex`, whose number is 1.
 #[derive(Clone, Copy, Debug, PartialEq, Eq, Error)]
 pub enum TokenFault {
     /// An odd number of digits, or a byte that is no digit.
@@ -36,13 +34,13 @@ pub enum TokenFault {
     /// The first byte is no version.
     #[error("version")]
     Version,
-    /// Too many digits, no bytes, no number of moves or a wrong one, or not as many bytes as it asks for.
+    /// Too many digits, no bytes, a missing or wrong number of moves, or another number of bytes than it needs.
     #[error("length")]
     Length,
     /// A move begins or ends at no square of the board.
     #[error("square")]
     Square,
-    /// A move takes what is no square of the board.
+    /// A move takes a piece on a square that the board does not have.
     #[error("taken")]
     Taken,
     /// The token is not for this board, or names none.
@@ -56,7 +54,6 @@ pub enum TokenFault {
 /// # Errors
 ///
 /// The sink failed; it has taken a beginning of the token.
-/// Example: on ten rows it writes `020a0120170000000008000000` of `32x23`, which takes 28.
 pub fn write_token<B: Board, K: Sink>(line: &[Move<B>], sink: &mut K) -> Result<(), WriteFault>
     requires odd { length line.now % 2 ≡ 1 }
     requires most { length line.now ≤ 39 }
@@ -77,7 +74,7 @@ pub fn write_token<B: Board, K: Sink>(line: &[Move<B>], sink: &mut K) -> Result<
     write_all(sink, digits)
 }
 
-/// The bytes of a line.
+/// Returns the bytes of a line.
 fn bytes_of<B: Board>(line: &[Move<B>]) -> ArrayVec<u8, MAX_BYTES>
     requires { length line.now ≤ 39 }
     ensures { result.items ≡ tokens.line_bytes B.geometry line.now }
@@ -106,7 +103,7 @@ fn push_move<B: Board>(bytes: &mut ArrayVec<u8, MAX_BYTES>, mv: &Move<B>)
     }
 }
 
-/// The square behind so many others.
+/// Returns the square at an index from 0.
 fn square_behind<B: Board>(index: u8) -> Square<B>
     requires { index < squares B.geometry }
     ensures { result ≡ index + 1 }
@@ -117,7 +114,7 @@ fn square_behind<B: Board>(index: u8) -> Square<B>
     square
 }
 
-/// The number whose bit `s - 1` is set for each square s of a set.
+/// Returns the number whose bit `s - 1` is set for each square s of a set.
 fn number_of<B: Board>(taken: Squares<B>) -> u64
     ensures { result ≡ tokens.number_of B.geometry taken }
 {
@@ -136,7 +133,6 @@ fn number_of<B: Board>(taken: Squares<B>) -> u64
 ///
 /// In this order: too long; no hexadecimal text; no byte; no version; another board; a wrong number of moves or of
 /// bytes; and move by move a start or an end that is no square, and then a taken square that is none.
-/// Example: `read_token::<Eight>(b"020a0120170000000008000000")` is `Err(TokenFault::Board)`.
 pub fn read_token<B: Board>(text: &[u8]) -> Result<ArrayVec<Move<B>, MAX_MOVES>, TokenFault>
     ensures token { (line : List AnyMove) → tokens.IsToken B.geometry text.now line ↔
         MatchResult result (λ read. read.items ≡ line) (λ _. ⊥) }
@@ -170,7 +166,7 @@ fn read_bytes<B: Board>(bytes: &[u8]) -> Result<ArrayVec<Move<B>, MAX_MOVES>, To
     }
 }
 
-/// Reads what follows the byte of version 2.
+/// Reads the bytes after that of version 2.
 fn read_version_2<B: Board>(bytes: &[u8]) -> Result<ArrayVec<Move<B>, MAX_MOVES>, TokenFault>
     ensures { MatchResult result
         (λ line. tokens.IsVersion2 B.geometry line.items (2 ∷ bytes.now))
@@ -203,14 +199,14 @@ fn read_counted<B: Board>(bytes: &[u8]) -> Result<ArrayVec<Move<B>, MAX_MOVES>, 
     }
 }
 
-/// Whether a byte names the board, by its rows.
+/// Returns whether a byte names the board, by its rows.
 fn names_board<B: Board>(rows: u8) -> bool
     ensures { result ≡ tokens.names_board B.geometry rows }
 {
     (rows == 10 || rows == 8) && rows == B::ROWS
 }
 
-/// Whether so many bytes are an odd number of moves, at most 39.
+/// Returns whether this number of bytes is an odd number of moves, at most 39.
 fn are_moves(count: usize, bytes: usize) -> bool
     requires { count < 256 }
     ensures { result ≡ tokens.are_moves count bytes }
@@ -218,7 +214,7 @@ fn are_moves(count: usize, bytes: usize) -> bool
     count % 2 == 1 && count <= MAX_MOVES && bytes == MOVE_BYTES * count
 }
 
-/// Reads so many moves.
+/// Reads `count` moves.
 fn read_moves<B: Board>(
     count: usize,
     bytes: &[u8],
@@ -262,7 +258,7 @@ fn read_move<B: Board>(bytes: &[u8]) -> Result<Move<B>, TokenFault>
     Ok(Move { from, to, taken })
 }
 
-/// The number that the bytes of a move hold, after its two squares.
+/// Returns the number that the bytes of a move hold, after its two squares.
 fn number_in(bytes: &[u8]) -> u64
     requires { length bytes.now ≡ 10 }
     ensures { result ≡ tokens.number_in bytes.now }
@@ -273,7 +269,7 @@ fn number_in(bytes: &[u8]) -> u64
     u64::from_be_bytes(eight)
 }
 
-/// The set of the squares s whose bit `s - 1` is set, or `None` if a bit is set for no square.
+/// Returns the set of the squares s whose bit `s - 1` is set, or `None` if a bit is set for no square.
 fn taken_of<B: Board>(number: u64) -> Option<Squares<B>>
     ensures { MatchOption result
         (2 ^ squares B.geometry ≤ number)

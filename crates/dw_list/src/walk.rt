@@ -22,7 +22,7 @@ pub(crate) enum Step {
     On,
 }
 
-/// Walks to the next line, and answers whether there is one. After a stop the lines still to come are what they were.
+/// Walks to the next line, and returns whether there is one. After a stop the lines still to come are the same.
 pub(crate) fn walk<B: Board, M: Memo<B>, G: Guide<B>>(
     alloc: Global,
     solver: &mut Solver<B, M, G>,
@@ -85,7 +85,7 @@ fn take_step<B: Board, M: Memo<B>, G: Guide<B>>(
     }
 }
 
-/// What is met once the moves of a level are listed.
+/// Returns the result of listing the moves of a level.
 fn listed_step(is_end: bool) -> Step
     ensures { result ≡ (if is_end then Step.Given else Step.On) }
 {

@@ -16,7 +16,7 @@ fails_decide (Some f) n = nat_le n f
 abbrev pub decides : Bounds → ℕ → Bool
 decides b n = wins_decide b.wins n || fails_decide b.fails n
 
--- what they say: a win, no win, or nothing
+-- the answer of bounds: a win, no win, or nothing
 abbrev pub decided : Bounds → ℕ → Option Bool
 decided b n = cond (wins_decide b.wins n) (Some true) (cond (fails_decide b.fails n) (Some false) None)
 

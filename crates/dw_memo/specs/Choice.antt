@@ -1,4 +1,4 @@
--- What a memo whose kind is chosen holds and has lost: what the memo does that was chosen.
+-- The content and the losses of a memo whose kind is chosen: those of the chosen memo.
 use Rattle.std.specs.Prelude.{ℕ, []}
 use Rattle.dw_memo.specs.Content.{Content}
 use Rattle.dw_memo.specs.declared.any_memo.AnyMemo.{AnyMemo}

@@ -4,7 +4,7 @@ use Rattle.dw_board.specs.Lists.{Member, NoRepeat}
 use Rattle.dw_board.specs.Placement.{Placement}
 use Rattle.dw_memo.specs.declared.bounds.Bounds.{Bounds}
 
--- what is known of a position: what stands on the board and whose turn it is, and the bounds
+-- an entry: a position with its side to move, and its bounds
 pub record Entry : Type 0 where
   pub position : Placement
   pub bounds : Bounds
@@ -31,7 +31,7 @@ SameEntries c d = (e : Entry) → Member e c ↔ Member e d
 abbrev pub MayForget : Content → Content → Type 0
 MayForget old new = SameEntries old new ⊎ (new ≡ [])
 
--- what is found for a position: its bounds, or that it isn't there
+-- the bounds of a position, or nothing if it is missing
 abbrev pub IsFound : Content → Placement → Option Bounds → Type 0
 IsFound c p (Some b) = Member (entry p b) c
 IsFound c p None = Member p (positions c) → ⊥

@@ -11,7 +11,6 @@ use crate::slot_memo::SlotMemo;
 use dw_board::{Board, Position};
 
 /// One of the four kinds. What is built over it is compiled once, and not once for each kind.
-/// Example: `AnyMemo::<Ten>::Slots(SlotMemo::new(alloc, 1)?)` does what that memo does.
 #[derive(Drop)]
 pub enum AnyMemo<B: Board> {
     None(NoMemo),

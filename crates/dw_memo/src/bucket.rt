@@ -27,11 +27,11 @@ pub(crate) trait Bucket<B: Board>: Copy {
 
     ghost may_answer: { Noted → Type 0 };
 
-    /// A bucket in which nothing stands.
+    /// Returns a bucket in which nothing stands.
     fn empty() -> Self
         ensures { entries result ≡ [] };
 
-    /// The bounds of a position, or `None` if it does not stand there.
+    /// Returns the bounds of a position, or `None` if it does not stand there.
     fn look(&self, position: &Position<B>) -> Option<Bounds>
         ensures { IsFound (entries self.now) position.now result };
 
@@ -41,12 +41,12 @@ pub(crate) trait Bucket<B: Board>: Copy {
         ensures answer { may_answer result.noted }
         ensures note { IsNote (entries self.old) position.now bounds result.noted (entries self.new) 0 result.lost };
 
-    /// The bucket in two: what belongs into the given bucket among so many, and what does not.
+    /// Splits the bucket in two: the entries of the given bucket among `buckets` buckets, and the others.
     fn split(&self, index: usize, buckets: usize) -> (Self, Self)
         requires some { 1 ≤ buckets }
         requires map { IsMap (entries self.now) }
         ensures { IsSplit B.geometry buckets index (entries self.now) (entries result.0) (entries result.1) };
 
-    /// Whether a table of so many buckets, to which so much came that counts, loses too much.
+    /// Returns whether a table of `buckets` buckets loses too much, after this number of counted entries.
     fn is_crowded(buckets: usize, counted: usize) -> bool;
 }

@@ -9,15 +9,12 @@ use dw_board::{Board, Position};
 use std::alloc::{AllocError, Global};
 use std::marker::Model;
 
-/// A table of pairs of places. A position that is noted takes a free place of its pair. If there is none, it pushes out
-/// the one of which less is known: bounds that tell of more moves took longer to find. Bounds that tell of one move
-/// alone push out none that tells of more, and are not kept then. What stands beside newer entries long enough counts
-/// for less and less.
+/// A table of pairs of places. A new position takes a free place of its pair. If both are taken, it replaces the one
+/// with shallower bounds, because bounds on more moves took longer to find. A one-move result never replaces a deeper
+/// one, and is not stored then. Old entries beside newer ones lose value.
 ///
-/// A large table begins with fewer pairs, as a [`SlotMemo`](crate::slot_memo::SlotMemo) does with slots. If it is told
-/// to forget and has grown, it holds nothing, and has few pairs again: what is known of other problems would be in the
-/// way.
-/// Example: of two places, it holds the two positions that were noted first, until more is known of a third.
+/// A large table starts small, as a [`SlotMemo`](crate::slot_memo::SlotMemo) does. When told to forget, a table that
+/// has grown becomes empty and small again, because results of other problems would be in the way.
 #[derive(Drop)]
 pub struct DeepMemo<B: Board> {
     table: Table<B, Pair<B>>,
@@ -32,9 +29,8 @@ impl<B: Board> Model for DeepMemo<B> {
 }
 
 impl<B: Board> DeepMemo<B> {
-    /// An empty memo of so many places, 1 to 4,000,000, or of one more if the number is odd; or an error if out of
-    /// memory. No memory is taken later.
-    /// Example: `DeepMemo::<Ten>::new(alloc, 1)` has two places, in which nothing stands yet.
+    /// Returns an empty memo of 1 to 4,000,000 places, rounded up to an even number, or an error if out of memory. It
+    /// takes no memory later.
     pub fn new(alloc: Global, places: usize) -> Result<Self, AllocError>
         requires some { 1 ≤ places }
         requires most { places ≤ 4_000_000 }

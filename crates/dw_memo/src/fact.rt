@@ -6,7 +6,7 @@ ghost use Rattle.dw_memo.specs.inner.Pairs as of;
 
 use crate::bounds::Bounds;
 
-/// So much age takes a move of what a fact is worth.
+/// The age that reduces the value of a fact by one move.
 const AGE_OF_A_MOVE: u8 = 16;
 
 /// What is known of a position, and how old it is, up to 255: how many facts of two moves or more came into the other
@@ -18,7 +18,7 @@ pub(crate) struct Fact {
 }
 
 impl Fact {
-    /// A new fact.
+    /// Returns a new fact.
     #[inline]
     pub(crate) fn new(bounds: Bounds) -> Self
         ensures { result ≡ record { bounds = bounds; age = 0 } }
@@ -26,7 +26,7 @@ impl Fact {
         Fact { bounds, age: 0 }
     }
 
-    /// The fact when it is older by one.
+    /// Returns the fact when it is older by one.
     #[inline]
     pub(crate) fn older(self) -> Self
         ensures { result ≡ record self { age = min (self.age + 1) 255 } }
@@ -37,7 +37,7 @@ impl Fact {
         }
     }
 
-    /// The moves of which its bounds tell, less one for each sixteen that it has aged.
+    /// Returns the value: the moves that its bounds decide, less one for each sixteen of age.
     #[inline]
     pub(crate) fn worth(self) -> u8
         ensures { result ≡ of.fact_worth self }
@@ -45,7 +45,7 @@ impl Fact {
         self.bounds.depth().saturating_sub(self.age / AGE_OF_A_MOVE)
     }
 
-    /// How often it may still live on: as often as the moves of which its bounds tell, less its age.
+    /// Returns its remaining lives: the moves that its bounds decide, less its age.
     #[inline]
     pub(crate) fn lives(self) -> u8
         ensures { result ≡ depth self.bounds - self.age }
@@ -54,7 +54,7 @@ impl Fact {
     }
 }
 
-/// The bounds of a fact, if there is one.
+/// Returns the bounds of a fact, if there is one.
 #[inline]
 pub(crate) fn bounds_of(fact: Option<Fact>) -> Option<Bounds>
     ensures { result ≡ option_map (λ f. f.bounds) fact }

@@ -11,8 +11,7 @@ use std::alloc::AllocError;
 /// A table of more buckets than this begins with half of them, a quarter or less, rounded down.
 pub(crate) const FEW: usize = 2048;
 
-/// How many buckets a table begins with that may have so many. Doubled as often as it can be, it has nearly all of
-/// them.
+/// Returns the first number of buckets of a table that may have `most`. Repeated doubling reaches nearly all of them.
 pub(crate) fn first_size(most: usize) -> usize
     requires { 1 ≤ most }
     ensures some { 1 ≤ result }
@@ -58,7 +57,7 @@ fn double<B: Board, T: Bucket<B>>(buckets: &mut Vec<T>)
     }
 }
 
-/// Puts so many empty buckets behind those of a table. If memory is refused, all is as it was.
+/// Appends `count` empty buckets to a table. If memory is refused, nothing changes.
 pub(crate) fn widen<B: Board, T: Bucket<B>>(
     buckets: &mut Vec<T>,
     count: usize,
@@ -89,7 +88,7 @@ pub(crate) fn clear<B: Board, T: Bucket<B>>(buckets: &mut Vec<T>)
     }
 }
 
-/// Splits a bucket, of a table that had so many, into the two that take its place among twice as many.
+/// Splits a bucket into the two that replace it in a table of double size.
 fn bring_home<B: Board, T: Bucket<B>>(buckets: &mut Vec<T>, index: usize, size: usize)
     requires inside { index < size }
     requires all { length buckets.old.items ≡ 2 * size }

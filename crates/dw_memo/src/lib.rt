@@ -1,10 +1,7 @@
-//! Memos, caches of what is known of positions: in how many moves the side to move wins, and in how many not.
+//! Memos: caches of the numbers of moves in which the side to move wins or does not win.
 //!
-//! A caller works over the trait `Memo` and uses only its clauses: a memo may lose what was noted, and counts it.
-//! Begin with `Memo` and `Bounds`. `NoMemo`, `LruMemo`, `SlotMemo` and `DeepMemo` are memos, and `AnyMemo` is one of
-//! them.
-//!
-//! An example tells a position by its FEN text, on the board of ten rows if it names no other.
+//! Callers use the trait `Memo` and its clauses only: a memo may lose entries, and counts them. Begin with `Memo` and
+//! `Bounds`. `NoMemo`, `LruMemo`, `SlotMemo` and `DeepMemo` are memos, and `AnyMemo` is one of them.
 #![tactic(auto)]
 
 pub mod any_memo;

@@ -1,4 +1,4 @@
-//! A memo that forgets what was used longest ago, or what is soon found again.
+//! A memo that gives up the entries that were used longest ago, and one-move results.
 ghost use Rattle.std.specs.Prelude.{◌≡◌, ◌≤◌, [], IfOk, Some, ⊤, false};
 ghost use Rattle.lru.specs.LruCache.{last_entry};
 ghost use Rattle.dw_board.specs.Lists.{Member};
@@ -15,11 +15,10 @@ use std::alloc::{AllocError, Global};
 use std::marker::Model;
 use std::num::NonZeroUsize;
 
-/// Holds at most so many positions. If it is full, a new one pushes out that which was looked up or noted longest ago.
-/// But that one lives on if it has more lives left than the new one has: as many as the moves of which its bounds tell,
-/// and one less each time. If the next one lives on too, the new one is not kept. Nor is one whose bounds tell of one
-/// move alone: they are soon found again.
-/// Example: with room for two positions, three that fail in 2 moves leave the second and the third.
+/// A memo of a fixed number of positions. If it is full, a new position replaces the one that was used longest ago. But
+/// an old entry lives on if it has more lives left than the new one: it has one for each move that its bounds decide,
+/// and loses one each time. If the next entry lives on too, the new one is not stored. One-move results are never
+/// stored in a full memo.
 #[derive(Drop)]
 pub struct LruMemo<B: Board> {
     cache: LruCache<Position<B>, Fact>,
@@ -38,8 +37,7 @@ impl<B: Board> Model for LruMemo<B> {
 }
 
 impl<B: Board> LruMemo<B> {
-    /// An empty memo of so many positions, 1 to 4,000,000, or an error if out of memory.
-    /// Example: `LruMemo::<Ten>::new(alloc, 2)` has room for two positions, and holds none yet.
+    /// Returns an empty memo of 1 to 4,000,000 positions, or an error if out of memory.
     pub fn new(alloc: Global, capacity: usize) -> Result<Self, AllocError>
         requires some { 1 ≤ capacity }
         requires most { capacity ≤ 4_000_000 }
@@ -94,14 +92,14 @@ fn push<B: Board>(
         return (Noted::NotKept, 1);
     }
     match cache.push(position, Fact::new(bounds)) {
-        // Either what this position had comes back, or what was pushed out.
+        // The former bounds of this position, or the entry that was replaced.
         Ok(Some((other, _))) => (Noted::Kept, u64::from(other != position)),
         Ok(None) => (Noted::Kept, 0),
         Err(_) => (Noted::NotKept, 1),
     }
 }
 
-/// Whether a position has a place in a cache, or gets one if its bounds tell of so many moves.
+/// Returns whether a position has a place in a cache, or gets one for bounds of this depth.
 fn has_place<B: Board>(
     cache: &mut LruCache<Position<B>, Fact>,
     position: &Position<B>,
@@ -118,7 +116,7 @@ fn has_place<B: Board>(
     gives_way(cache, depth)
 }
 
-/// Whether a full cache gives up the entry that was used longest ago, for bounds that tell of so many moves.
+/// Returns whether a full cache gives up its oldest entry for bounds of this depth.
 fn gives_way<B: Board>(cache: &mut LruCache<Position<B>, Fact>, depth: u8) -> bool
     requires { IsRecent cache.old.entries cache.old.cap }
     ensures recent { IsRecent cache.new.entries cache.new.cap }
@@ -133,7 +131,7 @@ fn gives_way<B: Board>(cache: &mut LruCache<Position<B>, Fact>, depth: u8) -> bo
     !lives_on(cache, depth)
 }
 
-/// Whether the entry that was used longest ago has more lives than so many. Then it is used again, and has one less.
+/// Returns whether the oldest entry has more lives than the given number. It then moves to the front and loses one.
 fn lives_on<B: Board>(cache: &mut LruCache<Position<B>, Fact>, lives: u8) -> bool
     requires { IsRecent cache.old.entries cache.old.cap }
     ensures recent { IsRecent cache.new.entries cache.new.cap }
@@ -165,7 +163,7 @@ fn use_again<B: Board>(
     }
 }
 
-/// The position that was used longest ago, and what is known of it.
+/// Returns the position that was used longest ago, and its bounds.
 fn oldest<B: Board>(cache: &LruCache<Position<B>, Fact>) -> Option<(Position<B>, Fact)>
     ensures { result ≡ last_entry cache.now.entries }
 {

@@ -7,17 +7,15 @@ use crate::bounds::Bounds;
 use dw_board::{Board, Position};
 
 /// Whether a note was kept.
-/// Example: a `NoMemo` answers each note with `Noted::NotKept`, and a `SlotMemo` with `Noted::Kept`.
 #[derive(Clone, Copy, Debug, PartialEq, Eq)]
 pub enum Noted {
     Kept,
     NotKept,
 }
 
-/// A map from positions to bounds that may forget. It counts what it forgets.
+/// A map from positions to bounds that may forget. It counts the entries that it forgets.
 ///
-/// In contracts `content` is the map, `dropped` the count, and `may_answer` tells which answers a note can give.
-/// See [`NoMemo`] for an example.
+/// In contracts, `content` is the map, `dropped` is the count, and `may_answer` states which answers a note can give.
 pub trait Memo<B: Board> {
     ghost use Rattle.dw_memo.specs.declared.memo.Noted.{Noted};
 
@@ -27,8 +25,7 @@ pub trait Memo<B: Board> {
 
     ghost may_answer: { Noted → Type 0 };
 
-    /// The bounds of a position, the side to move included, or `None` if it is not held.
-    /// Example: in a new memo it is `None` for each position.
+    /// Returns the bounds of a position, the side to move included, or `None` if it is not held.
     fn look(&mut self, position: &Position<B>) -> Option<Bounds>
         ensures map { IsMap (content self.old) }
         ensures found { IsFound (content self.old) position.now result }
@@ -36,9 +33,8 @@ pub trait Memo<B: Board> {
         ensures same { SameEntries (content self.old) (content self.new) }
         ensures dropped { dropped self.new ≡ dropped self.old };
 
-    /// Holds these bounds for a position, in place of those that it had. Entries may be lost by it, the given one too,
-    /// and each of them is counted. This is what a memo has to bring; callers have it as `note`.
-    /// See [`Memo::note`] for an example.
+    /// Stores these bounds for a position in place of earlier ones. Entries may get lost, the new one too, and each is
+    /// counted. Implementors write this method; callers use `note`.
     fn put(&mut self, position: &Position<B>, bounds: Bounds) -> Noted
         ensures answer { may_answer result }
         ensures note { IsNote (content self.old) position.now bounds result (content self.new) (dropped self.old)
@@ -47,7 +43,6 @@ pub trait Memo<B: Board> {
     /// Leaves out bounds that tell of one move alone, which are then neither looked up nor noted, and counts one entry
     /// as not kept. Or it answers `false`, and does nothing. Once a memo has lost something, to find such bounds again
     /// takes less time than to look them up.
-    /// Example: of a new memo it is `false`, and so of an `LruMemo` until something was pushed out of it, or not kept.
     fn skip_one_move(&mut self) -> bool
         ensures map { IsMap (content self.old) }
         ensures map_after { IsMap (content self.new) }
@@ -60,9 +55,8 @@ pub trait Memo<B: Board> {
         false
     }
 
-    /// Tells that what is asked next has little to do with what was asked before. A memo may give up all entries then,
-    /// if it is quicker without them; they do not count as lost. Most keep theirs.
-    /// Example: after it an `LruMemo` holds what it held before, and a `DeepMemo` nothing, if its table had grown.
+    /// Announces that the next questions have little to do with the earlier ones. A memo may drop all entries then, if
+    /// it is faster without them. They do not count as lost. Most memos keep theirs.
     fn forget(&mut self)
         ensures map { IsMap (content self.old) }
         ensures map_after { IsMap (content self.new) }
@@ -73,14 +67,12 @@ pub trait Memo<B: Board> {
         let _ = self.dropped();
     }
 
-    /// How many entries were lost or not kept so far; from `u64::MAX` on it stays the same.
-    /// Example: of a new memo it is 0.
+    /// Returns how many entries were lost or not kept so far; from `u64::MAX` on it stays the same.
     fn dropped(&self) -> u64
         ensures map { IsMap (content self.now) }
         ensures count { result ≡ dropped self.now };
 
     /// A position stands in a memo once: a law, which does nothing.
-    /// Example: of a new memo it says that no position stands there twice.
     final fn keeps_its_map(&self)
         ensures { IsMap (content self.now) }
     {
@@ -89,7 +81,6 @@ pub trait Memo<B: Board> {
 
     /// Holds these bounds for a position, in place of those that it had. Entries may be lost by it, the given one too,
     /// and each of them is counted.
-    /// Example: after the answer `Noted::Kept`, to look up the position gives these bounds.
     final fn note(&mut self, position: Position<B>, bounds: Bounds) -> Noted
         ensures answer { may_answer result }
         ensures note { IsNote (content self.old) position bounds result (content self.new) (dropped self.old)

@@ -7,8 +7,7 @@ use crate::memo::{Memo, Noted};
 use dw_board::{Board, Position};
 use std::marker::Model;
 
-/// Keeps nothing, and counts what it was given.
-/// Example: after two notes it has dropped 2, and to look up gives `None` as before.
+/// Stores nothing, and counts the notes.
 #[derive(Drop)]
 pub struct NoMemo {
     dropped: u64,
@@ -23,8 +22,7 @@ impl Model for NoMemo {
 }
 
 impl NoMemo {
-    /// A memo that was given nothing yet.
-    /// Example: `Memo::<Ten>::dropped(&NoMemo::new())` is 0.
+    /// Returns a memo that was given nothing yet.
     pub fn new() -> Self
         ensures { result ≡ 0 }
     {

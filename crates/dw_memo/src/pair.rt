@@ -1,4 +1,4 @@
-//! Two places side by side, a bucket that holds on to what tells of more moves.
+//! A bucket of two places that prefers deeper bounds.
 ghost use Rattle.std.specs.Prelude.{◌≡◌, ◌<◌, ◌≤◌, None, ⊤};
 ghost use Rattle.dw_memo.specs.Content.{IsMap};
 ghost use Rattle.dw_memo.specs.Noting.{IsNote};
@@ -13,16 +13,15 @@ use crate::memo::Noted;
 use crate::slot::Slot;
 use dw_board::{Board, Position};
 
-/// What a place is worth whose fact is fresh and tells of one move.
+/// The value of a place with a fresh one-move result.
 const LITTLE: u16 = 2;
 
-/// A table doubles when so many facts of two moves or more came to it for each of its pairs.
+/// A table doubles after this number of facts of two moves or more for each pair.
 const PER_PAIR: usize = 4;
 
-/// Two places for positions with what is known of them. If both are taken, a new position gets that which is worth
-/// less; but bounds that tell of one move alone get none of a fact that is worth more. A fact that tells of two moves
-/// or more makes the one beside it older, and so worth less: else a table in which many problems are solved would keep
-/// what it learnt of the first.
+/// Two places for positions with their bounds. If both are taken, a new position replaces the one of less value; but a
+/// one-move result never replaces a more valuable fact. A fact of two moves or more ages its neighbour. Otherwise a
+/// table would keep the results of its first problem for ever.
 #[derive(Clone, Copy)]
 pub(crate) struct Pair<B: Board> {
     pub(crate) first: Slot<B>,
@@ -30,7 +29,7 @@ pub(crate) struct Pair<B: Board> {
 }
 
 impl<B: Board> Pair<B> {
-    /// Puts the bounds of a position there, in place of those that it had, or of what is worth less.
+    /// Stores the bounds of a position, in place of its earlier bounds or of the less valuable entry.
     #[inline]
     fn place(&mut self, position: &Position<B>, bounds: Bounds) -> Entered
         requires { IsMap (pair_entries self.old) }

@@ -14,11 +14,11 @@ use dw_board::{Board, Packed, Position, Side};
 use std::alloc::AllocError;
 use std::marker::Model;
 
-/// A table is crowded if less than one of so many of its places is free.
+/// A table is crowded if less than one in this number of its places is free.
 const PER_FREE: usize = 16;
 
-/// A position with what is known of it, or nothing: then there is no fact, and the position is that of the board
-/// without a piece. It takes 32 bytes: the position is kept as three sets and the side to move.
+/// A position with its bounds, or nothing: then there is no fact, and the position is the empty board. It takes 32
+/// bytes: three sets and the side to move.
 #[derive(Copy)]
 pub(crate) struct Slot<B: Board> {
     pieces: Packed<B>,
@@ -53,7 +53,7 @@ impl<B: Board> Model for Slot<B> {
     } };
 }
 
-/// By hand: a derived `clone` tells of fields, and this one that the same stands there.
+/// Written by hand: a derived `clone` would state equal fields, this one states the same content.
 impl<B: Board> Clone for Slot<B> {
     ghost is_clone = { λ slot clone. clone ≡ slot };
 
@@ -66,7 +66,7 @@ impl<B: Board> Clone for Slot<B> {
 }
 
 impl<B: Board> Slot<B> {
-    /// A slot in which nothing stands.
+    /// Returns a slot in which nothing stands.
     pub(crate) fn vacant() -> Self
         ensures { result ≡ None }
     {
@@ -77,7 +77,7 @@ impl<B: Board> Slot<B> {
         }
     }
 
-    /// A slot with a position and what is known of it.
+    /// Returns a slot with a position and its bounds.
     #[inline]
     pub(crate) fn with(position: &Position<B>, fact: Fact) -> Self
         ensures { result ≡ Some (position.now, fact) }
@@ -89,7 +89,7 @@ impl<B: Board> Slot<B> {
         }
     }
 
-    /// What stands there.
+    /// Returns the content of the slot.
     #[inline]
     pub(crate) fn entry(&self) -> Option<(Position<B>, Fact)>
         ensures { result ≡ self.now }
@@ -98,7 +98,7 @@ impl<B: Board> Slot<B> {
         Some((Position::unpack(&self.pieces, self.turn), fact))
     }
 
-    /// Whether nothing stands there.
+    /// Returns whether nothing stands there.
     #[inline]
     pub(crate) fn is_free(&self) -> bool
         ensures { result ≡ not (is_some self.now) }
@@ -106,7 +106,7 @@ impl<B: Board> Slot<B> {
         self.fact.is_none()
     }
 
-    /// The bounds of a position, if it stands there and not another one.
+    /// Returns the bounds of a position, if it stands there and not another one.
     #[inline]
     pub(crate) fn bounds_of(&self, position: &Position<B>) -> Option<Bounds>
         ensures { result ≡ bounds_in self.now position.now }
@@ -118,7 +118,7 @@ impl<B: Board> Slot<B> {
         }
     }
 
-    /// Whether a position stands there.
+    /// Returns whether a position stands there.
     #[inline]
     pub(crate) fn holds(&self, position: &Position<B>) -> bool
         ensures { result ≡ is_some (bounds_in self.now position.now) }
@@ -126,7 +126,7 @@ impl<B: Board> Slot<B> {
         self.bounds_of(position).is_some()
     }
 
-    /// What it is worth: one more than the fact there, and 0 if it is free.
+    /// Returns its value: one more than the depth of its fact, and 0 if it is free.
     #[inline]
     pub(crate) fn worth(&self) -> u16
         ensures { result ≡ worth self.now }
@@ -137,7 +137,7 @@ impl<B: Board> Slot<B> {
         }
     }
 
-    /// The slot when the fact there is older by one.
+    /// Returns the slot when the fact there is older by one.
     #[inline]
     pub(crate) fn older(&self) -> Self
         ensures { standing result ≡ standing self.now }
@@ -148,7 +148,7 @@ impl<B: Board> Slot<B> {
         }
     }
 
-    /// How many entries are lost when a position comes into the slot.
+    /// Returns how many entries are lost when a position comes into the slot.
     #[inline]
     pub(crate) fn lost(&self, position: &Position<B>) -> u64
         ensures { result ≡ lost self.now position.now }
@@ -156,7 +156,7 @@ impl<B: Board> Slot<B> {
         u64::from(self.fact.is_some() && !self.keeps(position))
     }
 
-    /// Whether the position that it keeps is this one.
+    /// Returns whether the position that it keeps is this one.
     #[inline]
     fn keeps(&self, position: &Position<B>) -> bool
         ensures { IsTrue result ↔ (kept_position self.now ≡ position.now) }
@@ -202,8 +202,8 @@ impl<B: Board> Bucket<B> for Slot<B> {
         }
     }
 
-    /// Each slot counts that is filled, and all but a sixteenth are. A larger table would lose less, and be slower for
-    /// all that: much of what stands in it belongs to problems that are done.
+    /// Returns whether all but a sixteenth of the slots are filled. A larger table would lose less but be slower,
+    /// because most of its entries belong to finished problems.
     fn is_crowded(buckets: usize, counted: usize) -> bool {
         buckets - buckets / PER_FREE < counted
     }

@@ -15,7 +15,6 @@ use std::marker::Model;
 ///
 /// A large table begins with fewer slots, which the processor's caches can hold. When nearly all of them hold a
 /// position it doubles, and loses nothing by it, until it has nearly all that it may have.
-/// Example: of one slot, it holds the position that was noted last, and no other.
 #[derive(Drop)]
 pub struct SlotMemo<B: Board> {
     table: Table<B, Slot<B>>,
@@ -30,8 +29,7 @@ impl<B: Board> Model for SlotMemo<B> {
 }
 
 impl<B: Board> SlotMemo<B> {
-    /// An empty memo of so many slots, 1 to 4,000,000, or an error if out of memory. No memory is taken later.
-    /// Example: `SlotMemo::<Ten>::new(alloc, 1)` has one slot, in which nothing stands yet.
+    /// Returns an empty memo of 1 to 4,000,000 slots, or an error if out of memory. It takes no memory later.
     pub fn new(alloc: Global, slots: usize) -> Result<Self, AllocError>
         requires some { 1 ≤ slots }
         requires most { slots ≤ 4_000_000 }

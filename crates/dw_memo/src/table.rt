@@ -37,7 +37,8 @@ impl<B: Board, T: Bucket<B>> Model for Table<B, T> {
 }
 
 impl<B: Board, T: Bucket<B>> Table<B, T> {
-    /// An empty table that may have so many buckets, or an error if out of memory. No memory is taken later.
+    /// Returns an empty table of at most this number of buckets, or an error if out of memory. It takes no memory
+    /// later.
     pub(crate) fn new(alloc: Global, most: usize) -> Result<Self, AllocError>
         requires { 1 ≤ most }
         ensures { IfOk result (λ t. t ≡ record { content = []; dropped = 0 }) }
@@ -53,7 +54,7 @@ impl<B: Board, T: Bucket<B>> Table<B, T> {
         })
     }
 
-    /// The bounds of a position, or `None` if it is not held.
+    /// Returns the bounds of a position, or `None` if it is not held.
     #[inline]
     pub(crate) fn look(&self, position: &Position<B>) -> Option<Bounds>
         ensures map { IsMap self.now.content }
@@ -63,7 +64,7 @@ impl<B: Board, T: Bucket<B>> Table<B, T> {
         self.buckets[index].look(position)
     }
 
-    /// Puts bounds into the bucket of a position, and counts what is lost by it.
+    /// Stores bounds in the bucket of a position, and counts the entries that get lost.
     #[inline]
     pub(crate) fn put(&mut self, position: &Position<B>, bounds: Bounds) -> Noted
         ensures answer { T.may_answer result }
@@ -103,7 +104,7 @@ impl<B: Board, T: Bucket<B>> Table<B, T> {
         }
     }
 
-    /// How many entries were lost or not kept so far.
+    /// Returns how many entries were lost or not kept so far.
     #[inline]
     pub(crate) fn dropped(&self) -> u64
         ensures map { IsMap self.now.content }
@@ -113,8 +114,8 @@ impl<B: Board, T: Bucket<B>> Table<B, T> {
     }
 }
 
-/// The bucket of a position, among so many: its mixed word as a part of 2^64, times their number. No division is
-/// needed.
+/// Returns the bucket of a position among `buckets` buckets: its mixed word as a fraction of 2^64, times `buckets`.
+/// This needs no division.
 #[inline]
 pub(crate) fn bucket_of<B: Board>(position: &Position<B>, buckets: usize) -> usize
     requires { 1 ≤ buckets }

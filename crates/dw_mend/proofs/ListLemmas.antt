@@ -5,7 +5,6 @@ use Rattle.std.proofs.Common.{if◌then◌else◌}
 use Rattle.std.specs.Prelude.{◌==◌}
 use Rattle.std.proofs.lemmas.Bool.{cases_Bool, eq-eqb, ne_eqb}
 use Rattle.std.specs.List.{flat_map, range_with_len}
-use Rattle.dw_mend.specs.Mending.{part_from, part_of}
 use Rattle.std.proofs.lemmas.List.{take_more, map_push}
 use Rattle.std.proofs.lemmas.Grind.{flat_map-append}
 
@@ -41,40 +40,7 @@ pub range_next : (n : ℕ) → range_with_len 1 (n + 1) ≡ range_with_len 1 n +
 range_next n = ap (range_with_len 1) (add-one n) ∙ (range_suc 1 n
     ∙ ap (λ k. range_with_len 1 n ++ k ∷ []) (let e : 1 + n ≡ n + 1 = omega arith in e))
 
--- ---- a part of a list
-part_append : {X : Type 0} (place i m : ℕ) (xs : List X) (x : X) → part_from place i m (xs ++ x ∷ [])
-    ≡ part_from place i m xs ++ (if (place + length xs) % m == i % m then x ∷ [] else [])
-part_append place i m [] x = ap (λ z. if z % m == i % m then x ∷ [] else []) (sym (add-zero place))
-part_append place i m (y ∷ xs) x =
-    let e : place + 1 + length xs ≡ place + suc (length xs) = omega arith in
-    let tail = part_append (place + 1) i m xs x
-    ∙ ap (λ z. part_from (place + 1) i m xs ++ (if z % m == i % m then x ∷ [] else [])) e in
-    elim (cases_Bool (place % m == i % m)) [
-      | inl yes' ↦ rw yes' (ap (λ z. y ∷ z) tail)
-      | inr no' ↦ rw no' tail
-    ]
-
-part_next : {X : Type 0} (i m : ℕ) (xs : List X) (k : ℕ) (x : X) → k < length xs → x ≡ get_or xs k x
-    → part_of i m (take (k + 1) xs)
-    ≡ part_of i m (take k xs) ++ (if (k + 1) % m == i % m then x ∷ [] else [])
-part_next i m xs k x low is =
-    let e : 1 + length (take k xs) ≡ k + 1 = let h = length-take k xs in omega arith in
-    ap (part_of i m) (one_more xs k x low is) ∙ (part_append 1 i m (take k xs) x
-    ∙ ap (λ z. part_of i m (take k xs) ++ (if z % m == i % m then x ∷ [] else [])) e)
-
-pub part_taken : {X : Type 0} (i m : ℕ) (xs now new : List X) (k : ℕ) (x : X) → k < length xs → x ≡ get_or xs k x
-    → now ≡ part_of i m (take k xs) → (k + 1) % m ≡ i % m → new ≡ now ++ x ∷ [] → new ≡ part_of i m (take (k + 1) xs)
-part_taken i m xs now new k x low is so_far here pushed =
-    pushed ∙ (ap (λ z. z ++ x ∷ []) so_far
-    ∙ sym (part_next i m xs k x low is ∙ ap (λ b. part_of i m (take k xs) ++ (if b then x ∷ [] else []))
-    (eq-eqb _ _ here)))
-
-pub part_left : {X : Type 0} (i m : ℕ) (xs now : List X) (k : ℕ) (x : X) → k < length xs → x ≡ get_or xs k x
-    → now ≡ part_of i m (take k xs) → ((k + 1) % m ≡ i % m → ⊥) → now ≡ part_of i m (take (k + 1) xs)
-part_left i m xs now k x low is so_far away =
-    so_far ∙ sym (part_next i m xs k x low is ∙ (ap (λ b. part_of i m (take k xs) ++ (if b then x ∷ [] else []))
-    (ne_eqb _ _ away) ∙ append-nil _))
-
+-- ---- the changes
 -- four lists, each behind those before
 pub four_joined : {X : Type 0} (one two three four none a b c d : List X) → none ≡ [] → a ≡ none ++ one → b ≡ a ++ two
     → c ≡ b ++ three → d ≡ c ++ four → d ≡ ((one ++ two) ++ three) ++ four

@@ -13,7 +13,8 @@ use Rattle.dw_verdict.specs.Verdict.{IsVerdict, sound}
 use Rattle.dw_mend.specs.Changes.{Change, AreNeighbours}
 use Rattle.dw_mend.specs.MendText.{IsLineOf}
 use Rattle.dw_mend.specs.declared.rows.Wording.{Wording}
-use Rattle.dw_mend.specs.Mending.{Counts, AreBounded, AreMended, IsMendStop, part_from, part_of}
+use Rattle.dw_mend.specs.Mending.{Counts, AreBounded, AreMended, IsMendStop}
+use Rattle.dw_parts.specs.Parts.{part_from, part_of}
 use Rattle.dw_mend.specs.inner.Mending.{Adds}
 use Rattle.dw_mend.specs.declared.mend.Soundness as finds
 use Rattle.dw_mend.specs.declared.mend.Soundness.TheVariants.{Sound, Unsound, Undecided}

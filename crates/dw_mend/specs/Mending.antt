@@ -1,5 +1,5 @@
 -- The neighbours of a position that are sound.
-use Rattle.std.specs.Prelude.{◌≡◌, ℕ, ◌+◌, ◌*◌, ◌%◌, ◌==◌, ◌≤◌, ◌⊎◌, if◌then◌else◌, Option, Some, None, List, [], ◌∷◌}
+use Rattle.std.specs.Prelude.{◌≡◌, ℕ, ◌+◌, ◌*◌, ◌≤◌, ◌⊎◌, Option, Some, None, List, [], ◌∷◌}
 use Rattle.std.specs.Prelude.{◌++◌, length, take}
 use Rattle.dw_board.specs.Geometry.{Geometry}
 use Rattle.dw_board.specs.Placement.{Placement}
@@ -8,24 +8,15 @@ use Rattle.dw_verdict.specs.Verdict.{IsVerdict, sound}
 use Rattle.dw_mend.specs.Changes.{Change, AreNeighbours}
 use Rattle.dw_mend.specs.MendText.{IsLineOf, last_line}
 use Rattle.dw_mend.specs.declared.rows.Wording.{Wording}
-
--- those of a list whose place leaves the same rest as i when it is divided by m; the first one has this place
-abbrev pub part_from : {X : Type 0} → (place i m : ℕ) → List X → List X
-part_from place i m [] = []
-part_from place i m (x ∷ xs) =
-    if place % m == i % m then x ∷ part_from (place + 1) i m xs else part_from (place + 1) i m xs
-
--- a part of a list, whose places are counted from 1
-abbrev pub part_of : {X : Type 0} → (i m : ℕ) → List X → List X
-part_of i m xs = part_from 1 i m xs
+use Rattle.dw_parts.specs.Parts.{part_of}
 
 -- how many neighbours are sound, and how many are undecided
 pub record Counts : Type 0 where
   pub sound : ℕ
   pub undecided : ℕ
 
--- What is written of neighbours, and what is counted: of each one that is sound its line, in their order; nothing of
--- one that is not, or that is undecided.
+-- The lines and the counts of neighbours: each sound one has its line, in their order; one that is not, or that is
+-- undecided, has none.
 abbrev pub AreMended : Wording → Geometry → (n : ℕ) → List (Change × Placement) → List ℕ → Counts → Type 0
 AreMended w g n [] text counts = (text ≡ []) × (counts.sound ≡ 0) × (counts.undecided ≡ 0)
 AreMended w g n (x ∷ xs) text counts = (rest : List ℕ) × (others : Counts) × AreMended w g n xs rest others
@@ -53,7 +44,7 @@ pub record IsMendText (w : Wording) (g : Geometry) (p : Placement) (n i m all so
   pub count : all ≡ length (part_of i m neighbours)
   pub is : text ≡ lines ++ last_line w all sound undecided
 
--- what is written after a stop: the lines of the first neighbours, some of them
+-- the output after a stop: the lines of the first neighbours, some of them
 pub record IsMendStop (w : Wording) (g : Geometry) (n : ℕ) (neighbours : List (Change × Placement))
     (text : List ℕ) : Type 0 where
   pub some : ℕ

@@ -1,11 +1,11 @@
--- How changes and neighbours are told.
+-- Changes and neighbours of the code, as values of the definitions.
 use Rattle.dw_board.specs.Placement.{Placement}
 use Rattle.dw_mend.specs.Changes.{Change, without, with_piece, set, made}
 use Rattle.dw_mend.specs.declared.change.Change as changes
 use Rattle.dw_mend.specs.declared.change.Change.TheVariants.{Without, With, Set, Made}
 use Rattle.dw_mend.specs.declared.neighbours.Neighbour as neighbours
 
--- what a change says
+-- the value of a change
 abbrev pub told : {B : Type 0} → changes.Change B → Change
 told (Without square) = without square
 told (With square piece) = with_piece square piece

@@ -1,2 +1,2 @@
--- What only relates the code to the definitions: no contract of a public call names it, but for what is sealed.
+-- Definitions that only relate the code to the public ones: no public contract names them, except sealed ones.
 pub mod Mending

@@ -7,7 +7,6 @@ ghost use Rattle.dw_mend.specs.Telling.{told};
 use dw_board::{Board, Kind, Piece, Position, Square};
 
 /// A change to one piece of a position.
-/// Example: of `W:W27:B16` the change `Change::Without` of square 27 makes `W:W:B16`.
 #[derive(Clone, Copy)]
 pub enum Change<B: Board> {
     /// The piece on a square is taken away.
@@ -33,14 +32,13 @@ pub enum Change<B: Board> {
     Made {
         /// Where it stands.
         square: Square<B>,
-        /// What it becomes.
+        /// The kind of piece that it becomes.
         kind: Kind,
     },
 }
 
-/// The position after a change; none, if it can not be made there, or what it makes is no position: a man on its last
-/// row, or a side with too many pieces.
-/// Example: in `W:W7:B` to set the man from 7 on 2 gives none, and to make it a king gives `W:WK7:B`.
+/// Makes a change in a position. It returns none if the change is impossible there, or if the result is no position: a
+/// man on its last row, or a side with too many pieces.
 pub fn changed<B: Board>(position: &Position<B>, change: Change<B>) -> Option<Position<B>>
     ensures { MatchOption result ((q : Placement) → IsNeighbour B.geometry position.now (told change) q → ⊥)
         (λ q. IsNeighbour B.geometry position.now (told change) q) }
@@ -53,7 +51,7 @@ pub fn changed<B: Board>(position: &Position<B>, change: Change<B>) -> Option<Po
     }
 }
 
-/// The position without the piece on a square, if one stands there.
+/// Returns the position without the piece on a square, if a piece stands there.
 fn without<B: Board>(position: &Position<B>, square: Square<B>) -> Option<Position<B>>
     ensures { MatchOption result ((q : Placement) → IsNeighbour B.geometry position.now (without square) q → ⊥)
         (λ q. IsNeighbour B.geometry position.now (without square) q) }
@@ -64,7 +62,7 @@ fn without<B: Board>(position: &Position<B>, square: Square<B>) -> Option<Positi
     Some(after)
 }
 
-/// The position with one more piece, on a square that is empty.
+/// Returns the position with one more piece, on a square that is empty.
 fn with<B: Board>(position: &Position<B>, square: Square<B>, piece: Piece) -> Option<Position<B>>
     ensures { MatchOption result ((q : Placement) → IsNeighbour B.geometry position.now (with_piece square piece) q → ⊥)
         (λ q. IsNeighbour B.geometry position.now (with_piece square piece) q) }
@@ -83,7 +81,7 @@ fn with<B: Board>(position: &Position<B>, square: Square<B>, piece: Piece) -> Op
     }
 }
 
-/// The position with a piece on another square, which is empty.
+/// Returns the position with a piece on another square, which is empty.
 fn set<B: Board>(position: &Position<B>, from: Square<B>, to: Square<B>) -> Option<Position<B>>
     ensures { MatchOption result ((q : Placement) → IsNeighbour B.geometry position.now (set from to) q → ⊥)
         (λ q. IsNeighbour B.geometry position.now (set from to) q) }
@@ -98,7 +96,7 @@ fn set<B: Board>(position: &Position<B>, from: Square<B>, to: Square<B>) -> Opti
     with(&after, to, piece)
 }
 
-/// The position with a piece of the other kind on a square.
+/// Returns the position with a piece of the other kind on a square.
 fn made<B: Board>(position: &Position<B>, square: Square<B>, kind: Kind) -> Option<Position<B>>
     ensures { MatchOption result ((q : Placement) → IsNeighbour B.geometry position.now (made square kind) q → ⊥)
         (λ q. IsNeighbour B.geometry position.now (made square kind) q) }
@@ -114,7 +112,7 @@ fn made<B: Board>(position: &Position<B>, square: Square<B>, kind: Kind) -> Opti
     with(&after, square, Piece { side, kind })
 }
 
-/// Whether two kinds are the same.
+/// Returns whether two kinds are the same.
 fn is_same(one: Kind, other: Kind) -> bool
     ensures { IsTrue result ↔ (one ≡ other) }
 {

@@ -2,15 +2,12 @@
 //!
 //! Begin with `mend::mend`, which writes them, or with `neighbours::neighbours`, which lists all positions that one
 //! change makes.
-//!
-//! An example tells a position by its FEN text, on the board of ten rows if it names no other.
 #![tactic(auto)]
 
 pub mod change;
 pub mod laws;
 pub mod mend;
 pub mod neighbours;
-pub mod part;
 pub mod rows;
 pub mod soundness;
 pub mod text;
@@ -18,7 +15,6 @@ pub mod text;
 pub use change::{Change, changed};
 pub use mend::{MendBounds, MendFault, Mended};
 pub use neighbours::Neighbour;
-pub use part::Part;
 pub use rows::Wording;
 pub use soundness::sound_key;
 pub use text::{change_text, count_line, sound_line};

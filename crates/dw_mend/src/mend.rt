@@ -1,4 +1,4 @@
-//! The neighbours of a position that are sound, each in a line as soon as it is known.
+//! The sound neighbours of a position, each in a line as soon as it is known.
 ghost use Rattle.std.specs.Prelude.{◌≡◌, ℕ, ◌+◌, ◌≤◌, false, true, take, length, List, Some, Err, IfOk, IfSome};
 ghost use Rattle.std.specs.Prelude.{IsErrOf, OnOk, MatchOption, map};
 ghost use Rattle.dw_moves.specs.Moves.{Move as AnyMove};
@@ -11,53 +11,50 @@ ghost use Rattle.dw_solve.specs.declared.stop.Stop.TheVariants.{Limit};
 ghost use Rattle.dw_solve.specs.Facts.{AreTrue};
 ghost use Rattle.dw_solve.specs.Searching.{IsCounted};
 ghost use Rattle.dw_mend.specs.Changes.{Change as Changed, AreNeighbours};
-ghost use Rattle.dw_mend.specs.Mending.{IsMendText, IsMendStop, AreBounded, AreMended, Counts, part_of};
+ghost use Rattle.dw_mend.specs.Mending.{IsMendText, IsMendStop, AreBounded, AreMended, Counts};
+ghost use Rattle.dw_parts.specs.Parts.{part_of};
 ghost use Rattle.dw_mend.specs.Telling.{told_by};
 ghost use Rattle.dw_mend.specs.declared.mend.MendFault.TheVariants as because;
 ghost use Rattle.dw_mend.specs.inner.Mending.{IsSoundnessOf, IsUndecided, Adds, CanAsk, Goes, Leaves};
 
 use crate::neighbours::{Neighbour, neighbours};
-use crate::part::{Part, part_of};
 use crate::rows::{Wording, last_line, line_of};
 use crate::soundness::sound_key;
 use dw_board::{Board, Position};
 use dw_memo::Memo;
 use dw_moves::Move;
 use dw_notation::{Sink, WriteFault, write_all};
+use dw_parts::{Part, part_of};
 use dw_solve::{Guide, Solver, Stop};
 use dw_study::{Slices, Watcher};
 use std::alloc::{AllocError, Global};
 use thiserror::Error;
 
-/// Which neighbours are looked at, and how far.
-/// Example: within 2 moves, and with `each` of `Some(1_000_000)`, a neighbour of which it is not known after 1,000,000
-/// positions whether it is sound in 2 moves stays undecided.
+/// The neighbours to look at, and the bounds of the search.
 #[derive(Clone, Copy, Debug, PartialEq, Eq)]
 pub struct MendBounds {
     /// The number of moves within which the win is, 1 to 20.
     pub moves: u8,
-    /// How many positions may be expanded for each neighbour, at least 1; any number, if there is none.
+    /// The most positions to expand for each neighbour, at least 1; without it, any number.
     pub each: Option<u64>,
-    /// Which of the neighbours are looked at.
+    /// The part of the neighbours to look at.
     pub part: Part,
-    /// How neighbours are told.
+    /// The form of the lines.
     pub wording: Wording,
 }
 
-/// What was found of the neighbours that were looked at.
-/// Example: of the neighbours of `W:W27,32:B18`, within 2 moves, 44 of 310 are sound.
+/// The result for the neighbours that were looked at.
 #[derive(Clone, Copy, Debug, Default, PartialEq, Eq)]
 pub struct Mended {
-    /// How many there are.
+    /// The number of neighbours.
     pub all: usize,
-    /// How many are sound.
+    /// The number of sound ones.
     pub sound: usize,
-    /// How many are not known to be sound or not, since as many positions were expanded for each as was allowed.
+    /// The number of neighbours for which the bound on positions left the answer open.
     pub undecided: usize,
 }
 
-/// Why not all neighbours were looked at.
-/// Example: `MendFault::Write` is written `write failed`.
+/// The reason why not all neighbours were looked at.
 #[derive(Clone, Copy, Debug, PartialEq, Eq, Error)]
 pub enum MendFault {
     /// Memory was refused, or the solver's own limit was met.
@@ -92,14 +89,12 @@ impl From<WriteFault> for MendFault {
     }
 }
 
-/// Writes the neighbours of a position that are sound within so many moves of the side to move, 1 to 20, each in a line
-/// with the change that makes it and with its key, in the order of the changes; and then how many they are, of how
-/// many. Those that would take more positions than the bounds allow stay undecided, and are counted. The slices begin
-/// anew, and their watcher is told after each neighbour too; it makes way before each line is written. After a stop the
-/// lines of the first neighbours were written, all bounds in the memo are right, and the solver's limit is what it was.
-/// `Write` comes only if the sink failed.
-/// Example: of `W:W27,32:B18`, within 2 moves, the first line is `without 27: W:W32:B18, sound in 2: 32-28`, and the
-/// last one is `sound 44 of 310`.
+/// Writes the sound neighbours of a position within `moves` moves of the side to move, 1 to 20, and then their number,
+/// of how many. Each has a line with its change and its key, in the order of the changes. Neighbours that would take
+/// more positions than the bounds allow stay undecided, and are counted. The slices begin anew. Their watcher is told
+/// after each neighbour too, and makes way before each line is written. After a stop the lines of the first neighbours
+/// were written, all bounds in the memo are right, and the solver's limit is what it was. The error `Write` comes only
+/// if the sink failed.
 pub fn mend<B: Board, M: Memo<B>, G: Guide<B>, W: Watcher, K: Sink>(
     alloc: Global,
     solver: &mut Solver<B, M, G>,
@@ -142,7 +137,7 @@ pub fn mend<B: Board, M: Memo<B>, G: Guide<B>, W: Watcher, K: Sink>(
     Ok(mended)
 }
 
-/// Writes those of some neighbours that are sound, and counts.
+/// Writes the sound ones of some neighbours, and counts them.
 fn mend_these<B: Board, M: Memo<B>, G: Guide<B>, W: Watcher, K: Sink>(
     alloc: Global,
     solver: &mut Solver<B, M, G>,
@@ -185,18 +180,18 @@ fn mend_these<B: Board, M: Memo<B>, G: Guide<B>, W: Watcher, K: Sink>(
     Ok(mended)
 }
 
-/// Whether a neighbour is sound, as far as that is known.
+/// The soundness of a neighbour, as far as it is known.
 #[derive(Drop)]
 enum Soundness<B: Board> {
     /// It is sound, by this key.
     Sound(Move<B>),
     Unsound,
-    /// As many positions were expanded as is allowed for one neighbour.
+    /// As many positions were expanded as the bound allows for one neighbour.
     Undecided,
 }
 
 impl<B: Board> Soundness<B> {
-    /// What is found of a position that is sound by this key, or by none.
+    /// Returns the soundness of a position that is sound by this key, or by none.
     fn of(key: Option<Move<B>>) -> Self
         ensures { (p : Placement) (n : ℕ) → MatchOption key ((m : AnyMove) → IsVerdict B.geometry p n (sound m) → ⊥)
             (λ m. IsVerdict B.geometry p n (sound m))
@@ -209,7 +204,7 @@ impl<B: Board> Soundness<B> {
     }
 }
 
-/// Writes the line of a neighbour, if it is sound, and answers what is found of it.
+/// Writes the line of a neighbour if it is sound, and returns its soundness.
 fn write_found<B: Board, M: Memo<B>, G: Guide<B>, W: Watcher, K: Sink>(
     alloc: Global,
     solver: &mut Solver<B, M, G>,
@@ -239,7 +234,7 @@ fn write_found<B: Board, M: Memo<B>, G: Guide<B>, W: Watcher, K: Sink>(
     Ok(found)
 }
 
-/// What is found of a position, if no more positions are expanded than is allowed for one neighbour.
+/// Finds the soundness of a position, and expands no more positions than the bound allows for one neighbour.
 fn found_of<B: Board, M: Memo<B>, G: Guide<B>, W: Watcher>(
     alloc: Global,
     solver: &mut Solver<B, M, G>,
@@ -263,7 +258,7 @@ fn found_of<B: Board, M: Memo<B>, G: Guide<B>, W: Watcher>(
     }
 }
 
-/// What is found of a position if any number of positions may be expanded.
+/// Finds the soundness of a position, and may expand any number of positions.
 fn found_by_key<B: Board, M: Memo<B>, G: Guide<B>, W: Watcher>(
     alloc: Global,
     solver: &mut Solver<B, M, G>,
@@ -282,7 +277,7 @@ fn found_by_key<B: Board, M: Memo<B>, G: Guide<B>, W: Watcher>(
     Ok(Soundness::of(sound_key(alloc, solver, position, moves, slices)?))
 }
 
-/// What is found of a position if so many positions may be expanded.
+/// Finds the soundness of a position, and may expand `bound` positions.
 fn found_within<B: Board, M: Memo<B>, G: Guide<B>, W: Watcher>(
     alloc: Global,
     solver: &mut Solver<B, M, G>,

@@ -11,7 +11,6 @@ use dw_board::{Board, Kind, Piece, Position, Side, Square};
 use std::alloc::{AllocError, Global};
 
 /// A position that a change makes, with that change.
-/// Example: `W:W27:B` is a neighbour of `W:W27:B16`, by the change that takes the piece on 16 away.
 #[derive(Clone, Copy)]
 pub struct Neighbour<B: Board> {
     pub change: Change<B>,
@@ -38,10 +37,9 @@ const PIECES: [Piece; 4] = [
     },
 ];
 
-/// All neighbours of a position, in order: first those without one of its pieces, by their squares; then those with one
-/// more piece, by its square, on each a white man, a white king, a black man and a black king; then those with a piece
-/// on another square, by both squares; then those where a man became a king or a king a man.
-/// Example: `W:W27,32:B18` has 310 neighbours; the first one is `W:W27,32:B`.
+/// Lists all neighbours of a position, in order: first those without one of its pieces, by their squares; then those
+/// with one more piece, by its square, on each a white man, a white king, a black man and a black king; then those with
+/// a piece on another square, by both squares; then those where a man became a king or a king a man.
 pub fn neighbours<B: Board>(
     alloc: Global,
     position: &Position<B>,
@@ -52,7 +50,7 @@ pub fn neighbours<B: Board>(
     made_by(alloc, position, changes.as_slice())
 }
 
-/// The neighbours that these changes make, in their order.
+/// Lists the neighbours that these changes make, in their order.
 fn made_by<B: Board>(
     alloc: Global,
     position: &Position<B>,
@@ -72,7 +70,7 @@ fn made_by<B: Board>(
     Ok(all)
 }
 
-/// All changes, in order.
+/// Lists all changes, in order.
 fn all_changes<B: Board>(alloc: Global) -> Result<Vec<Change<B>>, AllocError>
     ensures { IfOk result (λ list. map told list.items ≡ changes B.geometry) }
 {
@@ -85,7 +83,7 @@ fn all_changes<B: Board>(alloc: Global) -> Result<Vec<Change<B>>, AllocError>
     Ok(list)
 }
 
-/// The squares of the board, ascending.
+/// Lists the squares of the board, ascending.
 fn squares<B: Board>(alloc: Global) -> Result<Vec<Square<B>>, AllocError>
     ensures { IfOk result (λ squares. squares.items ≡ all_squares B.geometry) }
 {
@@ -98,7 +96,7 @@ fn squares<B: Board>(alloc: Global) -> Result<Vec<Square<B>>, AllocError>
     Ok(squares)
 }
 
-/// Those that take the piece on one of these squares away.
+/// Appends the changes that take the piece on one of these squares away.
 fn push_without<B: Board>(
     list: &mut Vec<Change<B>>,
     squares: &[Square<B>],
@@ -111,7 +109,7 @@ fn push_without<B: Board>(
     Ok(())
 }
 
-/// Those that put a piece on one of these squares.
+/// Appends the changes that put a piece on one of these squares.
 fn push_with<B: Board>(list: &mut Vec<Change<B>>, squares: &[Square<B>]) -> Result<(), AllocError>
     ensures { OnOk result (map told list.new.items
         ≡ map told list.old.items ++ flat_map (λ s. map (with_piece s) pieces) squares.now) }
@@ -122,7 +120,7 @@ fn push_with<B: Board>(list: &mut Vec<Change<B>>, squares: &[Square<B>]) -> Resu
     Ok(())
 }
 
-/// Those that put a piece on this square.
+/// Appends the changes that put a piece on this square.
 fn push_pieces<B: Board>(list: &mut Vec<Change<B>>, square: Square<B>) -> Result<(), AllocError>
     ensures { OnOk result (map told list.new.items ≡ map told list.old.items ++ map (with_piece square) pieces) }
 {
@@ -146,7 +144,7 @@ fn push_pieces<B: Board>(list: &mut Vec<Change<B>>, square: Square<B>) -> Result
     Ok(())
 }
 
-/// Those that set a piece from one of these squares on another.
+/// Appends the changes that set a piece from one of these squares on another.
 fn push_set<B: Board>(list: &mut Vec<Change<B>>, squares: &[Square<B>]) -> Result<(), AllocError>
     ensures { OnOk result (map told list.new.items
         ≡ map told list.old.items ++ flat_map (λ s. map (set s) squares.now) squares.now) }
@@ -157,7 +155,7 @@ fn push_set<B: Board>(list: &mut Vec<Change<B>>, squares: &[Square<B>]) -> Resul
     Ok(())
 }
 
-/// Those that set a piece from this square on one of these.
+/// Appends the changes that set a piece from this square on one of these.
 fn push_set_from<B: Board>(
     list: &mut Vec<Change<B>>,
     from: Square<B>,
@@ -171,7 +169,7 @@ fn push_set_from<B: Board>(
     Ok(())
 }
 
-/// Those that make a king or a man of the piece on one of these squares.
+/// Appends the changes that make a king or a man of the piece on one of these squares.
 fn push_made<B: Board>(list: &mut Vec<Change<B>>, squares: &[Square<B>]) -> Result<(), AllocError>
     ensures { OnOk result (map told list.new.items
         ≡ map told list.old.items ++ flat_map (λ s. made s King ∷ made s Man ∷ []) squares.now) }
@@ -182,7 +180,7 @@ fn push_made<B: Board>(list: &mut Vec<Change<B>>, squares: &[Square<B>]) -> Resu
     Ok(())
 }
 
-/// Those that make a king or a man of the piece on this square.
+/// Appends the changes that make a king or a man of the piece on this square.
 fn push_kinds<B: Board>(list: &mut Vec<Change<B>>, square: Square<B>) -> Result<(), AllocError>
     ensures { OnOk result (map told list.new.items
         ≡ map told list.old.items ++ made square King ∷ made square Man ∷ []) }

@@ -1,4 +1,4 @@
-//! How neighbours are told: in words, or as rows of JSON.
+//! The lines of neighbours, in words or as rows of JSON.
 ghost use Rattle.std.specs.Prelude.{◌≡◌, IfOk};
 ghost use Rattle.std.specs.String.{string_bytes};
 ghost use Rattle.dw_moves.specs.Moves.{Legal};
@@ -15,8 +15,7 @@ use dw_moves::Move;
 use dw_notation::text_in;
 use std::alloc::{AllocError, Global};
 
-/// How neighbours are told.
-/// Example: as `Wording::Row` the last line is `{"sound":44,"of":310,"undecided":0}`.
+/// The form of the lines of neighbours.
 #[derive(Clone, Copy, Debug, PartialEq, Eq)]
 pub enum Wording {
     /// In words.
@@ -25,7 +24,7 @@ pub enum Wording {
     Row,
 }
 
-/// The line of a neighbour that is sound within so many moves, with its key.
+/// Makes the line of a sound neighbour, with its key.
 pub(crate) fn line_of<B: Board>(
     alloc: Global,
     wording: Wording,
@@ -43,7 +42,7 @@ pub(crate) fn line_of<B: Board>(
     }
 }
 
-/// The last line.
+/// Makes the last line.
 pub(crate) fn last_line(
     alloc: Global,
     wording: Wording,
@@ -58,7 +57,7 @@ pub(crate) fn last_line(
     }
 }
 
-/// The row of a neighbour that is sound.
+/// Makes the row of a sound neighbour.
 fn sound_row<B: Board>(
     alloc: Global,
     neighbour: &Neighbour<B>,
@@ -78,7 +77,7 @@ fn sound_row<B: Board>(
     end_row(row)
 }
 
-/// The last row.
+/// Makes the last row.
 fn count_row(alloc: Global, mended: &Mended) -> Result<String, AllocError>
     ensures { IfOk result (λ line. string_bytes line
         ≡ count_row mended.now.all mended.now.sound mended.now.undecided) }

@@ -1,4 +1,4 @@
-//! Whether a position is sound, and by which key.
+//! The soundness of a position, and its key.
 ghost use Rattle.std.specs.Prelude.{◌≡◌, ◌≤◌, IfOk, IsErrOf, MatchOption};
 ghost use Rattle.dw_moves.specs.Moves.{Move as AnyMove};
 ghost use Rattle.dw_memo.specs.Content.{IsMap};
@@ -16,10 +16,9 @@ use dw_study::{Slices, Watcher, verdict_resuming, wins_resuming};
 use dw_verdict::Verdict;
 use std::alloc::Global;
 
-/// The key of a position that is sound within so many moves of the side to move, 1 to 20; none, if it is not. After a
-/// stop all bounds in the memo are right, and the call can be made again. The slices go on from where they began; no
-/// answer depends on them.
-/// Example: at `W:W27,45:B16`, within 2 moves, it is `45-40`; at `W:W27,32:B18`, which is a dual, it is none.
+/// Finds the key of a position that is sound within `moves` moves of the side to move, 1 to 20; none, if it is not
+/// sound. After a stop all bounds in the memo are right, and the call can be made again. The slices go on from where
+/// they began, and no answer depends on them.
 pub fn sound_key<B: Board, M: Memo<B>, G: Guide<B>, W: Watcher>(
     alloc: Global,
     solver: &mut Solver<B, M, G>,
@@ -50,7 +49,7 @@ pub fn sound_key<B: Board, M: Memo<B>, G: Guide<B>, W: Watcher>(
     Ok(key_of(&verdict))
 }
 
-/// The key that a verdict tells, if it is that the position is sound.
+/// Returns the key of a verdict, if it says that the position is sound.
 fn key_of<B: Board>(verdict: &Verdict<B>) -> Option<Move<B>>
     ensures { MatchOption result ((m : AnyMove) → said_by verdict.now ≡ sound m → ⊥)
         (λ m. said_by verdict.now ≡ sound m) }

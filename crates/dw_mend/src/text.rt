@@ -15,9 +15,7 @@ use dw_notation::text_in;
 use itoa::Buffer;
 use std::alloc::{AllocError, Global};
 
-/// The line of a neighbour that is sound within so many moves, with its key.
-/// Example: that of `W:W32:B18`, a neighbour of `W:W27,32:B18`, is `without 27: W:W32:B18, sound in 2: 32-28` and a
-/// line end.
+/// Makes the line of a sound neighbour, with its key.
 pub fn sound_line<B: Board>(
     alloc: Global,
     neighbour: &Neighbour<B>,
@@ -43,8 +41,7 @@ pub fn sound_line<B: Board>(
     .concat(alloc)
 }
 
-/// The text of a change.
-/// Example: that of a white king put on 40 is `with WK40`, and that of a piece set from 18 on 11 is `18 to 11`.
+/// Makes the text of a change.
 pub fn change_text<B: Board>(alloc: Global, change: Change<B>) -> Result<String, AllocError>
     ensures { IfOk result (λ text. string_bytes text ≡ change_text (told change)) }
 {
@@ -70,8 +67,7 @@ pub fn change_text<B: Board>(alloc: Global, change: Change<B>) -> Result<String,
     }
 }
 
-/// The last line: how many neighbours are sound, of how many, and how many stayed undecided, if any.
-/// Example: of 44 sound ones of 310 it is `sound 44 of 310` and a line end.
+/// Makes the last line: how many neighbours are sound, of how many, and how many stayed undecided, if any.
 pub fn count_line(alloc: Global, mended: &Mended) -> Result<String, AllocError>
     ensures { IfOk result (λ line. string_bytes line
         ≡ count_line mended.now.all mended.now.sound mended.now.undecided) }
@@ -100,7 +96,7 @@ pub fn count_line(alloc: Global, mended: &Mended) -> Result<String, AllocError>
     .concat(alloc)
 }
 
-/// The letter of a side.
+/// Returns the letter of a side.
 fn side_letter(side: Side) -> &'static str
     ensures { result.now ≡ side_text side }
 {
@@ -110,7 +106,7 @@ fn side_letter(side: Side) -> &'static str
     }
 }
 
-/// The mark of a king, none of a man.
+/// Returns the mark of a king, and none for a man.
 fn kind_mark(kind: Kind) -> &'static str
     ensures { result.now ≡ kind_mark kind }
 {
@@ -120,7 +116,7 @@ fn kind_mark(kind: Kind) -> &'static str
     }
 }
 
-/// The word for a kind of piece.
+/// Returns the word for a kind of piece.
 fn kind_word(kind: Kind) -> &'static str
     ensures { result.now ≡ kind_word kind }
 {

@@ -9,8 +9,7 @@ use Rattle.dw_board.specs.Placement.{other}
 use Rattle.dw_moves.specs.Replies.{OneStep, HasSureReply, AlwaysReply}
 use Rattle.dw_moves.specs.Order.{IsKey, Precedes, IsListOf, Listed, AreListed}
 
--- a path tells what it takes: two paths over the same landings from the same square take the same pieces in the same
--- order
+-- a path determines its taken pieces: two paths over the same landings from the same square take the same ones in order
 abbrev pub PathTells : Type 0
 PathTells = (g : Geometry) → IsBoard g → (p : Placement) (from : ℕ) (landings taken others : List ℕ) →
     Path g p from landings taken → Path g p from landings others → taken ≡ others

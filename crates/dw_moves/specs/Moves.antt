@@ -1,4 +1,4 @@
--- Moves: what a position allows, and what a move leaves.
+-- Moves: the legal moves of a position, and the position after a move.
 use Rattle.std.specs.Prelude.{◌≡◌, ℕ, ◌≤◌, ◌<◌, ◌↔◌, true, false, Some, None, List, [], ◌∷◌, ◌++◌, length, refl}
 use Rattle.std.specs.Coded.{Coded, code_by, coded×, coded_ℕ}
 use Rattle.std.proofs.Common.{zero, suc}
@@ -60,7 +60,7 @@ pub record IsQuietCount (g : Geometry) (p : Placement) (n : ℕ) : Type 0 where
   pub once : NoRepeat moves
   pub count : length moves ≡ n
 
--- a jump from s over an enemy on c to t: on one ray nothing stands between s and c, nor behind c up to and with t; for
+-- a jump from s over an enemy on c to t: on one ray all squares between s and c are empty, and all after c up to t; for
 -- a man c is next to s, and t next to c
 pub record Jump (g : Geometry) (p : Placement) (piece : Piece) (s c t : ℕ) : Type 0 where
   pub dir : Dir
@@ -81,7 +81,7 @@ Jumps g p piece s (t ∷ ts) (c ∷ cs) = Jump g p piece s c t × Jumps g p piec
 Jumps g p piece s [] (c ∷ cs) = ⊥
 Jumps g p piece s (t ∷ ts) [] = ⊥
 
--- a capture path: the square that was left counts as empty, what is jumped stays to the end, nothing is jumped twice
+-- a capture path: the square that was left counts as empty, jumped pieces stay to the end, none is jumped twice
 pub record Path (g : Geometry) (p : Placement) (from : ℕ) (landings taken : List ℕ) : Type 0 where
   pub piece : Piece
   pub stands : Stands g p from piece
@@ -98,7 +98,7 @@ pub record IsBest (g : Geometry) (p : Placement) (k : ℕ) : Type 0 where
 abbrev pub CanCapture : Geometry → Placement → Type 0
 CanCapture g p = (from : ℕ) × (landings : List ℕ) × (taken : List ℕ) × Path g p from landings taken × (0 < length taken)
 
--- a move: where it begins and ends, and what it takes
+-- a move: its start, its end, and the squares of the taken pieces
 pub record Move : Type 0 where
   pub from : ℕ
   pub to : ℕ
@@ -137,7 +137,7 @@ pub record AreLegal (g : Geometry) (p : Placement) (moves : List Move) : Type 0 
   pub exactly : (m : Move) → Member m moves ↔ Legal g p m
   pub once : NoRepeat moves
 
--- the position after a move: the piece stands on its last square, what was taken is gone, and the other side is to move
+-- the position after a move: the piece is on its last square, taken pieces are gone, and the other side is to move
 abbrev pub play : Geometry → Placement → Move → Placement
 play g p m = record (carried g p m.from m.to m.taken) { turn = other p.turn }
 
@@ -157,6 +157,6 @@ AreEnds g p ends = (s : ℕ) → In s ends ↔ (m : Move) × Legal g p m × (0 <
 abbrev pub SharesEnds : Geometry → Placement → Move → Type 0
 SharesEnds g p m = (n : Move) × Legal g p n × (0 < set.len n.taken) × (n.from ≡ m.from) × (n.to ≡ m.to) × (n ≡ m → ⊥)
 
--- what a move feeds a hasher: its squares, and the word of what it takes
+-- the words that a move feeds a hasher: its squares, and the word of its taken pieces
 abbrev pub move_bytes : Geometry → Move → List (List ℕ)
 move_bytes g m = fed.u8 m.from ++ (fed.u8 m.to ++ fed.u64 (word_of g m.taken))

@@ -8,7 +8,7 @@ use Rattle.dw_board.specs.Placement.{Placement}
 use Rattle.dw_moves.specs.Moves.{Move, Quiet, IsBest, IsPathOf, Legal, move_code}
 use Rattle.dw_board.specs.Lists.{Member}
 
--- lists of numbers in lexicographic order; what begins a list comes before it
+-- lists of numbers in lexicographic order; the beginning of a list comes before it
 abbrev pub LexLess : List ℕ → List ℕ → Type 0
 LexLess [] [] = ⊥
 LexLess [] (y ∷ ys) = Unit {0}

@@ -54,7 +54,7 @@ abbrev pub IsOpen : Geometry → Placement → Side → ℕ → Dir → Type 0
 IsOpen g p side s d = (t : ℕ) × (step g s d ≡ Some t) × (IsTrue (is_of side (at p t)) → ⊥)
 
 -- on a diagonal it is open to both sides; else, along each of them, the edge is next to a piece or one of its own side,
--- and it can not be taken
+-- and it cannot be taken
 abbrev pub IsExposed : Geometry → Placement → Side → ℕ → Type 0
 IsExposed g p side s = (d : Dir) × IsOpen g p side s d × IsOpen g p side s (back d)
 

@@ -27,9 +27,9 @@ move from to taken = record { from = from; to = to; taken = set.from_list taken 
 abbrev pub AreTheLegal : Placement → List Move → Type 0
 AreTheLegal p moves = (m : Move) → Member m moves ↔ Legal ten p m
 
--- A man that passes its last row goes on as a man. A king takes four, lands on three squares, and what it has jumped
--- still bars its way. A king takes one and lands on any square beyond it. A man goes forward only. A man takes four and
--- comes back to its start, by two paths, which are one move. Two captures begin and end on the same squares and take
+-- A man that passes its last row goes on as a man. A king takes four, lands on three squares, and the jumped pieces
+-- still bar its way. A king takes one and lands on any square beyond it. A man goes forward only. A man takes four and
+-- comes back to its start, by two paths, which are one move. Two captures have the same start and end and take
 -- different men.
 pub record WorkedPositions : Type 0 where
   pub passes : AreTheLegal (white_to_move (14 ∷ []) [] (8 ∷ 9 ∷ [])) (move 14 12 (9 ∷ 8 ∷ []) ∷ [])

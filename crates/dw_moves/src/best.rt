@@ -1,4 +1,4 @@
-//! The greatest number of pieces that can be taken, and where the moves that take so many end.
+//! The greatest number of pieces that can be taken, and the end squares of those captures.
 ghost use Rattle.std.specs.Prelude.{◌≡◌, ◌≤◌};
 ghost use Rattle.dw_moves.specs.Moves.{AreEnds, IsBest};
 ghost use Rattle.dw_moves.specs.inner.Walks.{EndsKept, Held, These};
@@ -9,14 +9,13 @@ use crate::walk::walk_captures;
 use dw_board::{Board, Position, Square, Squares};
 use std::convert::Infallible;
 
-/// The greatest number of pieces that the side to move can take in one move, at most 20; 0 if it can take
-/// nothing. Kings and men count alike.
+/// Returns the greatest number of pieces that the side to move can take in one move, 0 to 20. A king counts as one
+/// piece.
 ///
-/// A man captures an adjacent enemy, forward or backward, if the square behind it is empty, and lands there. A
-/// king captures the one enemy on a diagonal that has only empty squares before it and an empty square behind it,
-/// and lands on any empty square up to the next piece. The capture goes on with the same piece; the square that it
-/// left counts as empty, what it has jumped stays until the end and is not jumped twice.
-/// Example: at `W:WK47:B17,18,24,32,33` it is 4, and at `W:W7:B` it is 0.
+/// A man captures an adjacent enemy, forward or backward, if the next square is empty, and lands there. A king captures
+/// the one enemy on a diagonal with only empty squares before it and an empty square after it, and lands on any empty
+/// square up to the next piece. The capture goes on with the same piece. The square that it left counts as empty.
+/// Jumped pieces stay until the end and are not jumped twice.
 pub fn best<B: Board>(position: &Position<B>) -> u8
     ensures value { IsBest B.geometry position.now result }
     ensures small { result ≤ 20 }
@@ -25,7 +24,6 @@ pub fn best<B: Board>(position: &Position<B>) -> u8
 }
 
 /// What is seen of the legal captures without a list of them.
-/// See [`best_captures`] for an example.
 #[derive(Drop)]
 pub struct BestCaptures<B: Board> {
     /// How many pieces each takes, at most 20; 0 if nothing can be taken.
@@ -34,8 +32,7 @@ pub struct BestCaptures<B: Board> {
     pub ends: Squares<B>,
 }
 
-/// How many pieces the legal captures take, and on which squares they end. It takes no memory.
-/// Example: at `W:WK47:B17,18,24,32,33` they take 4 pieces and end on 38, 43 and 49.
+/// Returns how many pieces the legal captures take, and on which squares they end. It takes no memory.
 pub fn best_captures<B: Board>(position: &Position<B>) -> BestCaptures<B>
     ensures pieces { IsBest B.geometry position.now result.pieces }
     ensures small { result.pieces ≤ 20 }

@@ -13,7 +13,7 @@ ghost use Rattle.dw_moves.specs.inner.Plain as plain;
 use crate::quiet::may_go;
 use dw_board::{Board, Dir, Kind, Position, Side, Square, Squares, step};
 
-/// The squares of a position, by what the side to move has to do with what stands there.
+/// The squares of a position, grouped by their meaning for the side to move.
 #[derive(Drop)]
 pub(crate) struct Field<B: Board> {
     pub(crate) men: Squares<B>,
@@ -23,7 +23,7 @@ pub(crate) struct Field<B: Board> {
 }
 
 impl<B: Board> Field<B> {
-    /// The sets of a position.
+    /// Returns the sets of a position.
     #[inline]
     pub(crate) fn of(position: &Position<B>) -> Self
         ensures sets { AreSets B.geometry position.now result.men result.kings result.enemies result.occupied }
@@ -33,7 +33,7 @@ impl<B: Board> Field<B> {
         Field::given(position, position.turn())
     }
 
-    /// The sets that it would have, if it were this side's turn.
+    /// Returns the sets that it would have, if it were this side's turn.
     #[inline]
     pub(crate) fn given(position: &Position<B>, side: Side) -> Self
         ensures { AreSets B.geometry (given position.now side) result.men result.kings result.enemies result.occupied }
@@ -49,7 +49,7 @@ impl<B: Board> Field<B> {
         }
     }
 
-    /// The sets without what stands on a square.
+    /// Returns the sets without the piece on a square.
     #[inline]
     pub(crate) fn without(&self, from: Square<B>) -> Self
         ensures enemies { result.enemies ≡ self.now.enemies }
@@ -63,7 +63,7 @@ impl<B: Board> Field<B> {
         }
     }
 
-    /// Whether a man on this square, which has taken these, can jump over one more enemy.
+    /// Returns whether a man on this square, which has taken these, can jump over one more enemy.
     #[inline]
     pub(crate) fn man_goes_on(&self, from: Square<B>, taken: Squares<B>) -> bool
         ensures { (d : Dir) (t : ℕ) → JumpsTo B.geometry (set.difference self.now.enemies taken) self.now.occupied from
@@ -79,7 +79,7 @@ impl<B: Board> Field<B> {
         any(up.or(down))
     }
 
-    /// The square to which a man can jump in a direction over one of these enemies, if it is free.
+    /// Returns the square to which a man can jump in a direction over one of these enemies, if it is free.
     #[inline]
     fn landing(&self, from: Square<B>, enemies: Squares<B>, direction: Dir) -> Squares<B>
         ensures { (t : ℕ) → In t result ↔ JumpsTo B.geometry enemies self.now.occupied from direction t }
@@ -88,7 +88,7 @@ impl<B: Board> Field<B> {
         met.shifted(direction).minus(self.occupied)
     }
 
-    /// Whether something can be taken.
+    /// Returns whether something can be taken.
     #[inline]
     pub(crate) fn takes(&self) -> bool
         ensures { IsTrue result ↔ ((d : Dir) × Takes B.geometry self.now.men self.now.kings self.now.enemies
@@ -97,7 +97,7 @@ impl<B: Board> Field<B> {
         self.men_take() || self.kings_take()
     }
 
-    /// Whether a man can take something.
+    /// Returns whether a man can take something.
     #[inline]
     pub(crate) fn men_take(&self) -> bool
         ensures { IsTrue result ↔ ((d : Dir) × (t : ℕ) × MenTake B.geometry self.now.men self.now.enemies
@@ -112,7 +112,7 @@ impl<B: Board> Field<B> {
         any(up.or(down))
     }
 
-    /// Whether a king can take something.
+    /// Returns whether a king can take something.
     #[inline]
     fn kings_take(&self) -> bool
         ensures { IsTrue result ↔ ((d : Dir) × (t : ℕ) × KingsTake B.geometry self.now.kings self.now.enemies
@@ -121,7 +121,7 @@ impl<B: Board> Field<B> {
         any(self.kings) && slides_take(self.kings, self.enemies, self.occupied)
     }
 
-    /// The same: all kings slide, whether or not there are some.
+    /// Returns the same: all kings slide, whether or not there are some.
     #[inline(always)]
     pub(crate) fn slide_to_take(&self) -> bool
         ensures { IsTrue result ↔ ((d : Dir) × (t : ℕ) × KingsTake B.geometry self.now.kings self.now.enemies
@@ -136,7 +136,7 @@ impl<B: Board> Field<B> {
         any(up.or(down))
     }
 
-    /// The empty squares behind the enemies next to a man.
+    /// Returns the empty squares beyond the enemies next to a man.
     #[inline]
     fn behind_men(&self, direction: Dir) -> Squares<B>
         ensures { (t : ℕ) → In t result ↔ MenTake B.geometry self.now.men self.now.enemies self.now.occupied
@@ -146,7 +146,7 @@ impl<B: Board> Field<B> {
         met.shifted(direction).minus(self.occupied)
     }
 
-    /// The empty squares behind the enemies that a king meets first. All kings go on together.
+    /// Returns the empty squares beyond the first enemies that kings meet. All kings slide together.
     #[inline]
     fn behind_kings(&self, direction: Dir) -> Squares<B>
         ensures { (t : ℕ) → In t result ↔ KingsTake B.geometry self.now.kings self.now.enemies self.now.occupied
@@ -157,7 +157,7 @@ impl<B: Board> Field<B> {
         met.shifted(direction).minus(self.occupied)
     }
 
-    /// The enemies next to a man.
+    /// Returns the enemies next to a man.
     #[inline]
     fn met_by_men(&self, direction: Dir) -> Squares<B>
         ensures { (c : ℕ) → In c result ↔ MenMeet B.geometry self.now.men self.now.enemies self.now.occupied
@@ -166,7 +166,7 @@ impl<B: Board> Field<B> {
         self.men.shifted(direction).and(self.enemies)
     }
 
-    /// The kings, if one of them can take something in a direction.
+    /// Returns the kings, if one of them can take something in a direction.
     #[inline]
     pub(crate) fn kings_before_enemy(&self, direction: Dir) -> Squares<B>
         ensures { (s : ℕ) → In s self.now.kings → ((t : ℕ) × KingsTake B.geometry self.now.kings self.now.enemies
@@ -179,7 +179,7 @@ impl<B: Board> Field<B> {
         }
     }
 
-    /// The squares from which a man can take in a direction.
+    /// Returns the squares from which a man can take in a direction.
     #[inline]
     pub(crate) fn before_enemy(&self, direction: Dir) -> Squares<B>
         ensures { (s c t : ℕ) → OnBoard B.geometry s → In s self.now.men → step B.geometry s direction ≡ Some c
@@ -191,7 +191,7 @@ impl<B: Board> Field<B> {
         behind.minus(self.occupied).shifted(back).shifted(back)
     }
 
-    /// The squares from which a capture may begin in a direction: each from which one does is among them.
+    /// Returns the squares from which a capture may begin in a direction: each from which one does is among them.
     #[inline]
     pub(crate) fn may_take(&self, direction: Dir) -> Squares<B>
         ensures { (p : Placement) (s : ℕ) → AreSets B.geometry p self.now.men self.now.kings self.now.enemies
@@ -201,7 +201,7 @@ impl<B: Board> Field<B> {
             .or(self.before_enemy(direction))
     }
 
-    /// Whether a piece of the side to move can go to the next square in a direction.
+    /// Returns whether a piece of the side to move can go to the next square in a direction.
     #[inline]
     pub(crate) fn steps(&self, side: Side, direction: Dir) -> bool
         ensures { IsTrue result ↔ Steps B.geometry side self.now.men self.now.kings self.now.occupied direction }
@@ -209,7 +209,7 @@ impl<B: Board> Field<B> {
         any(self.next_free(side, direction))
     }
 
-    /// The empty squares to which a piece of the side to move can go one square in a direction.
+    /// Returns the empty squares to which a piece of the side to move can go one square in a direction.
     #[inline]
     pub(crate) fn next_free(&self, side: Side, direction: Dir) -> Squares<B>
         ensures { (t : ℕ) → In t result ↔ StepsOn B.geometry side self.now.men self.now.kings self.now.occupied
@@ -223,7 +223,7 @@ impl<B: Board> Field<B> {
         movers.shifted(direction).minus(self.occupied)
     }
 
-    /// The empty squares to which a piece of the side to move can go one square.
+    /// Returns the empty squares to which a piece of the side to move can go one square.
     #[inline]
     pub(crate) fn all_next_free(&self, side: Side) -> Squares<B>
         ensures { (t : ℕ) → In t result ↔ ((d : Dir) × StepsOn B.geometry side self.now.men self.now.kings
@@ -239,7 +239,7 @@ impl<B: Board> Field<B> {
     }
 }
 
-/// Whether one of these kings can take something. It is no part of what is asked of each position, and stands apart.
+/// Returns whether one of these kings can take something. A function of its own, because few positions need it.
 #[inline(never)]
 fn slides_take<B: Board>(kings: Squares<B>, enemies: Squares<B>, occupied: Squares<B>) -> bool
     ensures { IsTrue result ↔ ((d : Dir) × (t : ℕ) × KingsTake B.geometry kings enemies occupied d t) }
@@ -253,7 +253,7 @@ fn slides_take<B: Board>(kings: Squares<B>, enemies: Squares<B>, occupied: Squar
     field.slide_to_take()
 }
 
-/// The next square in a direction, if it is none of those on which pieces stand.
+/// Returns the next square in a direction, if it is none of those on which pieces stand.
 #[inline]
 pub(crate) fn free_step<B: Board>(
     occupied: Squares<B>,
@@ -269,7 +269,7 @@ pub(crate) fn free_step<B: Board>(
     if occupied.has(next) { None } else { Some(next) }
 }
 
-/// Whether a square is in the set.
+/// Returns whether a square is in the set.
 #[inline]
 pub(crate) fn any<B: Board>(squares: Squares<B>) -> bool
     ensures { IsTrue result ↔ ((s : ℕ) × In s squares) }
@@ -277,7 +277,7 @@ pub(crate) fn any<B: Board>(squares: Squares<B>) -> bool
     !squares.is_empty()
 }
 
-/// Whether two squares or more are in the set.
+/// Returns whether two squares or more are in the set.
 #[inline]
 pub(crate) fn has_two<B: Board>(squares: Squares<B>) -> bool
     ensures { IsTrue result ↔ HasTwo squares }

@@ -1,4 +1,4 @@
-//! The capture of which a list of squares is a path.
+//! The capture with a given path.
 ghost use Rattle.std.specs.Prelude.{◌≡◌, ◌↔◌, Some, IfSome, IsTrue};
 ghost use Rattle.dw_moves.specs.Moves as of;
 ghost use Rattle.dw_moves.specs.Moves.{Legal};
@@ -10,9 +10,7 @@ use crate::seeker::{Aim, Seeker};
 use crate::walk::walk_captures;
 use dw_board::{Board, Position, Square};
 
-/// The legal capture of which these squares, its start first, are a path, be it the least one or another; `None`
-/// if there is none.
-/// Example: at `W:W38:B22,23,32,33` the squares 38, 27, 18, 29, 38 are a capture of all four men, and 38, 27, 18 none.
+/// Returns the legal capture that has this path, start first, or `None`. It need not be the least path of the capture.
 pub fn follow<B: Board>(position: &Position<B>, squares: &[Square<B>]) -> Option<Move<B>>
     ensures path { (m : of.Move) → (result ≡ Some m) ↔ IsPathFor B.geometry position.now m squares.now }
     ensures legal { IfSome result (Legal B.geometry position.now) }
@@ -38,7 +36,7 @@ impl<'a, B: Board> Aim<B> for Route<'a, B> {
     }
 }
 
-/// Whether two lists of squares are the same.
+/// Returns whether two lists of squares are the same.
 fn is_same<'a, B: Board>(a: &'a [Square<B>], b: &'a [Square<B>]) -> bool
     ensures { IsTrue result ↔ (a.now ≡ b.now) }
 {

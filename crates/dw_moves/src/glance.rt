@@ -8,11 +8,10 @@ use crate::field::Field;
 use crate::quiet::count_on;
 use dw_board::{Board, Dir, Position, Squares};
 
-/// Whether the side to move can take something.
+/// Returns whether the side to move can take something.
 ///
-/// A man can take an adjacent enemy, forward or backward, if the square behind it is empty. A king can take the
-/// one enemy on a diagonal that has only empty squares before it and an empty square behind it.
-/// Example: at `W:W32:B28` it is `true`, and at `W:W27,45:B16` it is `false`.
+/// A man can take an adjacent enemy, forward or backward, if the next square is empty. A king can take the one enemy on
+/// a diagonal with only empty squares before it and an empty square after it.
 #[inline]
 pub fn can_capture<B: Board>(position: &Position<B>) -> bool
     ensures { IsTrue result ↔ CanCapture B.geometry position.now }
@@ -20,9 +19,8 @@ pub fn can_capture<B: Board>(position: &Position<B>) -> bool
     Field::of(position).takes()
 }
 
-/// The number of legal moves if nothing can be taken, at most 400, or `None` if something can be: then it is not
-/// counted.
-/// Example: at `W:W27,45:B16` it is 3, and at `W:W32:B28` it is `None`.
+/// Returns the number of legal moves if nothing can be taken, at most 400, or `None` if something can be: then it is
+/// not counted.
 #[inline]
 pub fn count_if_quiet<B: Board>(position: &Position<B>) -> Option<u32>
     ensures none { IsNone result ↔ CanCapture B.geometry position.now }
@@ -39,7 +37,7 @@ pub fn count_if_quiet<B: Board>(position: &Position<B>) -> Option<u32>
     }
 }
 
-/// The same, if no man can take something. Kings slide once, for what they take and for where they go.
+/// Returns the same, if no man can take something. Kings slide once for captures and quiet moves.
 #[inline(never)]
 fn count_unless_kings_take<B: Board>(position: &Position<B>, field: &Field<B>) -> Option<u32>
     requires sets { AreSets B.geometry position.now field.now.men field.now.kings field.now.enemies
@@ -56,7 +54,7 @@ fn count_unless_kings_take<B: Board>(position: &Position<B>, field: &Field<B>) -
     }
 }
 
-/// Whether the side to move has a quiet move, whether or not it must capture.
+/// Returns whether the side to move has a quiet move, whether or not it must capture.
 pub(crate) fn can_step<B: Board>(position: &Position<B>) -> bool
     ensures { IsTrue result ↔ CanStep B.geometry position.now }
 {
@@ -68,9 +66,8 @@ pub(crate) fn can_step<B: Board>(position: &Position<B>) -> bool
         || field.steps(side, Dir::DownRight)
 }
 
-/// The squares to which a piece of the other side could go one square, if it were its turn: a man forward, a king in
-/// any direction.
-/// Example: at `W:W28:B1,2` they are 6, 7 and 8.
+/// Returns the squares to which a piece of the other side could go one square, if it were its turn: a man forward, a
+/// king in any direction.
 #[inline]
 pub fn other_steps<B: Board>(position: &Position<B>) -> Squares<B>
     ensures { (t : ℕ) → In t result ↔ ((s : ℕ) × OneStep B.geometry (passed position.now) s t) }
@@ -79,8 +76,7 @@ pub fn other_steps<B: Board>(position: &Position<B>) -> Squares<B>
     Field::given(position, side).all_next_free(side)
 }
 
-/// Whether the side to move has a legal move.
-/// Example: at `W:W7:B` it is `true`, and at `W:W:B20` it is `false`.
+/// Returns whether the side to move has a legal move.
 pub fn has_move<B: Board>(position: &Position<B>) -> bool
     ensures { IsTrue result ↔ ((m : Move) × Legal B.geometry position.now m) }
 {

@@ -15,8 +15,7 @@ use dw_board::{Board, Position, Square};
 use std::alloc::{AllocError, Global};
 use std::mem::replace;
 
-/// Whether a move is legal: a quiet one if nothing can be taken, else a capture of the greatest number.
-/// Example: at `W:W32:B28` it is `true` for the capture `32x23`, and `false` for the quiet move `32-27`.
+/// Returns whether a move is legal: a quiet one if nothing can be taken, else a capture of the greatest number.
 pub fn is_legal<B: Board>(position: &Position<B>, mv: &Move<B>) -> bool
     ensures { IsTrue result ↔ Legal B.geometry position.now mv.now }
 {
@@ -29,8 +28,7 @@ pub fn is_legal<B: Board>(position: &Position<B>, mv: &Move<B>) -> bool
     }
 }
 
-/// All legal moves of the side to move, each once, in any order; or an error if out of memory.
-/// Example: at `W:WK46:B28` there are 5, each of which takes 28.
+/// Returns all legal moves of the side to move, each once, in any order; or an error if out of memory.
 pub fn legal<B: Board>(alloc: Global, position: &Position<B>) -> Result<Vec<Move<B>>, AllocError>
     ensures { IfOk result (λ moves. AreLegal B.geometry position.now moves.items) }
 {
@@ -39,9 +37,8 @@ pub fn legal<B: Board>(alloc: Global, position: &Position<B>) -> Result<Vec<Move
     Ok(moves)
 }
 
-/// Fills a list with all legal moves, each once, in any order. What it held is dropped, and its memory used again, so
-/// a search can keep its lists. If out of memory it is empty.
-/// See [`legal`] for an example.
+/// Fills a list with all legal moves, each once, in any order. What it held is dropped, and its memory used again, so a
+/// search can keep its lists. If out of memory it is empty.
 pub fn legal_into<B: Board>(
     position: &Position<B>,
     moves: &mut Vec<Move<B>>,

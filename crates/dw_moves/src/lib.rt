@@ -1,8 +1,6 @@
-//! What a position of international draughts allows: quiet moves, captures, legal moves, and the position after a move.
+//! The moves of international draughts: quiet moves, captures, legal moves, and the position after a move.
 //!
 //! Begin with `legal::legal`, which lists the legal moves, and `play::play`. `listed::listed` lists them in order.
-//!
-//! An example tells a position by its FEN text, on the board of ten rows if it names no other.
 #![tactic(auto)]
 
 pub mod best;

@@ -15,8 +15,7 @@ use indexmap::IndexMap;
 use std::alloc::{AllocError, Global};
 use std::cmp::Ordering;
 
-/// All legal moves in ascending order, each once and with its least path; or an error if out of memory.
-/// Example: at `W:W28:B22,K23` they are `28x17` with the path 28, 17, and then `28x19` with the path 28, 19.
+/// Returns all legal moves in ascending order, each once and with its least path; or an error if out of memory.
 pub fn listed<B: Board>(alloc: Global, position: &Position<B>) -> Result<Vec<Listed<B>>, AllocError>
     ensures { IfOk result (λ list. AreListed B.geometry position.now list.items) }
 {
@@ -27,7 +26,6 @@ pub fn listed<B: Board>(alloc: Global, position: &Position<B>) -> Result<Vec<Lis
 
 /// Fills a list with all legal moves in ascending order, each once and with its least path. What it held is dropped,
 /// and its memory used again; only captures take other memory besides. If out of memory it is empty.
-/// See [`listed`] for an example.
 pub fn listed_into<B: Board>(
     position: &Position<B>,
     list: &mut Vec<Listed<B>>,
@@ -134,8 +132,8 @@ fn keep_least<B: Board>(
     Ok(())
 }
 
-/// The order of moves: by their starts, then by their ends, then by their paths. A list holds each move once, and so
-/// none is equal to another.
+/// Returns the order of moves: by their starts, then by their ends, then by their paths. A list holds each move once,
+/// and so none is equal to another.
 fn order<B: Board>(a: &Listed<B>, b: &Listed<B>) -> Ordering
     ensures { IsTrue (is_lt result) ↔ LexLess (sorted_by a.now) (sorted_by b.now) }
 {
@@ -153,7 +151,7 @@ fn order<B: Board>(a: &Listed<B>, b: &Listed<B>) -> Ordering
     }
 }
 
-/// Whether a list of squares comes before another in lexicographic order.
+/// Returns whether a list of squares comes before another in lexicographic order.
 fn is_less<B: Board>(a: &[Square<B>], b: &[Square<B>]) -> bool
     ensures { IsTrue result ↔ LexLess a.now b.now }
 {

@@ -1,4 +1,4 @@
-//! How men and kings capture: what they meet, how far they land behind it, and whether they go on.
+//! How men and kings capture: the enemy they meet, where they land, and whether they go on.
 ghost use Rattle.std.specs.Prelude.{◌≡◌, ℕ, None, false, IsTrue, IfSome};
 ghost use Rattle.std.specs.FinSet as set;
 ghost use Rattle.dw_board.specs.Geometry.{OnBoard};
@@ -13,15 +13,15 @@ ghost use Rattle.dw_moves.specs.inner.Plain.{TakesOver, takes_for, no_jumps};
 use crate::field::Field;
 use dw_board::{Board, Dir, Kind, Square, Squares, step};
 
-/// A kind of piece that captures. What is said of its captures holds at every position of which these are the sets.
+/// A kind of piece that captures. Its contracts hold at every position with these sets.
 pub(crate) trait Mover<B: Board> {
     ghost as_kind: { Kind };
 
-    /// The kind.
+    /// Returns the kind.
     fn kind() -> Kind
         ensures { result ≡ as_kind };
 
-    /// The enemy that it meets first in a direction.
+    /// Returns the enemy that it meets first in a direction.
     fn met(field: &Field<B>, from: &Square<B>, direction: Dir) -> Option<Square<B>>
         requires { OnBoard B.geometry from.now }
         ensures none { result ≡ None → (p : Placement) (side : Side)
@@ -33,7 +33,7 @@ pub(crate) trait Mover<B: Board> {
         ensures enemy { IfSome result (λ c. In c field.now.enemies) }
         ensures on_board { IfSome result (OnBoard B.geometry) };
 
-    /// Whether it can take one more on a square, if it has taken these: true if so, and maybe if not.
+    /// Returns whether it can take one more on a square, if it has taken these: true if so, and maybe if not.
     fn goes_on(field: &Field<B>, from: &Square<B>, taken: &Squares<B>) -> bool
         requires { OnBoard B.geometry from.now }
         ensures { (p : Placement) (side : Side) (c t : ℕ)
@@ -41,7 +41,7 @@ pub(crate) trait Mover<B: Board> {
             → Jump B.geometry p (record { side = side; kind = as_kind }) from.now c t → IsTrue result };
 }
 
-/// A man: it meets what stands on the next square, and lands right behind it.
+/// A man: it meets the piece on the next square, and lands on the square after it.
 pub(crate) struct Stepper;
 
 impl<B: Board> Mover<B> for Stepper {
@@ -68,7 +68,7 @@ impl<B: Board> Mover<B> for Stepper {
     }
 }
 
-/// A king: it meets the first piece on its way, to which it slides in one go, and lands on each empty square behind it.
+/// A king: it slides to the first piece on its way, and lands on any empty square after it.
 pub(crate) struct Slider;
 
 impl<B: Board> Mover<B> for Slider {
@@ -85,7 +85,7 @@ impl<B: Board> Mover<B> for Slider {
         reached.shifted(direction).and(field.enemies).first()
     }
 
-    /// It is found out as it goes on.
+    /// Returns `true`: a king's next jump is looked for without a test.
     #[inline(always)]
     fn goes_on(field: &Field<B>, from: &Square<B>, taken: &Squares<B>) -> bool {
         true

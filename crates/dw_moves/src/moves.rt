@@ -17,13 +17,11 @@ use std::alloc::AllocError;
 use std::hash::{Hash, Hasher};
 use std::marker::Model;
 
-/// A path has at most so many squares: its start, and one for each of the twenty pieces that a side has.
-/// Example: at `W:W38:B22,23,32,33` the path of the capture of all four men has 5.
+/// The most squares of a path: its start, and one for each of twenty taken pieces.
 pub const LONGEST_PATH: usize = 1 + 20;
 
-/// A move: where it begins and ends, and the squares of the pieces that it takes, all of them in one set. Two ways
-/// to capture the same pieces between the same two squares are one move.
-/// Example: at `W:W32:B28` the capture `32x23` leads from 32 to 23, and `taken` is the set of square 28.
+/// A move: where it begins and ends, and the squares of the pieces that it takes, all of them in one set. Two ways to
+/// capture the same pieces between the same two squares are one move.
 pub struct Move<B: Board> {
     pub from: Square<B>,
     pub to: Square<B>,
@@ -43,8 +41,7 @@ impl<B: Board> Model for Move<B> {
 }
 
 impl<B: Board> Move<B> {
-    /// A move that takes nothing.
-    /// Example: `Move::quiet(from, to).taken.is_empty()` is `true`.
+    /// Returns a move that takes nothing.
     pub fn quiet(from: Square<B>, to: Square<B>) -> Self
         ensures { result ≡ record { from = from; to = to; taken = set.empty } }
     {
@@ -110,8 +107,7 @@ impl<B: Board> Hash for Move<B> {
     }
 }
 
-/// Whether two moves are equal: they begin and end on the same squares and take the same pieces. It is what `==` says.
-/// Example: of the quiet moves from 1 to 50 and from 50 to 1 it is `false`.
+/// Returns whether two moves are equal: same start, same end, same taken pieces. This is the meaning of `==`.
 pub fn same_move<B: Board>(a: &Move<B>, b: &Move<B>) -> bool
     ensures { IsTrue result ↔ (a.now ≡ b.now) }
 {
@@ -119,7 +115,6 @@ pub fn same_move<B: Board>(a: &Move<B>, b: &Move<B>) -> bool
 }
 
 /// A move with one of its paths, the start first.
-/// Example: at `W:W38:B22,23,32,33` the capture `38x38` has the path 38, 27, 18, 29, 38.
 #[derive(Drop)]
 pub struct Listed<B: Board> {
     /// The move.

@@ -14,16 +14,15 @@ use crate::field::{Field, free_step};
 use dw_board::{Board, Dir, Kind, Piece, Position, Side, Square, Squares, step};
 use std::alloc::AllocError;
 
-/// The number of quiet moves of the side to move, whether or not it must capture. A man moves one square diagonally
-/// forward to an empty square, White up and Black down; a king any number of empty squares along a diagonal.
-/// Example: at `W:WK46:B28` it is 3, though White has to capture.
+/// Returns the number of quiet moves of the side to move, whether or not it must capture. A man moves one square
+/// diagonally forward to an empty square, White up and Black down; a king any number of empty squares along a diagonal.
 pub fn quiet_count<B: Board>(position: &Position<B>) -> u32
     ensures { IsQuietCount B.geometry position.now result }
 {
     count_on(position, &Field::of(position))
 }
 
-/// The number of quiet moves, if the sets of the position are known.
+/// Returns the number of quiet moves, if the sets of the position are known.
 #[inline(always)]
 pub(crate) fn count_on<B: Board>(position: &Position<B>, field: &Field<B>) -> u32
     requires { AreSets B.geometry position.now field.now.men field.now.kings field.now.enemies field.now.occupied }
@@ -35,7 +34,7 @@ pub(crate) fn count_on<B: Board>(position: &Position<B>, field: &Field<B>) -> u3
     up + down + kings_count(position, field)
 }
 
-/// The number of quiet moves of men in one direction: each leads to another square.
+/// Returns the number of quiet moves of men in one direction: each leads to another square.
 #[inline]
 fn men_count<B: Board>(position: &Position<B>, direction: Dir) -> u32
     ensures value { Counts (ManSteps B.geometry position.now direction) result }
@@ -44,7 +43,7 @@ fn men_count<B: Board>(position: &Position<B>, direction: Dir) -> u32
     u32::from(men_reach(position, direction).count())
 }
 
-/// The number of quiet moves of kings.
+/// Returns the number of quiet moves of kings.
 #[inline]
 fn kings_count<B: Board>(position: &Position<B>, field: &Field<B>) -> u32
     requires { AreSets B.geometry position.now field.now.men field.now.kings field.now.enemies field.now.occupied }
@@ -60,7 +59,7 @@ fn kings_count<B: Board>(position: &Position<B>, field: &Field<B>) -> u32
     up + down
 }
 
-/// The number of quiet moves of kings in one direction: each leads to another square.
+/// Returns the number of quiet moves of kings in one direction: each leads to another square.
 #[inline]
 fn kings_run<B: Board>(position: &Position<B>, field: &Field<B>, direction: Dir) -> u32
     requires { AreSets B.geometry position.now field.now.men field.now.kings field.now.enemies field.now.occupied }
@@ -71,7 +70,7 @@ fn kings_run<B: Board>(position: &Position<B>, field: &Field<B>, direction: Dir)
     u32::from(reached.minus(field.kings).count())
 }
 
-/// Whether a piece may go this way if it takes nothing.
+/// Returns whether a piece may go this way if it takes nothing.
 #[inline]
 pub(crate) fn may_go(kind: Kind, side: Side, direction: Dir) -> bool
     ensures { result ≡ plain.may_go kind side direction }
@@ -87,7 +86,7 @@ pub(crate) fn may_go(kind: Kind, side: Side, direction: Dir) -> bool
 pub(crate) trait FromQuiet<B: Board> {
     ghost made: { ℕ → ℕ → Self };
 
-    /// A quiet move from one square to another.
+    /// Returns a quiet move from one square to another.
     fn from_quiet(from: &Square<B>, to: &Square<B>) -> Self
         ensures { result ≡ made from.now to.now };
 }
@@ -124,7 +123,7 @@ fn push_steps<B: Board, T: FromQuiet<B> + Drop>(
     Ok(())
 }
 
-/// The squares that men of the side to move reach in one direction, none if it is backward.
+/// Returns the squares that men of the side to move reach in one direction, none if it is backward.
 #[inline]
 fn men_reach<B: Board>(position: &Position<B>, direction: Dir) -> Squares<B>
     ensures { (t : ℕ) → In t result ↔ ((s : ℕ) × ManSteps B.geometry position.now direction s t) }
@@ -192,7 +191,7 @@ fn push_run<B: Board, T: FromQuiet<B> + Drop>(
     Ok(())
 }
 
-/// Whether the side to move has a quiet move between two squares.
+/// Returns whether the side to move has a quiet move between two squares.
 pub(crate) fn is_quiet<B: Board>(position: &Position<B>, from: Square<B>, to: Square<B>) -> bool
     ensures { IsTrue result ↔ Quiet B.geometry position.now from to }
 {
@@ -207,7 +206,7 @@ pub(crate) fn is_quiet<B: Board>(position: &Position<B>, from: Square<B>, to: Sq
     }
 }
 
-/// Whether the mover's piece may go to a square in one direction.
+/// Returns whether the mover's piece may go to a square in one direction.
 fn goes_to<B: Board>(
     position: &Position<B>,
     kind: Kind,
@@ -221,7 +220,7 @@ fn goes_to<B: Board>(
     may_go(kind, position.turn(), direction) && runs_to(position, kind, from, direction, to)
 }
 
-/// Whether a piece can reach a square in one direction over empty squares.
+/// Returns whether a piece can reach a square in one direction over empty squares.
 fn runs_to<B: Board>(
     position: &Position<B>,
     kind: Kind,
@@ -245,7 +244,7 @@ fn runs_to<B: Board>(
     false
 }
 
-/// Whether a piece is one of this side.
+/// Returns whether a piece is one of this side.
 fn is_own(piece: Piece, side: Side) -> bool
     ensures { result ≡ same_side piece.side side }
 {

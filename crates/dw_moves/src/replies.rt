@@ -14,12 +14,11 @@ use crate::moves::Move;
 use crate::play::play;
 use dw_board::{Board, Dir, Position, Squares, step};
 
-/// Whether it is seen at a glance that the other side has a reply to every move: if it were its turn, pieces of it that
-/// can not be taken could go one square to two different squares or more. A move stands in the way of one.
+/// Returns whether it is seen at a glance that the other side has a reply to every move: if it were its turn, pieces of
+/// it that cannot be taken could go one square to two different squares or more. A move stands in the way of one.
 ///
-/// If nothing can be taken, no piece can. Else a piece can not be taken if, along each diagonal, the edge is next to it
+/// If nothing can be taken, no piece can. Else a piece cannot be taken if, along each diagonal, the edge is next to it
 /// or a piece of its own side, which stays where it is while the move lasts.
-/// Example: at `W:W32:B1,28` it is `true`, since the man on 1 is at the edge; at `W:W32:B28` it is `false`.
 pub fn has_sure_reply<B: Board>(position: &Position<B>) -> bool
     ensures exact { IsTrue result ↔ HasSureReply B.geometry position.now }
     ensures replies { IsTrue result → AlwaysReply B.geometry position.now }
@@ -31,10 +30,9 @@ pub fn has_sure_reply<B: Board>(position: &Position<B>) -> bool
     }
 }
 
-/// A legal move of one square after which the other side is seen to have no win in its next move, and the position
-/// after it: whatever it plays there, a reply is sure. `None` if something can be taken, or if there is no such move.
-/// It lists no moves.
-/// Example: at `W:W28:B1,2` it is `28-22` or `28-23`, with the position after it; at `W:W32:B28` it is `None`.
+/// Returns a legal move of one square after which the other side is seen to have no win in its next move, and the
+/// position after it: whatever it plays there, a reply is sure. `None` if something can be taken, or if there is no
+/// such move. It lists no moves.
 pub fn sure_step<B: Board>(position: &Position<B>) -> Option<(Move<B>, Position<B>)>
     ensures legal { IfSome result (λ found. Legal B.geometry position.now found.0) }
     ensures some { IfSome result (λ found. IsSureStep B.geometry position.now found.0) }
@@ -58,7 +56,7 @@ pub fn sure_step<B: Board>(position: &Position<B>) -> Option<(Move<B>, Position<
     sure_towards(position, &field, Dir::DownRight)
 }
 
-/// The same in one direction, if the sets of the position are known.
+/// Returns the same in one direction, if the sets of the position are known.
 #[inline(always)]
 fn sure_towards<B: Board>(
     position: &Position<B>,
@@ -88,7 +86,7 @@ fn sure_towards<B: Board>(
     None
 }
 
-/// The squares to which a piece of the other side that is not exposed could go one square, if it were its turn.
+/// Returns the squares to which a piece of the other side that is not exposed could go one square, if it were its turn.
 #[inline]
 fn safe_steps<B: Board>(position: &Position<B>) -> Squares<B>
     ensures { (t : ℕ) → In t result ↔ ((s : ℕ) × SafeStep B.geometry position.now s t) }
@@ -105,7 +103,7 @@ fn safe_steps<B: Board>(position: &Position<B>) -> Squares<B>
     sheltered.all_next_free(side)
 }
 
-/// Those of these pieces next to which, on a diagonal, there is a square on both sides and none of them on it.
+/// Returns those of these pieces next to which, on a diagonal, there is a square on both sides and none of them on it.
 #[inline]
 fn exposed<B: Board>(pieces: Squares<B>) -> Squares<B>
     requires { (s : ℕ) → In s pieces → OnBoard B.geometry s }
@@ -116,7 +114,7 @@ fn exposed<B: Board>(pieces: Squares<B>) -> Squares<B>
     falling.or(rising)
 }
 
-/// Those of these pieces next to which there is a square in a direction, and none of them on it.
+/// Returns those of these pieces next to which there is a square in a direction, and none of them on it.
 #[inline]
 fn open_towards<B: Board>(pieces: Squares<B>, direction: Dir) -> Squares<B>
     requires { (s : ℕ) → In s pieces → OnBoard B.geometry s }

@@ -14,7 +14,7 @@ pub(crate) trait Aim<B: Board> {
     /// It is met by this capture.
     ghost is_met_by: { Self → Listed → Type 0 };
 
-    /// Whether it is met by this move, made on this path.
+    /// Returns whether it is met by this move, made on this path.
     fn is_met(&self, mv: &Move<B>, path: &[Square<B>]) -> bool
         ensures { IsTrue result ↔ is_met_by self.now (record { step = mv.now; path = path.now }) };
 }
@@ -29,7 +29,7 @@ pub(crate) struct Seeker<'a, B: Board, A: Aim<B>> {
 }
 
 impl<'a, B: Board, A: Aim<B>> Seeker<'a, B, A> {
-    /// One that has met no capture yet.
+    /// Returns one that has met no capture yet.
     pub(crate) fn of(aim: &'a A) -> Self
         ensures aim { result.aim.now ≡ aim.now }
         ensures none { Sought (These []) A.is_met_by result.aim.now result.aim.now result.most result.found }

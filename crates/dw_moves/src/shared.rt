@@ -8,8 +8,7 @@ use crate::seeker::{Aim, Seeker};
 use crate::walk::walk_captures;
 use dw_board::{Board, Position, Square};
 
-/// Whether another legal capture begins and ends where a move does. It takes no memory.
-/// Example: at `W:W47:B13,14,22,31,32,41,42` it is `true` for `47x36x27x18x9x20` and for `47x38x27x18x9x20`.
+/// Returns whether another legal capture begins and ends where a move does. It takes no memory.
 pub fn shares_ends<B: Board>(position: &Position<B>, mv: &Move<B>) -> bool
     ensures { IsTrue result ↔ SharesEnds B.geometry position.now mv.now }
 {
@@ -34,7 +33,7 @@ impl<'a, B: Board> Aim<B> for Twin<'a, B> {
     }
 }
 
-/// Whether a move begins and ends where another does.
+/// Returns whether a move begins and ends where another does.
 fn has_ends_of<B: Board>(mv: &Move<B>, other: &Move<B>) -> bool
     ensures { IsTrue result ↔ (mv.now.from ≡ other.now.from) × (mv.now.to ≡ other.now.to) }
 {

@@ -13,7 +13,7 @@ use crate::mover::{Mover, Slider, Stepper};
 use crate::moves::Move;
 use dw_board::{Board, Dir, Kind, Position, Square, Squares};
 
-/// A capture so far: where it began, where it stands, what it has taken, and how many that are.
+/// A capture so far: its start, its present square, the taken pieces, and their number.
 #[derive(Drop)]
 struct Chain<B: Board> {
     from: Square<B>,
@@ -23,7 +23,7 @@ struct Chain<B: Board> {
 }
 
 impl<B: Board> Chain<B> {
-    /// One that has not jumped yet.
+    /// Returns one that has not jumped yet.
     #[inline(always)]
     fn on(from: Square<B>) -> Self
         ensures from { result.from ≡ from }
@@ -39,7 +39,7 @@ impl<B: Board> Chain<B> {
         }
     }
 
-    /// The same with one jump more.
+    /// Returns the same with one jump more.
     #[inline(always)]
     fn onto(&self, over: Square<B>, landing: Square<B>) -> Self
         requires { self.now.count + 1 ≤ 20 }
@@ -56,7 +56,7 @@ impl<B: Board> Chain<B> {
         }
     }
 
-    /// The move, if it ends here.
+    /// Returns the move, if it ends here.
     #[inline(always)]
     fn ended(&self) -> Move<B>
         ensures { result ≡ record { from = self.now.from; to = self.now.at; taken = self.now.taken } }
@@ -155,8 +155,8 @@ fn walk<B: Board, M: Mover<B>, K: Keeper<B>>(
     keeper.offer(&chain.ended(), chain.count)
 }
 
-/// Offers those that go on in one direction: over the enemy that is met, onto the square behind it, or for a king onto
-/// each. What was taken stays on its square, and is not jumped twice.
+/// Offers the captures that go on in one direction: over the next enemy, onto the square after it, or for a king onto
+/// each free one. Taken pieces stay on their squares and are not jumped twice.
 #[cycle(walk)]
 #[inline(always)]
 fn walk_towards<B: Board, M: Mover<B>, K: Keeper<B>>(

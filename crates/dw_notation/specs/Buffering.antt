@@ -12,7 +12,7 @@ unread_in buffer = slice_range buffer.bytes buffer.start buffer.end
 abbrev pub met_end_in : Buffer → Bool
 met_end_in buffer = buffer.met_end
 
--- a source as it stands, and what was read of it
+-- a source at one moment, and the bytes that were read of it
 pub record Input (S : Type 0) : Type 0 where
   pub source : S
   pub unread : List ℕ

@@ -1,4 +1,4 @@
--- The text of a move: what it names, which moves fit that, and the answer to it.
+-- The text of a move: the squares that it names, the moves that fit, and the answer.
 use Rattle.std.specs.Prelude.{◌≡◌, ◌==◌, ◌||◌, ℕ, ◌<◌, ◌≤◌, Bool, true, Result, Ok, Err, Some, List, [], ◌∷◌, ◌++◌}
 use Rattle.std.specs.Prelude.{length}
 use Rattle.std.specs.FinSet as set
@@ -24,7 +24,7 @@ pub data AreCrossed : Geometry → List ℕ → List ℕ → Type 0 where
   more : {g : Geometry} {s : ℕ} {squares : List ℕ} (front : List ℕ) (cross : ℕ) (rest : List ℕ) → IsNumber g front s
       → is_cross cross ≡ true → AreCrossed g rest squares → AreCrossed g (front ++ cross ∷ rest) (s ∷ squares)
 
--- what a text names: a quiet move by its two squares, or a capture by its start and squares on which it lands
+-- the meaning of a text: a quiet move by its two squares, or a capture by its start and landing squares
 pub data Named : Type 0 where
   QuietMove : ℕ → ℕ → Named
   Capture : List ℕ → Named
@@ -48,7 +48,7 @@ IsQuietBetween g p from to m = Legal g p m × Between from to m × (m.taken ≡ 
 abbrev pub IsCaptureBetween : Geometry → Placement → ℕ → ℕ → Move → Type 0
 IsCaptureBetween g p from to m = Legal g p m × Between from to m × (0 < set.len m.taken)
 
--- two squares stand for any capture between them, and more for the one of which they are a path
+-- two squares mean any capture between them, more squares the capture that has this path
 abbrev pub FitsSquares : Geometry → Placement → List ℕ → Move → Type 0
 FitsSquares g p [] m = ⊥
 FitsSquares g p (s ∷ []) m = ⊥
@@ -77,8 +77,8 @@ pub record TwoFit (g : Geometry) (p : Placement) (named : Named) : Type 0 where
 abbrev pub NamesTwo : Named → Type 0
 NamesTwo named = (from to : ℕ) × (named ≡ Capture (from ∷ to ∷ []))
 
--- The answer to what was named: the one move that fits, that none does, or that several do. Memory can be refused only
--- for two squares joined by a cross.
+-- The answer to a meaning: the one move that fits, that none does, or that several do. Memory can be refused only for
+-- two squares joined by a cross.
 abbrev pub IsAnswer : Geometry → Placement → Named → Result Move MoveFault → Type 0
 IsAnswer g p named (Ok m) = FitsAlone g p named m
 IsAnswer g p named (Err Syntax) = ⊥
@@ -92,7 +92,7 @@ pub record IsAnswered (g : Geometry) (p : Placement) (text : List ℕ) (answer :
   pub names : Names g text named
   pub answers : IsAnswer g p named answer
 
--- the answer to a text: `Syntax` if it names nothing, or the answer to what it names
+-- the answer to a text: `Syntax` if it has no meaning, or the answer to its meaning
 abbrev pub IsRead : Geometry → Placement → List ℕ → Result Move MoveFault → Type 0
 IsRead g p text (Ok m) = IsAnswered g p text (Ok m)
 IsRead g p text (Err Syntax) = (named : Named) → Names g text named → ⊥

@@ -14,7 +14,7 @@ pub record Numbered : Type 0 where
   pub number : ℕ
   pub found : Found
 
--- what a problem handed out says, whatever the type of its board
+-- a problem that was returned, as a value, for any type of its board
 abbrev pub numbered : {B : Type 0} → Problem B → Numbered
 numbered problem = record { number = problem.number; found = problem.found }
 
@@ -25,7 +25,7 @@ number_from handed (found ∷ more) =
     if nat_lt handed MAX_PROBLEMS then record { number = handed + 1; found = found } ∷ number_from (handed + 1) more
     else (if handed == MAX_PROBLEMS then record { number = handed + 1; found = Err TooManyProblems } ∷ [] else [])
 
--- what a text says, by its form
+-- the problems of a text, by its form
 abbrev pub TextSays : Geometry → Form → Bool → List ℕ → List Found → Type 0
 TextSays g Fens over bytes found = LinesSay g over (without_mark bytes) found
 TextSays g Pdn over bytes found = SectionsSay g over (without_mark bytes) found

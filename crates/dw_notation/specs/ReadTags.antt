@@ -3,7 +3,7 @@ use Rattle.std.specs.Prelude.{◌≡◌, ℕ, List, ◌++◌}
 use Rattle.dw_notation.specs.Tags.{Tag, IsTag}
 use Rattle.dw_notation.specs.declared.tags.Tag.{Tag as ReadTag}
 
--- what it says, whatever holds its bytes
+-- a tag as a value, for any owner of its bytes
 abbrev pub said_by_tag : ReadTag → Tag
 said_by_tag read = record { name = read.name.now; value = read.value.items }
 

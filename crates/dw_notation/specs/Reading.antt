@@ -1,4 +1,4 @@
--- What a reader of problems shows its caller, and what a call for the next problem does.
+-- The value of a reader of problems, and the effect of a call for the next problem.
 use Rattle.std.specs.Prelude.{◌≡◌, ℕ, ◌+◌, ◌<◌, ◌≤◌, ◌⊎◌, List, [], ◌∷◌, ◌++◌, length, Bool, true, false, Option, Some}
 use Rattle.std.specs.Prelude.{None, option_to_list, Result, Ok, Err, MatchBool, IfOk, IfSome}
 use Rattle.std.specs.Borrow.{GName}
@@ -18,7 +18,7 @@ lender problems = problems.source.ghost_name
 abbrev pub source_of : {B S : Type 0} → Problems B S → S
 source_of problems = problems.source.now
 
--- How far a reader has come. Callers know of it what the clauses say, and nothing else.
+-- The progress of a reader. Callers know of it only the clauses.
 pub record Reader : Type 0 where
   -- the problems not yet handed out, if these bytes are still to be read: all of them if the text is over then, else
   -- those that end in these bytes
@@ -30,7 +30,7 @@ pub record Reader : Type 0 where
   -- whether the next problem needs a read
   pub waits : Bool
 
--- what a call of `next` that read these bytes did
+-- the effect of a call of `next` that read these bytes
 abbrev pub Gives : {B : Type 0} → Geometry → Reader → Reader → List ℕ → Result (Option (Problem B)) ReadFault → Type 0
 Gives g old new read (Ok (Some problem)) =
     MatchBool new.met_end (old.ahead g true read ≡ numbered problem ∷ new.ahead g true [])

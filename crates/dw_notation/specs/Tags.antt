@@ -1,4 +1,4 @@
--- The grammar of tags and sections, and what a section says.
+-- The grammar of tags and sections, and the problem of a section.
 use Rattle.std.specs.Prelude.{◌≡◌, ℕ, ◌==◌, ◌+◌, ◌-◌, ◌*◌, ◌<◌, ◌||◌, ◌&&◌, if◌then◌else◌, not, List, [], ◌∷◌, ◌++◌}
 use Rattle.std.specs.Prelude.{length, map, codes, Bool, true, false, Err, nat_lt, MatchBool}
 use Rattle.std.specs.List.{list_all, list_any}
@@ -116,7 +116,7 @@ values_named name [] = []
 values_named name (tag ∷ tags) =
     if same_name tag.name name then tag.value ∷ values_named name tags else values_named name tags
 
--- the number that a text tells whose digits go on behind those of another number
+-- the number of a text whose digits continue those of another number
 abbrev pub number_on : ℕ → List ℕ → ℕ
 number_on n [] = n
 number_on n (byte ∷ text) = if is_ascii_digit byte then number_on (n * 10 + (byte - 48)) text else n
@@ -131,13 +131,13 @@ game_of (byte ∷ text) = if is_blank byte then game_of text
 abbrev pub is_wrong : Geometry → List ℕ → Bool
 is_wrong g games = list_any (λ game. not ((g.rows == 10) && (game == 20))) games
 
--- what the values of the FEN tags say
+-- the position of the FEN tags' values, or their fault
 abbrev pub FensSay : Geometry → List (List ℕ) → Found → Type 0
 FensSay g [] found = found ≡ Err NoFen
 FensSay g (text ∷ []) found = FenSays g text found
 FensSay g (text ∷ other ∷ fens) found = found ≡ Err TwoFens
 
--- what a section of these tags says that has so many bytes, by whether a tag of it is unclosed
+-- the problem of a section with these tags and this length, given whether a tag of it is unclosed
 abbrev pub SectionSays : Geometry → ℕ → Bool → List Tag → Found → Type 0
 SectionSays g size some tags found =
     MatchBool (nat_lt MAX_SECTION size) (found ≡ Err SectionTooLong)

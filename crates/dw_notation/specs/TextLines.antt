@@ -1,4 +1,4 @@
--- The lines of a byte text, and what they say.
+-- The lines of a byte text, and their problems.
 use Rattle.std.specs.Prelude.{◌≡◌, ℕ, ◌==◌, ◌-◌, ◌&&◌, if◌then◌else◌, List, [], ◌∷◌, ◌++◌, length, take, slice_index}
 use Rattle.std.specs.Prelude.{Bool, false, Result, Ok, Err, nat_lt, MatchBool}
 use Rattle.std.specs.List.{list_all}
@@ -45,17 +45,17 @@ FenSays g text (Ok position) = Fen g text position
 FenSays g text (Err (why.Fen fault)) = IsFirstFault g text fault
 FenSays g text (Err other) = ⊥
 
--- what a line says: that it is too long; nothing, if it is of blanks alone; or what its FEN text says
+-- the problem of a line: too long; none, if it has only blanks; or that of its FEN text
 abbrev pub LineSays : Geometry → List ℕ → List Found → Type 0
 LineSays g line said =
     MatchBool (nat_lt MAX_LINE (length line)) (said ≡ Err why.LineTooLong ∷ [])
     (MatchBool (list_all is_blank line) (said ≡ []) ((found : Found) × FenSays g line found × (said ≡ found ∷ [])))
 
--- what stands unfinished where the text ends says something only if no more can come
+-- an unfinished line at the end of a text has a problem only if no more bytes can come
 abbrev pub if_over : Bool → List Found → List Found
 if_over over said = if over then said else []
 
--- a text is a row of lines, and says what they say, one after another; the last one needs no line feed
+-- a text is a row of lines, and has their problems in turn; the last one needs no line feed
 pub data LinesSay : Geometry → Bool → List ℕ → List Found → Type 0 where
   last : {g : Geometry} {over : Bool} (line : List ℕ) (said : List Found) → NoLineFeed line
       → LineSays g (without_return line) said → LinesSay g over line (if_over over said)

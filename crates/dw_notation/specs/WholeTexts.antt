@@ -1,4 +1,4 @@
--- A text of tags as a whole: a row of comments, sections and other bytes, and what they say.
+-- A text of tags as a whole: a row of comments, sections and other bytes, and its problems.
 use Rattle.std.specs.Prelude.{◌≡◌, ◌==◌, ◌||◌, ◌⊎◌, ℕ, not, List, [], ◌∷◌, ◌++◌, length, Bool, true, false, Err}
 use Rattle.std.specs.List.{list_all}
 use Rattle.dw_board.specs.Geometry.{Geometry}
@@ -10,7 +10,7 @@ use Rattle.dw_notation.specs.declared.problems.ProblemFault.TheVariants.{Unclose
 abbrev pub IsOpen : List ℕ → Type 0
 IsOpen text = list_all (λ byte. not (byte == close_brace)) text ≡ true
 
--- a row of comments, sections and other bytes says what its sections say, in turn; a comment left open is a fault
+-- a row of comments, sections and other bytes has the problems of its sections in turn; an open comment is a fault
 pub data SectionsSay : Geometry → Bool → List ℕ → List Found → Type 0 where
   nothing : {g : Geometry} {over : Bool} → SectionsSay g over [] []
   other : {g : Geometry} {over : Bool} {more : List ℕ} {found : List Found} (byte : ℕ)

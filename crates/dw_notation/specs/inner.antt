@@ -1,4 +1,4 @@
--- What only relates the code to the definitions: no contract of a public call names it, but for what is sealed.
+-- Definitions that only relate the code to the public ones: no public contract names them, except sealed ones.
 pub mod MoveReader
 pub mod TextLines
 pub mod Ahead

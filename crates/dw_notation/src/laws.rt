@@ -5,7 +5,6 @@ ghost use Rattle.dw_notation.specs.TextLaws.{MovesHaveTexts, EndsTell, LinesHave
 ghost use Rattle.dw_notation.specs.MoveReadingLaws.{NamesOneThing, HasOneAnswer, WrittenMoveIsNamed, WrittenMoveIsRead};
 
 /// Each text has its problems, and no others.
-/// Example: `{x}*[FEN "W:W32:B28"]` is a comment, another byte and a section, and has the problem of the section.
 pub fn texts_have_problems()
     ensures { TextsHaveProblems }
 {
@@ -13,7 +12,6 @@ pub fn texts_have_problems()
 }
 
 /// Each text of tags says one row of problems, and no other: before they are numbered, and with its mark.
-/// Example: `{x}*[FEN "W:W32:B28"]` says one position.
 pub fn texts_of_tags_say()
     ensures { TextsOfTagsSay }
 {
@@ -21,13 +19,11 @@ pub fn texts_of_tags_say()
 }
 
 /// Each text begins with one whole tag, which `read_tag` reads of it, or with none.
-/// Example: `[A "1"] [B "2"]` begins with `[A "1"]` and with no other tag.
 pub fn one_tag_at_front()
     ensures { OneTagAtFront }
 {}
 
 /// The problems that end in a text come first among those of each text that begins so, under the same numbers.
-/// Example: a line that ends is problem 1 of `W:W32:B28` and a line feed, whatever follows.
 pub fn ended_come_first()
     ensures { EndedComeFirst }
 {
@@ -35,7 +31,6 @@ pub fn ended_come_first()
 }
 
 /// Each legal move of a position has a text, and only one; different moves have different texts.
-/// Example: at `W:W27,45:B16` they are `27-21`, `27-22` and `45-40`.
 pub fn moves_have_texts()
     ensures { MovesHaveTexts }
 {
@@ -48,7 +43,6 @@ pub fn moves_have_texts()
 
 /// A quiet move, and a capture of one piece, are always written by their ends: no other legal move shares them. So is
 /// each other capture whose ends no other one shares.
-/// Example: at `W:W32:B28` the capture is `32x23`.
 pub fn ends_tell()
     ensures { EndsTell }
 {
@@ -60,7 +54,6 @@ pub fn ends_tell()
 }
 
 /// Moves that can be played one after another have a text as a line, and only one.
-/// Example: at `W:W27,45:B16` the text of one is `1. 45-40 16-21 2. 27x16`.
 pub fn lines_have_texts()
     ensures { LinesHaveTexts }
 {
@@ -68,14 +61,12 @@ pub fn lines_have_texts()
 }
 
 /// The text of a move names one thing at most, and so it is read in one way, if memory is not refused.
-/// Example: at `W:W32:B28` the text `32x23` names the capture of the man on 28, and nothing else.
 pub fn texts_have_one_answer()
     ensures named { NamesOneThing }
     ensures answer { HasOneAnswer }
 {}
 
 /// The written text of a legal move is read as that move, if memory is not refused.
-/// Example: at `W:W32:B28` the text `32x23` is written of one move, and is read as that move.
 pub fn written_moves_are_read()
     ensures named { WrittenMoveIsNamed }
     ensures read { WrittenMoveIsRead }

@@ -1,12 +1,10 @@
-//! Texts of draughts: where bytes come from and go, and the problems and the tags of a byte text.
+//! Texts of draughts: sources and sinks of bytes, the problems and tags of a text, the texts of moves and lines.
 //!
-//! Everything is generic over the board. Memory is taken by `text_in`, `line_text` and `LineText`, which list the legal
-//! moves if a capture takes several pieces, by `read_move` at two squares joined by `x`, and by `read_tag` for a value.
+//! Everything is generic over the board. `text_in`, `line_text` and `LineText` allocate if a capture takes several
+//! pieces, `read_move` for two squares joined by `x`, and `read_tag` for a value.
 //!
 //! Begin with `Problems`, which reads the problems of a `Source`, and with `move_text::move_text`,
 //! `line_text::line_text` and `read_move::read_move`.
-//!
-//! An example tells a position by its FEN text, on the board of ten rows if it names no other.
 #![tactic(auto)]
 
 pub mod bytes;

@@ -17,15 +17,12 @@ use std::alloc::{AllocError, Global};
 use std::marker::Model;
 
 /// The most moves of a line: 20 of the attacker, and 19 of the defender between them.
-/// Example: `1. 45-40 16-21 2. 27x16` has 3.
 pub const MAX_MOVES: usize = 20 + 19;
 
-/// The bytes that suffice for the text of each line: for its moves, and for their numbers what one more would take.
-/// Example: `1. 45-40 16-21 2. 27x16` takes 23 of them.
+/// The bytes that suffice for the text of each line, with room for one more move number.
 pub const LINE_ROOM: usize = (MAX_MOVES + 1) * MOVE_ROOM;
 
 /// A move of a line: the position after it, and how long the text is up to its end.
-/// Example: of `1. 45-40 16-21 2. 27x16` the first ply is `45-40`, at whose end the text has 8 bytes.
 #[derive(Drop)]
 struct WrittenMove<B: Board> {
     mv: Move<B>,
@@ -46,7 +43,7 @@ impl<B: Board> Default for WrittenMove<B> {
     }
 }
 
-/// The text of a line, kept beside its moves. See [`LineText::switch_to`] for an example.
+/// The text of a line, kept beside its moves.
 #[derive(Drop)]
 pub struct LineText<B: Board> {
     start: Position<B>,
@@ -71,8 +68,7 @@ impl<B: Board> Model for LineText<B> {
 }
 
 impl<B: Board> LineText<B> {
-    /// The text of no move.
-    /// Example: `LineText::new(&position).as_str()` is empty.
+    /// Returns the text of no move.
     pub fn new(start: &Position<B>) -> Self
         ensures { result ≡ record { start = start.now; moves = [] } }
     {
@@ -83,9 +79,8 @@ impl<B: Board> LineText<B> {
         }
     }
 
-    /// Goes over to a line of at most 39 moves, each legal after those before it. Only what comes after the moves that
-    /// both lines begin with is written anew. If out of memory, the text is that of some first moves of the line.
-    /// Example: after the line `1. 32-28 18-22 2. 27x18` the text of `1. 32-28 18-22 2. 28x17` takes one more word.
+    /// Switches to another line of at most 39 moves, each legal after those before it. Only the text after the shared
+    /// moves is written again. If out of memory, the text is that of some first moves of the line.
     pub fn switch_to(&mut self, alloc: Global, line: &[Move<B>]) -> Result<(), AllocError>
         requires few { length line.now ≤ 39 }
         requires legal { ArePlayable B.geometry self.old.start line.now }
@@ -102,8 +97,7 @@ impl<B: Board> LineText<B> {
         Ok(())
     }
 
-    /// The text.
-    /// Example: at `W:W27,45:B16` it is `1. 45-40 16-21` after the moves `45-40` and `16-21`.
+    /// Returns the text.
     pub fn as_str(&self) -> &str
         ensures text { IsLineText B.geometry self.now.start self.now.moves result.now }
         ensures fits { length result.now ≤ 2560 }
@@ -111,7 +105,7 @@ impl<B: Board> LineText<B> {
         self.text.as_str()
     }
 
-    /// How many first moves a line has in common with the moves.
+    /// Returns how many first moves a line has in common with the moves.
     fn shared(&self, line: &[Move<B>]) -> usize
         ensures fits { result ≤ length line.now }
         ensures same { take result line.now ≡ take result self.now.moves }
@@ -125,7 +119,7 @@ impl<B: Board> LineText<B> {
         line.len()
     }
 
-    /// Takes back all moves but so many of the first ones.
+    /// Removes all moves but the first `moves`.
     fn keep(&mut self, moves: usize)
         ensures start { self.new.start ≡ self.old.start }
         ensures moves { self.new.moves ≡ take moves self.old.moves }
@@ -155,7 +149,7 @@ impl<B: Board> LineText<B> {
     }
 }
 
-/// The position after some plies.
+/// Returns the position after some plies.
 fn end_of<B: Board>(start: &Position<B>, plies: &[WrittenMove<B>]) -> Position<B>
     ensures { result ≡ end_from start.now plies.now }
 {
@@ -168,7 +162,7 @@ fn end_of<B: Board>(start: &Position<B>, plies: &[WrittenMove<B>]) -> Position<B
     }
 }
 
-/// How long the text of so many first plies is.
+/// Returns the length of the text of the first `moves` plies.
 fn len_to<B: Board>(plies: &[WrittenMove<B>], moves: usize) -> usize
     ensures { result ≡ len_to 0 moves plies.now }
 {
@@ -181,11 +175,10 @@ fn len_to<B: Board>(plies: &[WrittenMove<B>], moves: usize) -> usize
     }
 }
 
-/// The text of a line of at most 39 moves, each legal after those before it; or an error if out of memory.
+/// Returns the text of a line of at most 39 moves, each legal after those before it; or an error if out of memory.
 ///
 /// The attacker is the side to move in the position. Its moves are numbered, whichever colour it has, and all is joined
 /// by blanks: `1. 45-40 16-21 2. 27x16`. The text of no move is empty.
-/// Example: at `W:W27,45:B16` that of `45-40`, `16-21` and `27x16` is `1. 45-40 16-21 2. 27x16`.
 pub fn line_text<B: Board>(
     alloc: Global,
     position: &Position<B>,

@@ -13,18 +13,15 @@ use itoa::Buffer;
 use std::alloc::{AllocError, Global};
 
 /// The most bytes of a move's text, 62: two digits for each square of a path, and a sign between each two of them.
-/// Example: `47x36x27x18x9x20` has 16.
 pub const MAX_MOVE_TEXT: usize = 3 * LONGEST_PATH - 1;
 
-/// The bytes that suffice for each move's text, with a sign before it and one behind it.
-/// Example: `47x36x27x18x9x20` takes 16 of them.
+/// The bytes that suffice for each move's text, with one byte before and one after it.
 pub const MOVE_ROOM: usize = MAX_MOVE_TEXT + 2;
 
-/// The text of the move at a place, from 0 on, in the list of all legal moves of a position.
+/// Returns the text of the move at a place, from 0 on, in the list of all legal moves of a position.
 ///
 /// A quiet move is written `32-28`. A capture is written `32x23`, unless another legal move has the same start and end:
 /// then each of these is written with all squares of its path, as `47x36x27x18x9x20`.
-/// Example: at `W:W27,45:B16` it is `27-21` at place 0, and `45-40` at place 2.
 pub fn move_text<B: Board>(list: &[Listed<B>], place: usize) -> ArrayString<MOVE_ROOM>
     requires { place < length list.now }
     ensures text { HoldsAt (λ item. result.bytes ≡ text_among list.now item) list.now place }
@@ -41,9 +38,8 @@ pub fn move_text<B: Board>(list: &[Listed<B>], place: usize) -> ArrayString<MOVE
     }
 }
 
-/// The text of a legal move of a position; or an error if out of memory. Only a capture that shares its ends with
-/// another one takes any.
-/// Example: at `W:W32:B28` that of the capture of 28 is `32x23`.
+/// Returns the text of a legal move of a position; or an error if out of memory. Only a capture that shares its ends
+/// with another one takes any.
 pub fn text_in<B: Board>(
     alloc: Global,
     position: &Position<B>,
@@ -63,7 +59,7 @@ pub fn text_in<B: Board>(
     }
 }
 
-/// The text of a legal move, as it is written among all legal moves.
+/// Returns the text of a legal move, as it is written among all legal moves.
 fn listed_text<B: Board>(
     alloc: Global,
     position: &Position<B>,
@@ -78,7 +74,7 @@ fn listed_text<B: Board>(
     Ok(move_text(list.as_slice(), place))
 }
 
-/// The place of a move in a list that has it.
+/// Returns the place of a move in a list that has it.
 fn place_of<B: Board>(list: &[Listed<B>], mv: &Move<B>) -> usize
     requires { HasStep list.now mv.now }
     ensures within { result < length list.now }
@@ -94,7 +90,7 @@ fn place_of<B: Board>(list: &[Listed<B>], mv: &Move<B>) -> usize
     }
 }
 
-/// Whether more than one of these moves has this one's start and end.
+/// Returns whether more than one of these moves has this one's start and end.
 fn is_shared<B: Board>(list: &[Listed<B>], mv: &Move<B>) -> bool
     ensures { result ≡ are_shared list.now mv.now }
 {
@@ -107,7 +103,7 @@ fn is_shared<B: Board>(list: &[Listed<B>], mv: &Move<B>) -> bool
     count > 1
 }
 
-/// The numbers of at most 21 squares, with a mark between them.
+/// Returns the numbers of at most 21 squares, with a mark between them.
 fn squares_text<B: Board>(squares: &[Square<B>], mark: char) -> ArrayString<MOVE_ROOM>
     requires few { length squares.now ≤ 21 }
     requires ascii { mark < 128 }

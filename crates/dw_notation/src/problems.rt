@@ -17,27 +17,22 @@ pub use section_finder::SectionFinder;
 pub use section_reader::SectionReader;
 use thiserror::Error;
 
-/// The most problems of one text. Where there are more, the next is `TooManyProblems`, and it is the last.
-/// Example: of 2,000,000 lines the problem of number 1,000,001 is refused as `too many problems`.
+/// The most problems of one text. If there are more, the next one is `TooManyProblems`, and it is the last.
 pub const MAX_PROBLEMS: u32 = 1_000_000;
 
 /// The most bytes of a line, without the carriage return at its end.
-/// Example: a line of 4,097 bytes is refused as `line too long`.
 pub const MAX_LINE: usize = 4096;
 
 /// The most bytes of a section, from its first bracket to the end of its last tag.
-/// Example: a section of 65,537 bytes is refused as `section too long`.
 pub const MAX_SECTION: usize = 65536;
 
 /// The most bytes of one read.
-/// Example: of a file of 5,000 bytes, whose first line has 10, at most the first 2,048 are read for problem 1.
 pub const MAX_READ: usize = 2048;
 
-/// One byte more than a FEN text may have. Of a FEN tag's value so many are held, which tells a text that is too long.
+/// One byte more than the longest FEN text. A reader keeps this much of a FEN tag's value, to see if it is too long.
 const PAST_FEN: usize = MAX_FEN + 1;
 
 /// How a text holds its problems.
-/// Example: the line `W:W32:B28` is a problem by `Form::Fens`, and the section `[FEN "W:W32:B28"]` by `Form::Pdn`.
 #[derive(Clone, Copy, Debug, PartialEq, Eq)]
 pub enum Form {
     /// One FEN text a line. Lines of blanks alone are passed over.
@@ -58,7 +53,6 @@ pub enum Form {
 }
 
 /// Why a problem was refused. Its number is that of the variant, from 1 on.
-/// Example: `ProblemFault::LineTooLong`, whose number is 5, is written `line too long`.
 #[derive(Clone, Copy, Debug, PartialEq, Eq, Error)]
 pub enum ProblemFault {
     #[error("fen: {0}")]
@@ -82,7 +76,6 @@ pub enum ProblemFault {
 }
 
 /// A problem of a text: its number, from 1 on, and its position, or why it was refused.
-/// Example: of the text `x` the problem 1 was refused, with the fault `fen: turn at 1`.
 #[derive(Clone, Copy)]
 pub struct Problem<B: Board> {
     pub number: u32,
@@ -90,7 +83,6 @@ pub struct Problem<B: Board> {
 }
 
 /// Why a problem could not be read. It says nothing of the text.
-/// Example: `ReadFault::Failed` is written `the source failed`.
 #[derive(Clone, Copy, Debug, PartialEq, Eq, Error)]
 pub enum ReadFault {
     #[error("the source failed")]

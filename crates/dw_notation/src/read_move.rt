@@ -16,7 +16,6 @@ use std::alloc::{AllocError, Global};
 use thiserror::Error;
 
 /// Why no move was read from a text. Its number is that of the variant, from 1 on.
-/// Example: at `W:W32:B28` the text `32-23` gives `MoveFault::NoSuchMove`, and `32x` gives `MoveFault::Syntax`.
 #[derive(Clone, Copy, Debug, PartialEq, Eq, Error)]
 pub enum MoveFault {
     /// The text names no squares as a move does, or none of this board.
@@ -41,21 +40,20 @@ impl From<AllocError> for MoveFault {
     }
 }
 
-/// The legal move that a text names.
+/// Returns the legal move that a text names.
 ///
-/// A text is a number, then either `-` and a number, or one to twenty times `x` or `X` and a number, and nothing
-/// else. A number is one or two digits that give the number of a square: `07` is 7, `007` is none.
+/// A text is a number, then either `-` and a number, or one to twenty times `x` or `X` and a number, and nothing else.
+/// A number is one or two digits that give the number of a square: `07` is 7, `007` is none.
 ///
-/// - `-` stands for the quiet move between its two squares, never for a capture.
-/// - Two squares joined by `x` stand for the capture between them. Where there are several, the text is ambiguous.
-/// - Three or more stand for the capture that has exactly this path: its start, and then each square on which it
-///   lands. It need not be the least of the move's paths.
+/// - `-` means the quiet move between its two squares, never a capture.
+/// - Two squares joined by `x` mean the capture between them. If there are several, the text is ambiguous.
+/// - Three or more squares mean the capture that has exactly this path: its start, and then each landing square. It
+///   need not be the least path of the move.
 ///
 /// # Errors
 ///
-/// `Syntax` for any other text; `NoSuchMove` if no legal move fits, and `Ambiguous` if several do; `Memory` if memory
-/// is refused, which only two squares joined by `x` ask for.
-/// Example: at `W:W32:B28` the text `32x23` gives the capture of the man on 28.
+/// `NoSuchMove` if no legal move fits, `Ambiguous` if several do, `Memory` if memory is refused, which only two squares
+/// joined by `x` need, and `Syntax` for any other text.
 pub fn read_move<B: Board>(
     alloc: Global,
     position: &Position<B>,
@@ -72,7 +70,7 @@ pub fn read_move<B: Board>(
     capture(alloc, position, squares.as_slice())
 }
 
-/// The squares of a quiet move, if a text names one.
+/// Returns the squares of a quiet move, if a text names one.
 fn quiet_named<B: Board>(text: &[u8]) -> Option<(Square<B>, Square<B>)>
     ensures { MatchOption result ((from to : ℕ) → Names B.geometry text.now (QuietMove from to)
         → ⊥) (λ r. Names B.geometry text.now (QuietMove r.0 r.1)) }
@@ -87,7 +85,7 @@ fn quiet_named<B: Board>(text: &[u8]) -> Option<(Square<B>, Square<B>)>
     Some((from, square_named(rest)?))
 }
 
-/// The start of a capture and squares on which it lands, if a text names one.
+/// Returns the start of a capture and squares on which it lands, if a text names one.
 fn capture_named<B: Board>(text: &[u8]) -> Option<ArrayVec<Square<B>, LONGEST_PATH>>
     ensures { MatchOption result
         ((squares : List ℕ) → Names B.geometry text.now (Capture squares) → ⊥)
@@ -117,14 +115,14 @@ fn capture_named<B: Board>(text: &[u8]) -> Option<ArrayVec<Square<B>, LONGEST_PA
     }
 }
 
-/// Whether a byte joins the squares of a capture.
+/// Returns whether a byte joins the squares of a capture.
 fn is_cross(byte: u8) -> bool
     ensures { result ≡ is_cross byte }
 {
     byte == b'x' || byte == b'X'
 }
 
-/// The square that the digits at the front of a text number, and what stands after them.
+/// Returns the square numbered by the digits at the front of a text, and the rest of the text.
 fn first_square<B: Board>(text: &[u8]) -> Option<(Square<B>, &[u8])>
     ensures { MatchOption result (BeginsNowhere B.geometry text.now) (λ r. Begins B.geometry text.now r.0 r.1.now) }
 {
@@ -132,7 +130,7 @@ fn first_square<B: Board>(text: &[u8]) -> Option<(Square<B>, &[u8])>
     Some((square_named(digits)?, rest))
 }
 
-/// The quiet move between two squares.
+/// Returns the quiet move between two squares.
 fn quiet_move<B: Board>(
     position: &Position<B>,
     from: Square<B>,
@@ -148,7 +146,7 @@ fn quiet_move<B: Board>(
     }
 }
 
-/// The capture that is named by its start and squares on which it lands.
+/// Returns the capture that is named by its start and squares on which it lands.
 fn capture<B: Board>(
     alloc: Global,
     position: &Position<B>,
@@ -163,7 +161,7 @@ fn capture<B: Board>(
     }
 }
 
-/// The capture between two squares.
+/// Returns the capture between two squares.
 fn capture_between<B: Board>(
     alloc: Global,
     position: &Position<B>,
@@ -176,7 +174,7 @@ fn capture_between<B: Board>(
     only_capture(moves.as_slice(), from, to)
 }
 
-/// The capture between two squares among these moves.
+/// Returns the capture between two squares among these moves.
 fn only_capture<B: Board>(
     moves: &[Move<B>],
     from: Square<B>,

@@ -1,4 +1,4 @@
-//! Where bytes come from and where they go.
+//! Sources and sinks of bytes.
 ghost use Rattle.std.specs.Prelude.{◌≡◌, ℕ, ◌<◌, ◌||◌, List, Bool, true, false, length, is_none, IfSome, IsNone};
 ghost use Rattle.std.specs.Prelude.{Option};
 ghost use Rattle.dw_notation.specs.Streams.{PullTakes, PullEnds, PullFalls, GiveAdds, GiveFails};
@@ -11,8 +11,7 @@ pub use buffer::Buffer;
 pub use reading::{MAX_READS, Reading};
 pub use writing::Writing;
 
-/// Where bytes come from.
-/// See [`Reading`] for an example.
+/// A source of bytes.
 pub trait Source {
     /// The bytes still to come, if the source tells them.
     ghost coming: { Self → Option (List ℕ) };
@@ -26,9 +25,8 @@ pub trait Source {
     /// A bound on the pulls that can still give bytes.
     ghost pulls_left: { Self → ℕ };
 
-    /// Puts the next bytes at the front of the buffer, and answers how many: none only at the end.
-    /// `None` is a failure, and each later pull fails too.
-    /// Example: if no byte is left it is `Some(0)`, and after a failure it is `None`.
+    /// Puts the next bytes at the front of the buffer, and answers how many: none only at the end. `None` is a failure,
+    /// and each later pull fails too.
     fn pull(&mut self, buffer: &mut [u8]) -> Option<usize>
         requires { 0 < length buffer.old }
         ensures bytes { PullTakes (coming self.old) (coming self.new) result buffer.new }
@@ -37,14 +35,12 @@ pub trait Source {
         ensures again { is_failed self.old ≡ true → IsNone result }
         ensures falls { PullFalls (pulls_left self.old) (pulls_left self.new) result };
 
-    /// Whether a pull has failed.
-    /// Example: of a new `Reading` it is `false`.
+    /// Returns whether a pull has failed.
     fn failed(&self) -> bool
         ensures { result ≡ is_failed self.now };
 }
 
-/// Where bytes go.
-/// See [`Writing`] for an example.
+/// A sink for bytes.
 pub trait Sink {
     /// The bytes taken so far, if the sink tells them.
     ghost taken: { Self → Option (List ℕ) };
@@ -52,16 +48,14 @@ pub trait Sink {
     /// Whether a give has failed.
     ghost is_failed: { Self → Bool };
 
-    /// Takes bytes from the front of the piece, and answers how many. To take none of a piece that is
-    /// not empty is a failure. `None` is one too, and each later give fails with it.
-    /// Example: `Some(2)` for `hello` says that `he` was taken and `llo` was not.
+    /// Takes bytes from the front of the piece, and answers how many. To take none of a piece that is not empty is a
+    /// failure. `None` is one too, and each later give fails with it.
     fn give(&mut self, piece: &[u8]) -> Option<usize>
         ensures bytes { GiveAdds (taken self.old) (taken self.new) result piece.now }
         ensures failed { GiveFails (is_failed self.old) (is_failed self.new) result piece.now }
         ensures again { is_failed self.old ≡ true → IsNone result };
 
-    /// Whether a give has failed.
-    /// Example: of a new `Writing` it is `false`.
+    /// Returns whether a give has failed.
     fn failed(&self) -> bool
         ensures { result ≡ is_failed self.now };
 }

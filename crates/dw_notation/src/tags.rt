@@ -13,7 +13,6 @@ use std::alloc::{AllocError, Global};
 
 /// A tag of a text: its bytes as they stand there, from the first bracket to the last, its name, and its value, in
 /// which `\"` of the text is a quotation mark and `\\` a backslash.
-/// Example: `[Event "a \"b\""]` has the name `Event` and the value `a "b"`.
 #[derive(Drop)]
 pub struct Tag<'t> {
     pub text: &'t [u8],
@@ -22,8 +21,7 @@ pub struct Tag<'t> {
 }
 
 impl Tag<'_> {
-    /// Whether this is its name, without regard to the case of letters.
-    /// Example: the tag `[fen "x"]` is named `FEN`.
+    /// Returns whether this is its name, without regard to the case of letters.
     pub fn is_named(&self, name: &[u8]) -> bool
         ensures { result ≡ same_name self.now.name.now name.now }
     {
@@ -31,8 +29,8 @@ impl Tag<'_> {
     }
 }
 
-/// The whole tag that a text begins with, if it begins with one. By `laws::one_tag_at_front` it begins with no other.
-/// Example: `[A "1"] [B "2"]` begins with the tag `[A "1"]`, and ` [A "1"]` with none.
+/// Returns the whole tag that a text begins with, if it begins with one. By `laws::one_tag_at_front` it begins with no
+/// other.
 pub fn read_tag<'t>(alloc: Global, text: &'t [u8]) -> Result<Option<Tag<'t>>, AllocError>
     ensures some { IfOk result (λ found. IfSome found (λ tag. (more : List ℕ) × (text.now ≡ tag.text.now ++ more)
         × IsTag tag.text.now (said_by_tag tag))) }
@@ -66,7 +64,7 @@ pub fn read_tag<'t>(alloc: Global, text: &'t [u8]) -> Result<Option<Tag<'t>>, Al
     Ok(None)
 }
 
-/// What stands behind the bracket that begins a text.
+/// Returns the rest of a text after its first bracket.
 fn behind_bracket(text: &[u8]) -> Option<&[u8]>
     ensures { MatchOption result ((inside : List ℕ) → text.now ≡ 91 ∷ inside → ⊥)
         (λ inside. text.now ≡ 91 ∷ inside.now) }
@@ -77,7 +75,7 @@ fn behind_bracket(text: &[u8]) -> Option<&[u8]>
     }
 }
 
-/// The tag that a text is, with so many bytes in its name, and with this value.
+/// Returns the tag of a text, given the length of its name, and its value.
 fn tag_of<'t>(text: &'t [u8], named: usize, value: Vec<u8>) -> Tag<'t>
     requires { (said : Said) × IsTag text.now said × (length said.name ≡ named) }
     ensures text { result.text.now ≡ text.now }
@@ -90,7 +88,7 @@ fn tag_of<'t>(text: &'t [u8], named: usize, value: Vec<u8>) -> Tag<'t>
     Tag { text, name, value }
 }
 
-/// How many blanks stand at the front of a text.
+/// Returns how many blanks stand at the front of a text.
 fn blanks_before(text: &[u8]) -> usize
     ensures within { result ≤ length text.now }
     ensures all { list_all is_blank_byte (take result text.now) ≡ true }

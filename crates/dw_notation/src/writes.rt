@@ -7,16 +7,13 @@ use crate::streams::Sink;
 use thiserror::Error;
 
 /// Why a piece was not written to its end.
-/// Example: `WriteFault::Failed` is written `the sink failed`.
 #[derive(Clone, Copy, Debug, PartialEq, Eq, Error)]
 pub enum WriteFault {
     #[error("the sink failed")]
     Failed,
 }
 
-/// Gives a piece to the sink, to its end. At a fault the sink has taken some beginning of the piece, and
-/// has failed.
-/// Example: of `hello` a sink that takes two bytes at a time and fails at the third write has taken `hell`.
+/// Gives a piece to the sink, to its end. At a fault the sink has taken some beginning of the piece, and has failed.
 pub fn write_all<K: Sink>(sink: &mut K, piece: &[u8]) -> Result<(), WriteFault>
     ensures ok { OnOk result (Appends (K.taken sink.old) (K.taken sink.new) piece.now) }
     ensures err { OnErr result (StopsShort (K.taken sink.old) (K.taken sink.new) piece.now) }

@@ -21,7 +21,7 @@ no_tries f language (x ∷ xs) page e = absurd (omega (arith, eqb-true (length (
 
 -- some tries
 pub some_tries : {X : Type 0} (f : X → List ℕ) (language : Language) (xs : List X) → false ≡ (length xs == 0)
-    → tries_row language (map f xs) ≡ codes "<p>" ++ (phrase language Tries ++ (codes ": "
+    → tries_row language (map f xs) ≡ codes "<p class=\"tries\">" ++ (phrase language Tries ++ (codes ": "
     ++ (join_by try_shown (codes "; ") (map f xs) ++ codes "</p>\n")))
 unfolding tries_row
 some_tries f language [] e = cc

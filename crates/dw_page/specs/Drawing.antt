@@ -22,16 +22,16 @@ abbrev pub mark : Piece → ℕ → ℕ → List ℕ
 mark piece c r = codes "<use href=\"#" ++ (picture piece.side piece.kind ++ (codes "\" x=\"" ++ (decimal c
     ++ (codes "\" y=\"" ++ (decimal r ++ codes "\"/>")))))
 
--- what is drawn on a square in a column and a row: a piece, or nothing
+-- the drawing of a square in a column and a row: a piece, or nothing
 abbrev pub drawn : Option Piece → ℕ → ℕ → List ℕ
 drawn None c r = []
 drawn (Some piece) c r = mark piece c r
 
--- what is drawn on a square
+-- the drawing of a square
 abbrev pub square_mark : Geometry → Placement → ℕ → List ℕ
 square_mark g p s = drawn (at p s) (column g s) (row g s)
 
--- what is drawn on all squares, ascending
+-- the drawing of all squares, ascending
 abbrev pub marks : Geometry → Placement → List ℕ
 marks g p = flat_map (square_mark g p) (range_with_len 1 (squares g))
 
@@ -40,12 +40,12 @@ abbrev pub numbering : Bool → List ℕ
 numbering false = []
 numbering true = codes "<use href=\"#numbers\"/>"
 
--- the front of the empty board, in a square of as many units as there are rows, up to a text for those who can not see
+-- the front of the empty board, in a square of as many units as there are rows, up to its alternative text
 unfoldable pub board_front : (rows : ℕ) → List ℕ
 board_front rows = codes "<svg viewBox=\"0 0 " ++ (decimal rows ++ (codes " " ++ (decimal rows
     ++ codes "\" role=\"img\" aria-label=\"")))
 
--- the empty board behind that text
+-- the empty board after that text
 unfoldable pub board_back : (numbers : Bool) → List ℕ
 board_back numbers = codes "\"><use href=\"#board\"/>" ++ (numbering numbers ++ codes "<g>")
 

@@ -3,7 +3,7 @@ use Rattle.std.specs.Prelude.{ℕ, ◌==◌, List, [], ◌∷◌, codes, if◌th
 use Rattle.std.specs.List.{flat_map}
 use Rattle.std.specs.Str.{is_utf8}
 
--- what stands for a byte: an entity for each of the five that mean something in a page, any other byte for itself
+-- a byte, escaped: an entity for each of the five that have a meaning in HTML, any other byte itself
 abbrev pub shown : ℕ → List ℕ
 shown b =
     if b == 60 then codes "&lt;"
@@ -13,7 +13,7 @@ shown b =
     else if b == 39 then codes "&#39;"
     else b ∷ []
 
--- what stands for a text
+-- a text, escaped
 abbrev pub escaped : List ℕ → List ℕ
 escaped text = flat_map shown text
 
@@ -25,10 +25,10 @@ printable b = if nat_lt b 32 then 32 else if b == 127 then 32 else b
 abbrev pub read_as : List ℕ → List ℕ
 read_as bytes = if is_utf8 bytes then bytes else flat_map encode_utf8 bytes
 
--- what stands for a text
+-- a text, escaped
 abbrev pub stands_for : List ℕ → List ℕ
 stands_for text = escaped (map printable text)
 
--- what stands for bytes from outside
+-- input bytes, escaped
 abbrev pub shown_bytes : List ℕ → List ℕ
 shown_bytes bytes = stands_for (read_as bytes)

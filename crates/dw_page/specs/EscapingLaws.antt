@@ -1,4 +1,4 @@
--- Laws of escaped texts: they end nothing and begin nothing in a page, and can be told back.
+-- Laws of escaped texts: they end nothing and begin nothing in a page, and can be read back.
 use Rattle.std.specs.Prelude.{◌≡◌, ℕ, ◌==◌, ◌||◌, ◌&&◌, Bool, true, false, Option, Some, None, List, [], ◌∷◌, ◌++◌}
 use Rattle.std.specs.Prelude.{codes, if◌then◌else◌, bytes_eq, nat_eq}
 use Rattle.std.specs.List.{list_any, starts_with}
@@ -8,7 +8,7 @@ use Rattle.dw_page.specs.Escaping.{escaped}
 abbrev pub entities : List (List ℕ)
 entities = codes "&lt;" ∷ codes "&gt;" ∷ codes "&amp;" ∷ codes "&quot;" ∷ codes "&#39;" ∷ []
 
--- whether what begins with a byte may stand in a page: it is none of < > " ', and if it is & an entity begins there
+-- whether a text that begins with a byte may stand in a page: it is none of < > " ', and if it is & an entity begins
 abbrev pub may_stand : ℕ → List ℕ → Bool
 may_stand b rest =
     if b == 60 || b == 62 || b == 34 || b == 39 then false
@@ -29,7 +29,7 @@ meant name =
     else if bytes_eq name (codes "quot") then 34
     else 39
 
--- what a browser reads: from & to ; stands a name, of which it may have read some bytes; any other byte means itself
+-- the text that a browser reads: from & to ; is a name, of which it may have read some bytes; any other byte is itself
 abbrev pub read : Option (List ℕ) → List ℕ → List ℕ
 read None [] = []
 read None (b ∷ rest) = if b == 38 then read (Some []) rest else b ∷ read None rest
@@ -37,6 +37,6 @@ read (Some name) [] = []
 read (Some name) (b ∷ rest) =
     if b == 59 then meant name ∷ read None rest else read (Some (name ++ b ∷ [])) rest
 
--- what is escaped is plain, and a browser reads the text that it was
+-- an escaped text is plain, and a browser reads the original text
 abbrev pub TextsAreEscaped : Type 0
 TextsAreEscaped = (text : List ℕ) → (is_plain (escaped text) ≡ true) × (read None (escaped text) ≡ text)

@@ -17,7 +17,7 @@ use Rattle.dw_page.specs.declared.style.TheConstants.{STYLE}
 use Rattle.dw_page.specs.declared.words.Language.{Language}
 use Rattle.dw_page.specs.declared.words.Phrase.TheVariants as phrases
 
--- the texts that are always the same: what the page may use, its style and its script
+-- the texts that are always the same: the policy of the page, its style and its script
 unfoldable pub policy : List ℕ
 policy = POLICY.now
 
@@ -44,7 +44,7 @@ head g language title =
     front language ++ (stands_for title ++ (styled ++ (stands_for title ++ (codes "</h1>\n" ++ (pictures g
     ++ codes "<main class=\"sheet\">\n")))))
 
--- what stands behind the number of a problem: its author, if a tag names one
+-- the text after the number of a problem: its author, if a tag names one
 abbrev pub author : Option (List ℕ) → List ℕ
 author None = []
 author (Some name) = codes " " ++ shown_bytes name
@@ -114,8 +114,8 @@ try_shown text = codes "<span class=\"try\">" ++ (stands_for text ++ codes "</sp
 unfoldable pub tries_row : Language → List (List ℕ) → List ℕ
 tries_row language [] = []
 tries_row language (t ∷ tries) =
-    codes "<p>" ++ (phrase language phrases.Tries ++ (codes ": " ++ (join_by try_shown (codes "; ") (t ∷ tries)
-    ++ codes "</p>\n")))
+    codes "<p class=\"tries\">" ++ (phrase language phrases.Tries ++ (codes ": "
+    ++ (join_by try_shown (codes "; ") (t ∷ tries) ++ codes "</p>\n")))
 
 -- the moves of a solution
 unfoldable pub moves_row : Language → (shown : List ℕ) → List ℕ

@@ -36,7 +36,7 @@ abbrev pub begins_word : List ℕ → Bool
 begins_word [] = false
 begins_word (b ∷ bytes) = not (is_mark b) && not (b == 123)
 
--- the word that bytes begin with, and what stands behind it
+-- the word at the front of bytes, and the rest after it
 abbrev pub word_of : List ℕ → List ℕ
 word_of bytes = before_first is_mark bytes
 
@@ -47,7 +47,7 @@ past_word bytes = drop (position_or_len is_mark bytes) bytes
 abbrev pub is_end : ℕ → Bool
 is_end b = b == 125
 
--- what is shown of a comment: for `more` the words for it in the page's language, for another one nothing
+-- the text of a comment: for `more` the words for it in the page's language, for another one nothing
 abbrev pub comment_shown : (more comment : List ℕ) → List ℕ
 comment_shown more comment = if bytes_eq comment (codes "more") then stands_for more else []
 
@@ -60,7 +60,7 @@ move_shown g p word = codes "<span class=\"move\" data-fen=\"" ++ (written g p +
 abbrev pub NamesNoMove : Geometry → Placement → List ℕ → Type 0
 NamesNoMove g p text = (m : Move) → IsRead g p text (Ok m) → ⊥
 
--- what is shown of a word, and where the line stands after it: a move of the position is played, another word is a text
+-- the text of a word, and the place after it: a move of the position is played, another word is a text
 pub data IsWordShown (g : Geometry) (here : Place) (word : List ℕ) : Place → List ℕ → Type 0 where
   move : (m : Move) → IsRead g here.now word (Ok m)
       → IsWordShown g here word (after g here m) (move_shown g (play g here.now m) word)
@@ -87,6 +87,6 @@ pub data AreShown (g : Geometry) (more : List ℕ) : (here : Place) → List Pla
       → IsWordShown g here (word_of bytes) next shown → AreShown g more next outer (past_word bytes) text
       → AreShown g more here outer bytes (shown ++ text)
 
--- what is shown of the movetext of a position
+-- the text of the movetext of a position
 abbrev pub IsMovetextShown : Geometry → (more : List ℕ) → Placement → (movetext text : List ℕ) → Type 0
 IsMovetextShown g more p movetext text = AreShown g more (start p) [] movetext text

@@ -16,7 +16,7 @@ tag Dutch = codes "nl"
 tag French = codes "fr"
 tag Russian = codes "ru"
 
--- what is asked of a side, up to the number of moves
+-- the task of a side, up to the number of moves
 unfoldable pub asked : Language → Side → List ℕ
 asked English White = codes "White to play and win in "
 asked English Black = codes "Black to play and win in "
@@ -27,14 +27,14 @@ asked French Black = codes "Les noirs jouent et gagnent en "
 asked Russian White = utf8 (codes "Белые начинают и выигрывают в ")
 asked Russian Black = utf8 (codes "Чёрные начинают и выигрывают в ")
 
--- the Russian word for moves, in the form that their number asks for
+-- the Russian word for moves, in the form for their number
 unfoldable pub russian_moves : ℕ → List ℕ
 russian_moves n =
     if n == 1 then utf8 (codes " ход")
     else if nat_le 2 n && nat_le n 4 then utf8 (codes " хода")
     else utf8 (codes " ходов")
 
--- what stands behind a number of moves: in Russian the word for moves
+-- the text after a number of moves: in Russian the word for moves
 abbrev pub moves : Language → ℕ → List ℕ
 moves English n = []
 moves Dutch n = []

@@ -8,10 +8,9 @@ use dw_board::{Board, Kind, Piece, Position, Side, Square, fen_text};
 use itoa::Buffer;
 use std::alloc::{AllocError, Global};
 
-/// Appends the drawing of a position, as an SVG element: the board, the numbers of its squares if they are wanted, and
-/// a mark for each piece, in its column and row, both counted from 0 at the top left. The page has to have the pictures
-/// that it names. Those who can not see it are told the position's FEN text.
-/// Example: of `W:W32:B28` the marks are `<use href="#bm" x="5" y="5"/>` and `<use href="#wm" x="2" y="6"/>`.
+/// Appends the drawing of a position, as an SVG element: the board, the numbers of its squares if wanted, and a mark
+/// for each piece, in its column and row, both counted from 0 at the top left. The page must have the pictures that it
+/// names. Its alternative text is the position's FEN text.
 #[tactic(auto, unfolding(crate::specs::Drawing::drawing))]
 pub fn push_diagram<B: Board>(
     alloc: Global,
@@ -31,7 +30,7 @@ pub fn push_diagram<B: Board>(
     Ok(())
 }
 
-/// The front of the empty board, up to the text for those who can not see it.
+/// Returns the front of the empty board, up to its alternative text.
 #[tactic(auto, unfolding(crate::specs::Drawing::board_front))]
 fn board_front(alloc: Global, rows: u8) -> Result<String, AllocError>
     ensures { IfOk result (λ text. string_bytes text ≡ board_front rows) }
@@ -48,7 +47,7 @@ fn board_front(alloc: Global, rows: u8) -> Result<String, AllocError>
     .concat(alloc)
 }
 
-/// The empty board behind that text.
+/// Returns the empty board after that text.
 #[tactic(auto, unfolding(crate::specs::Drawing::board_back))]
 fn board_back(alloc: Global, numbers: bool) -> Result<String, AllocError>
     ensures { IfOk result (λ text. string_bytes text ≡ board_back numbers) }
@@ -56,14 +55,14 @@ fn board_back(alloc: Global, numbers: bool) -> Result<String, AllocError>
     ["\"><use href=\"#board\"/>", numbering(numbers), "<g>"].concat(alloc)
 }
 
-/// The number of rows.
+/// Returns the number of rows.
 pub(crate) fn rows_of<B: Board>() -> u8
     ensures { result ≡ B.geometry.rows }
 {
     B::ROWS
 }
 
-/// The numbers of the squares, if they are wanted.
+/// Returns the numbers of the squares, if they are wanted.
 fn numbering(numbers: bool) -> &'static str
     ensures { result.now ≡ numbering numbers }
 {
@@ -74,7 +73,7 @@ fn numbering(numbers: bool) -> &'static str
     }
 }
 
-/// How many squares there are.
+/// Returns how many squares there are.
 pub(crate) fn square_count<B: Board>() -> u8
     ensures value { result ≡ squares B.geometry }
     ensures small { result ≤ 50 }
@@ -96,7 +95,7 @@ fn push_marks<B: Board>(
     Ok(())
 }
 
-/// Appends the mark of the square of a number, if a piece stands there.
+/// Appends the mark of the square of a number, if a piece is there.
 fn push_numbered<B: Board>(
     alloc: Global,
     page: &mut Vec<u8>,
@@ -112,7 +111,7 @@ fn push_numbered<B: Board>(
     }
 }
 
-/// Appends the mark of a square, if a piece stands there.
+/// Appends the mark of a square, if a piece is there.
 fn push_square<B: Board>(
     alloc: Global,
     page: &mut Vec<u8>,
@@ -129,7 +128,7 @@ fn push_square<B: Board>(
     Ok(())
 }
 
-/// The column and the row of a square.
+/// Returns the column and the row of a square.
 pub(crate) fn place_of<B: Board>(square: Square<B>) -> (u8, u8)
     ensures column { result.0 ≡ column B.geometry square }
     ensures row { result.1 ≡ row B.geometry square }
@@ -139,7 +138,7 @@ pub(crate) fn place_of<B: Board>(square: Square<B>) -> (u8, u8)
     (2 * (index % B::PER_ROW) + (1 - row % 2), row)
 }
 
-/// The mark of a piece in a column and a row.
+/// Returns the mark of a piece in a column and a row.
 fn mark(alloc: Global, piece: Piece, column: u8, row: u8) -> Result<String, AllocError>
     ensures { IfOk result (λ text. string_bytes text ≡ mark piece column row) }
 {
@@ -157,7 +156,7 @@ fn mark(alloc: Global, piece: Piece, column: u8, row: u8) -> Result<String, Allo
     .concat(alloc)
 }
 
-/// The name of the picture of a piece.
+/// Returns the name of the picture of a piece.
 fn picture(piece: Piece) -> &'static str
     ensures { result.now ≡ picture piece.side piece.kind }
 {

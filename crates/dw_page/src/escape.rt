@@ -6,9 +6,8 @@ ghost use Rattle.dw_page.specs.Escaping.{shown, printable, stands_for, shown_byt
 
 use std::alloc::{AllocError, Global};
 
-/// Appends what stands in a page for bytes from outside. Bytes that are no UTF-8 are read as characters of Latin-1, a
-/// control character becomes a blank, and what means something in a page is escaped.
-/// Example: for `a <b>` it is `a &lt;b&gt;`, and for the one byte E9 it is `é` in UTF-8.
+/// Appends input bytes as text of a page. Bytes that are not UTF-8 are read as Latin-1, a control character becomes a
+/// blank, and characters with a meaning in HTML are escaped.
 pub fn push_bytes(alloc: Global, page: &mut Vec<u8>, bytes: &[u8]) -> Result<(), AllocError>
     ensures { OnOk result (page.new.items ≡ page.old.items ++ shown_bytes bytes.now) }
 {
@@ -27,8 +26,7 @@ pub(crate) fn push_all(alloc: Global, page: &mut Vec<u8>, texts: &[&str]) -> Res
     Ok(())
 }
 
-/// Appends what stands for a text in UTF-8.
-/// Example: for `"a"` it is `&quot;a&quot;`.
+/// Appends a text in UTF-8, escaped.
 pub fn push_text(page: &mut Vec<u8>, text: &[u8]) -> Result<(), AllocError>
     ensures { OnOk result (page.new.items ≡ page.old.items ++ stands_for text.now) }
 {
@@ -38,7 +36,7 @@ pub fn push_text(page: &mut Vec<u8>, text: &[u8]) -> Result<(), AllocError>
     Ok(())
 }
 
-/// The text of characters of Latin-1.
+/// Returns the text of characters of Latin-1.
 fn latin(alloc: Global, bytes: &[u8]) -> Result<String, AllocError>
     ensures { IfOk result (λ text. string_bytes text ≡ flat_map encode_utf8 bytes.now) }
 {
@@ -49,14 +47,14 @@ fn latin(alloc: Global, bytes: &[u8]) -> Result<String, AllocError>
     Ok(text)
 }
 
-/// A byte, or a blank for a control character.
+/// Returns a byte, or a blank for a control character.
 fn printable(byte: u8) -> u8
     ensures { result ≡ printable byte }
 {
     if byte < 32 || byte == 127 { b' ' } else { byte }
 }
 
-/// Appends what stands for a byte.
+/// Appends a byte, escaped.
 fn push_byte(page: &mut Vec<u8>, byte: u8) -> Result<(), AllocError>
     ensures { OnOk result (page.new.items ≡ page.old.items ++ shown byte) }
 {
@@ -67,7 +65,7 @@ fn push_byte(page: &mut Vec<u8>, byte: u8) -> Result<(), AllocError>
     Ok(())
 }
 
-/// The entity that stands for a byte, if one does.
+/// Returns the entity of a byte, if it needs one.
 fn entity(byte: u8) -> Option<&'static str>
     ensures { MatchOption result (shown byte ≡ byte ∷ []) (λ name. shown byte ≡ name.now) }
 {

@@ -1,11 +1,8 @@
-//! Pages of problems: the drawing of a position, texts from outside, and the words of a page in four languages.
+//! Pages of problems: the drawing of a position, texts of the input, and the words of a page in four languages.
 //!
-//! Everything that speaks of a position is generic over the board. Each call appends to a text, which takes memory.
+//! Everything about positions is generic over the board. Each call appends to a text, which allocates.
 //!
-//! Begin with `diagram::push_diagram`, which draws a position, and with `escape::push_bytes`, which writes what comes
-//! from outside.
-//!
-//! An example tells a position by its FEN text, on the board of ten rows if it names no other.
+//! Begin with `diagram::push_diagram`, which draws a position, and with `escape::push_bytes`, which writes input bytes.
 #![tactic(auto)]
 
 pub mod diagram;

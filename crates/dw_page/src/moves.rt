@@ -17,10 +17,8 @@ use dw_notation::MoveFault;
 use dw_notation::read_move::read_move;
 use std::alloc::{AllocError, Global};
 
-/// Appends a movetext as it stands, in which each move is an element that has the FEN text of the position after it.
-/// A variation is an element too. The comment `{more}` becomes `more`, and other comments are left out.
-/// Example: at `W:W27,32:B18` the first move of `1. 32-28 18-22` becomes
-/// `<span class="move" data-fen="B:W27,28:B18">32-28</span>`.
+/// Appends a movetext, in which each move is an element that has the FEN text of the position after it. A variation is
+/// an element too. The comment `{more}` becomes `more`, and other comments are left out.
 pub(crate) fn push_moves<B: Board>(
     alloc: Global,
     page: &mut Vec<u8>,
@@ -46,7 +44,7 @@ pub(crate) fn push_moves<B: Board>(
     Ok(())
 }
 
-/// The bytes of a comment behind its first brace, and what stands behind its last one.
+/// Returns the bytes of a comment after its first brace, and the rest after its last one.
 fn comment_at(bytes: &[u8]) -> (&[u8], &[u8])
     ensures comment { result.0.now ≡ before_first is_end bytes.now }
     ensures behind { result.1.now ≡ after_first is_end bytes.now }
@@ -57,14 +55,14 @@ fn comment_at(bytes: &[u8]) -> (&[u8], &[u8])
     }
 }
 
-/// The place of the brace that ends a comment, if there is one.
+/// Returns the place of the brace that ends a comment, if there is one.
 fn end_of_comment(bytes: &[u8]) -> Option<usize>
     ensures { result ≡ position is_end bytes.now }
 {
     bytes.iter().position(|byte| *byte == b'}')
 }
 
-/// The word that bytes begin with, and what stands behind it.
+/// Returns the word at the front of bytes, and the rest after it.
 fn word_at(bytes: &[u8]) -> (&[u8], &[u8])
     ensures word { result.0.now ≡ word_of bytes.now }
     ensures behind { result.1.now ≡ past_word bytes.now }
@@ -73,28 +71,28 @@ fn word_at(bytes: &[u8]) -> (&[u8], &[u8])
     bytes.split_at(end)
 }
 
-/// The place of the first mark, if there is one.
+/// Returns the place of the first mark, if there is one.
 fn end_of_word(bytes: &[u8]) -> Option<usize>
     ensures { result ≡ position of.is_mark bytes.now }
 {
     bytes.iter().position(|byte| is_mark(*byte))
 }
 
-/// Whether a byte is a blank or a parenthesis, which ends a word.
+/// Returns whether a byte is a blank or a parenthesis, which ends a word.
 fn is_mark(byte: u8) -> bool
     ensures { result ≡ of.is_mark byte }
 {
     is_blank(byte) || byte == b'(' || byte == b')'
 }
 
-/// Whether a byte is a blank or the end of a line.
+/// Returns whether a byte is a blank or the end of a line.
 fn is_blank(byte: u8) -> bool
     ensures { result ≡ of.is_blank byte }
 {
     byte == b' ' || byte == b'\n'
 }
 
-/// Where a variation stands, and where it stood before its last move.
+/// The place of a variation, and its place before its last move.
 #[derive(Clone, Copy)]
 struct OpenLine<B: Board> {
     now: Position<B>,
@@ -110,7 +108,7 @@ struct Reader<B: Board> {
 }
 
 impl<B: Board> Reader<B> {
-    /// Appends the first piece of a movetext, and returns what stands behind it.
+    /// Appends the first piece of a movetext, and returns the rest.
     fn push_piece<'t>(
         &mut self,
         page: &mut Vec<u8>,
@@ -146,7 +144,7 @@ impl<B: Board> Reader<B> {
         Ok(rest)
     }
 
-    /// A variation begins before the last move.
+    /// Returns a variation begins before the last move.
     fn open(&mut self, page: &mut Vec<u8>) -> Result<(), AllocError>
         ensures page { OnOk result (page.new.items ≡ page.old.items ++ codes "<span class=\"variation\">(") }
         ensures line { OnOk result (place_of self.new.line ≡ start self.old.line.before) }
@@ -157,7 +155,7 @@ impl<B: Board> Reader<B> {
         page.extend_from_slice(b"<span class=\"variation\">(")
     }
 
-    /// The variation ends, and the one around it goes on.
+    /// Ends the variation, and goes on with the one around it.
     fn close(&mut self, page: &mut Vec<u8>) -> Result<(), AllocError>
         ensures { OnOk result ((text : List ℕ) × Closes self.old self.new text
             × (page.new.items ≡ page.old.items ++ text)) }
@@ -172,7 +170,7 @@ impl<B: Board> Reader<B> {
         Ok(())
     }
 
-    /// A word: a move, or a number, a result or anything else.
+    /// Returns a word: a move, or a number, a result or anything else.
     fn push_word(&mut self, page: &mut Vec<u8>, word: &[u8]) -> Result<(), AllocError>
         ensures word { OnOk result ((text : List ℕ) × IsWordShown B.geometry (place_of self.old.line) word.now
             (place_of self.new.line) text × (page.new.items ≡ page.old.items ++ text)) }
@@ -191,7 +189,7 @@ impl<B: Board> Reader<B> {
         }
     }
 
-    /// A move.
+    /// Returns a move.
     fn push_move(&mut self, page: &mut Vec<u8>, mv: &Move<B>, word: &[u8]) -> Result<(), AllocError>
         requires { Legal B.geometry self.old.line.now mv.now }
         ensures page { OnOk result (page.new.items ≡ page.old.items
@@ -242,7 +240,7 @@ fn push_shown<B: Board>(
     Ok(())
 }
 
-/// Appends what is shown of a comment.
+/// Appends the text of a comment.
 fn push_comment(page: &mut Vec<u8>, comment: &[u8], more: &str) -> Result<(), AllocError>
     ensures { OnOk result (page.new.items ≡ page.old.items ++ comment_shown more.now comment.now) }
 {

@@ -33,7 +33,7 @@ pub struct Look<'a> {
     pub numbers: bool,
 }
 
-/// What is asked in a problem: its number in the text, and within how many moves the side to move is to win.
+/// The task of a problem: its number in the text, and the number of moves in which the side to move is to win.
 #[derive(Clone, Copy)]
 pub struct Task<'a, B: Board> {
     pub number: u32,
@@ -47,12 +47,12 @@ pub struct Task<'a, B: Board> {
 pub struct Heading<'a> {
     /// Who made the problem.
     pub author: Option<&'a [u8]>,
-    /// Where and when it was published.
+    /// The place and the date of its publication.
     pub source: [Option<&'a [u8]>; 3],
 }
 
 impl Heading<'_> {
-    /// No tags.
+    /// Returns no tags.
     pub fn none() -> Self
         ensures author { author_of result ≡ None }
         ensures source { values_of result ≡ [] }
@@ -65,7 +65,6 @@ impl Heading<'_> {
 }
 
 /// Appends the head of a page, up to its first problem.
-/// Example: in English it begins with `<!DOCTYPE html>` and `<html lang="en">`.
 pub fn push_head<B: Board>(
     alloc: Global,
     page: &mut Vec<u8>,
@@ -83,7 +82,7 @@ pub fn push_head<B: Board>(
     Ok(())
 }
 
-/// The front of a page, up to its title.
+/// Returns the front of a page, up to its title.
 fn push_front(alloc: Global, page: &mut Vec<u8>, language: Language) -> Result<(), AllocError>
     ensures { OnOk result (page.new.items ≡ page.old.items ++ front language) }
 {
@@ -107,7 +106,7 @@ fn policy() -> &'static str
     POLICY
 }
 
-/// The style, between the title of the window and the one that is read in the page.
+/// Returns the style, between the title of the window and the one that is read in the page.
 fn push_style(alloc: Global, page: &mut Vec<u8>) -> Result<(), AllocError>
     ensures { OnOk result (page.new.items ≡ page.old.items ++ styled) }
 {
@@ -127,8 +126,7 @@ fn style() -> &'static str
     STYLE
 }
 
-/// Appends a problem up to what is asked: its number, its tags, its drawing and the task.
-/// Example: of problem 7 the element has the identifier `p7`.
+/// Appends a problem up to its task: its number, its tags, its drawing and the task.
 #[tactic(auto, unfolding(crate::specs::Pages::problem))]
 pub fn push_problem<B: Board>(
     alloc: Global,
@@ -147,7 +145,7 @@ pub fn push_problem<B: Board>(
     Ok(())
 }
 
-/// The task.
+/// Returns the task.
 fn push_task<B: Board>(
     alloc: Global,
     page: &mut Vec<u8>,
@@ -170,7 +168,6 @@ fn push_task<B: Board>(
 }
 
 /// Appends a problem that is refused, with the reason.
-/// Example: for a man on its last row the reason is `1 fen: 7 last row at 4`.
 pub fn push_refused(
     alloc: Global,
     page: &mut Vec<u8>,
@@ -186,7 +183,7 @@ pub fn push_refused(
     Ok(())
 }
 
-/// The reason why a problem is refused.
+/// Returns the reason why a problem is refused.
 fn push_refusal(
     alloc: Global,
     page: &mut Vec<u8>,
@@ -202,8 +199,7 @@ fn push_refusal(
     Ok(())
 }
 
-/// Ends a problem, behind its task or its solution.
-/// Example: it ends the element with the identifier `p7`.
+/// Ends a problem, after its task or its solution.
 pub fn push_end_of_problem(page: &mut Vec<u8>) -> Result<(), AllocError>
     ensures { OnOk result (page.new.items ≡ page.old.items ++ end_of_problem) }
 {
@@ -228,7 +224,7 @@ fn push_begin(
     Ok(())
 }
 
-/// The number of a problem as a heading, up to its author.
+/// Returns the number of a problem as a heading, up to its author.
 fn push_number(alloc: Global, page: &mut Vec<u8>, number: u32) -> Result<(), AllocError>
     ensures { OnOk result (page.new.items ≡ page.old.items ++ numbered number) }
 {
@@ -245,7 +241,7 @@ fn push_number(alloc: Global, page: &mut Vec<u8>, number: u32) -> Result<(), All
     Ok(())
 }
 
-/// The author of a problem, if a tag names one.
+/// Returns the author of a problem, if a tag names one.
 fn push_author(alloc: Global, page: &mut Vec<u8>, name: Option<&[u8]>) -> Result<(), AllocError>
     ensures { OnOk result (page.new.items ≡ page.old.items ++ author (option_map (λ n. n.now) name.entry)) }
 {
@@ -256,7 +252,7 @@ fn push_author(alloc: Global, page: &mut Vec<u8>, name: Option<&[u8]>) -> Result
     Ok(())
 }
 
-/// Where and when a problem was published: the values that there are, with commas between them.
+/// Returns where and when a problem was published: the values that there are, with commas between them.
 fn push_source(
     alloc: Global,
     page: &mut Vec<u8>,
@@ -287,8 +283,7 @@ pub struct Solution<'a> {
     pub movetext: &'a [u8],
 }
 
-/// Appends the solution of a problem, with its number in front if it stands apart.
-/// Example: that of problem 7 names the element `p7`, on whose board its moves are shown.
+/// Appends the solution of a problem, with its number in front if it is apart from the problem.
 pub fn push_solution<B: Board>(
     alloc: Global,
     page: &mut Vec<u8>,
@@ -308,7 +303,7 @@ pub fn push_solution<B: Board>(
     Ok(())
 }
 
-/// The beginning of a solution, with the number of its problem if it stands apart.
+/// Returns the beginning of a solution, with the number of its problem if it is apart from it.
 fn push_solution_begin(
     alloc: Global,
     page: &mut Vec<u8>,
@@ -330,7 +325,7 @@ fn push_solution_begin(
     Ok(())
 }
 
-/// A verdict.
+/// Returns a verdict.
 fn push_verdict(alloc: Global, page: &mut Vec<u8>, verdict: &str) -> Result<(), AllocError>
     ensures { OnOk result (page.new.items ≡ page.old.items ++ verdict_row verdict.now) }
 {
@@ -340,7 +335,7 @@ fn push_verdict(alloc: Global, page: &mut Vec<u8>, verdict: &str) -> Result<(), 
     Ok(())
 }
 
-/// The row of the tries, if there are any.
+/// Returns the row of the tries, if there are any.
 fn push_tries(
     alloc: Global,
     page: &mut Vec<u8>,
@@ -352,13 +347,17 @@ fn push_tries(
     if tries.is_empty() {
         return Ok(());
     }
-    push_all(alloc, page, &["<p>", language.phrase(Phrase::Tries), ": "])?;
+    push_all(
+        alloc,
+        page,
+        &["<p class=\"tries\">", language.phrase(Phrase::Tries), ": "],
+    )?;
     push_try_texts(alloc, page, tries)?;
     push_all(alloc, page, &["</p>\n"])?;
     Ok(())
 }
 
-/// The tries with marks between them.
+/// Returns the tries with marks between them.
 fn push_try_texts(alloc: Global, page: &mut Vec<u8>, tries: &[String]) -> Result<(), AllocError>
     ensures { OnOk result (page.new.items ≡ page.old.items
         ++ join_by try_shown (codes "; ") (map string_bytes tries.now)) }
@@ -372,7 +371,7 @@ fn push_try_texts(alloc: Global, page: &mut Vec<u8>, tries: &[String]) -> Result
     Ok(())
 }
 
-/// A try as an element, which stands in one line if there is room.
+/// Returns a try as an element, which stays in one line if there is room.
 fn push_try(alloc: Global, page: &mut Vec<u8>, text: &str) -> Result<(), AllocError>
     ensures { OnOk result (page.new.items ≡ page.old.items ++ try_shown text.now) }
 {
@@ -382,7 +381,7 @@ fn push_try(alloc: Global, page: &mut Vec<u8>, text: &str) -> Result<(), AllocEr
     Ok(())
 }
 
-/// The row of the moves, and the end of a solution.
+/// Returns the row of the moves, and the end of a solution.
 fn push_moves_row<B: Board>(
     alloc: Global,
     page: &mut Vec<u8>,
@@ -407,7 +406,6 @@ fn push_moves_row<B: Board>(
 }
 
 /// Appends the heading of the solutions that stand at the end of a page.
-/// Example: in Dutch it is `Oplossingen`.
 pub fn push_solutions_heading(
     alloc: Global,
     page: &mut Vec<u8>,
@@ -425,7 +423,6 @@ pub fn push_solutions_heading(
 }
 
 /// Appends the end of a page.
-/// Example: it has the script, and ends with `</html>`.
 pub fn push_end(alloc: Global, page: &mut Vec<u8>) -> Result<(), AllocError>
     ensures { OnOk result (page.new.items ≡ page.old.items ++ end) }
 {

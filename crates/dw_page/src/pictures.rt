@@ -25,7 +25,6 @@ const PIECES: &str = "\
 ";
 
 /// Appends the pictures, out of sight.
-/// Example: on the board of ten rows that of the board has 50 dark squares.
 #[tactic(auto, unfolding(crate::specs::Pictures::pictures))]
 pub(crate) fn push_pictures<B: Board>(alloc: Global, page: &mut Vec<u8>) -> Result<(), AllocError>
     ensures { OnOk result (page.new.items ≡ page.old.items ++ pictures B.geometry) }
@@ -48,7 +47,7 @@ fn pieces() -> &'static str
     PIECES
 }
 
-/// The empty board: the dark squares, and a frame around them.
+/// Returns the empty board: the dark squares, and a frame around them.
 #[tactic(auto, unfolding(crate::specs::Pictures::board))]
 fn push_board<B: Board>(alloc: Global, page: &mut Vec<u8>) -> Result<(), AllocError>
     ensures { OnOk result (page.new.items ≡ page.old.items ++ board B.geometry) }
@@ -59,7 +58,7 @@ fn push_board<B: Board>(alloc: Global, page: &mut Vec<u8>) -> Result<(), AllocEr
     Ok(())
 }
 
-/// The frame of a board, and the end of its picture.
+/// Returns the frame of a board, and the end of its picture.
 #[tactic(auto, unfolding(crate::specs::Pictures::frame))]
 fn push_frame(alloc: Global, page: &mut Vec<u8>, rows: u8) -> Result<(), AllocError>
     ensures { OnOk result (page.new.items ≡ page.old.items ++ frame rows) }
@@ -76,7 +75,7 @@ fn push_frame(alloc: Global, page: &mut Vec<u8>, rows: u8) -> Result<(), AllocEr
     push_all(alloc, page, &texts)
 }
 
-/// The outlines of all dark squares.
+/// Returns the outlines of all dark squares.
 fn push_outlines<B: Board>(alloc: Global, page: &mut Vec<u8>) -> Result<(), AllocError>
     ensures { OnOk result (page.new.items ≡ page.old.items
         ++ flat_map (outline B.geometry) (range_with_len 1 (squares B.geometry))) }
@@ -87,7 +86,7 @@ fn push_outlines<B: Board>(alloc: Global, page: &mut Vec<u8>) -> Result<(), Allo
     Ok(())
 }
 
-/// The outline of the square of a number.
+/// Returns the outline of the square of a number.
 fn push_outline<B: Board>(alloc: Global, page: &mut Vec<u8>, number: u8) -> Result<(), AllocError>
     requires { OnBoard B.geometry number }
     ensures { OnOk result (page.new.items ≡ page.old.items ++ outline B.geometry number) }
@@ -101,7 +100,7 @@ fn push_outline<B: Board>(alloc: Global, page: &mut Vec<u8>, number: u8) -> Resu
     }
 }
 
-/// A column and a row, between two texts.
+/// Returns a column and a row, between two texts.
 fn push_at(
     alloc: Global,
     page: &mut Vec<u8>,
@@ -125,7 +124,7 @@ fn push_at(
     push_all(alloc, page, &texts)
 }
 
-/// The numbers of the squares, each in the upper left corner of its own.
+/// Returns the numbers of the squares, each in the upper left corner of its own.
 #[tactic(auto, unfolding(crate::specs::Pictures::numbers))]
 fn push_numbers<B: Board>(alloc: Global, page: &mut Vec<u8>) -> Result<(), AllocError>
     ensures { OnOk result (page.new.items ≡ page.old.items ++ numbers B.geometry) }
@@ -136,7 +135,7 @@ fn push_numbers<B: Board>(alloc: Global, page: &mut Vec<u8>) -> Result<(), Alloc
     Ok(())
 }
 
-/// The labels of all squares.
+/// Returns the labels of all squares.
 fn push_labels<B: Board>(alloc: Global, page: &mut Vec<u8>) -> Result<(), AllocError>
     ensures { OnOk result (page.new.items ≡ page.old.items
         ++ flat_map (label B.geometry) (range_with_len 1 (squares B.geometry))) }
@@ -147,7 +146,7 @@ fn push_labels<B: Board>(alloc: Global, page: &mut Vec<u8>) -> Result<(), AllocE
     Ok(())
 }
 
-/// The label of the square of a number.
+/// Returns the label of the square of a number.
 fn push_label<B: Board>(alloc: Global, page: &mut Vec<u8>, number: u8) -> Result<(), AllocError>
     requires { OnBoard B.geometry number }
     ensures { OnOk result (page.new.items ≡ page.old.items ++ label B.geometry number) }
@@ -161,7 +160,7 @@ fn push_label<B: Board>(alloc: Global, page: &mut Vec<u8>, number: u8) -> Result
     }
 }
 
-/// The label with a number in the corner at a column and a row.
+/// Returns the label with a number in the corner at a column and a row.
 fn push_label_at(
     alloc: Global,
     page: &mut Vec<u8>,

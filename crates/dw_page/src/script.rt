@@ -2,7 +2,6 @@
 //! the FEN text of that position with it, so that the script knows no rules.
 
 /// The script.
-/// Example: a click on the first move of a solution shows the position after it.
 pub(crate) const SCRIPT: &str = "
 'use strict';
 let current = null;

@@ -1,7 +1,6 @@
 //! The style of a page: on a screen as many columns as fit, on paper two, with three problems in each.
 
 /// The style.
-/// Example: it gives the pictures of white pieces a black outline.
 pub(crate) const STYLE: &str = "
 :root { font: 16px/1.35 Georgia, 'Times New Roman', serif; color: #000; background: #fff; }
 body { margin: 0 auto; padding: 12px; max-width: 1080px; }
@@ -40,7 +39,11 @@ svg { display: block; width: 100%; margin: 4px 0; overflow: visible; }
   .problem { display: inline-block; vertical-align: top; box-sizing: border-box; width: 49.5%; min-height: 80mm;
     padding: 0 6mm 2mm; }
   h1 { font-size: 1.2rem; margin: 0 0 2mm; }
-  .problem svg { width: 54mm; margin: 1mm auto; }
+  .problem svg { width: 50mm; margin: 1mm auto; }
+  .problem .tries { max-height: 2.7em; overflow: hidden; }
+  .problem .solution { font-size: .8rem; }
+  .solutions { orphans: 2; widows: 2; }
+  .solutions h1, .solutions h2 { break-after: avoid; }
   .move.shown { background: none; }
 }
 ";

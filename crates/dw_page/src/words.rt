@@ -5,7 +5,6 @@ ghost use Rattle.dw_page.specs.Words as of;
 use dw_board::Side;
 
 /// The language of a page.
-/// Example: `dw-desk page --lang nl` writes a page in `Language::Dutch`.
 #[derive(Clone, Copy, Debug, PartialEq, Eq)]
 pub enum Language {
     English,
@@ -14,8 +13,7 @@ pub enum Language {
     Russian,
 }
 
-/// What is said of the win that is asked for, or of the lines.
-/// Example: in English `Phrase::Solution` is `Solution`.
+/// The phrases about the win or the lines.
 #[derive(Clone, Copy, Debug, PartialEq, Eq)]
 pub enum Phrase {
     /// In front of the first move of a sound problem.
@@ -41,8 +39,7 @@ pub enum Phrase {
 }
 
 impl Language {
-    /// Its name in a page.
-    /// Example: that of `Language::Dutch` is `nl`.
+    /// Returns its name in a page.
     pub fn tag(self) -> &'static str
         ensures { result.now ≡ of.tag self }
     {
@@ -54,8 +51,7 @@ impl Language {
         }
     }
 
-    /// What is asked, up to the number of moves.
-    /// Example: in English, for White, it is `White to play and win in `.
+    /// Returns the task, up to the number of moves.
     #[tactic(auto, unfolding(crate::specs::Words::asked))]
     pub fn task(self, side: Side) -> &'static str
         ensures { result.now ≡ of.asked self side }
@@ -72,8 +68,7 @@ impl Language {
         }
     }
 
-    /// What stands behind a number of moves, 1 to 20: in Russian the word for moves, in the form that it asks for.
-    /// Example: in Russian it is ` хода` behind 3, and ` ходов` behind 11.
+    /// Returns the text after a number of moves, 1 to 20: in Russian the word for moves, in the form for that number.
     #[tactic(auto, unfolding(crate::specs::Words::russian_moves))]
     pub fn moves(self, count: u8) -> &'static str
         ensures { result.now ≡ of.moves self count }
@@ -86,8 +81,7 @@ impl Language {
         }
     }
 
-    /// A phrase, as it stands in front of what it speaks of.
-    /// Example: in French `Phrase::Tries` is `Essais`.
+    /// Returns a phrase, in the form before the words that it belongs to.
     #[tactic(auto, unfolding(crate::specs::Words::phrase))]
     pub fn phrase(self, phrase: Phrase) -> &'static str
         ensures { result.now ≡ of.phrase self phrase }

@@ -5,7 +5,7 @@ use Rattle.dw_notation.specs.Problems.{Numbered}
 use Rattle.dw_report.specs.Report.{AreTexts, IsReport}
 use Rattle.dw_report.specs.Request.{Request}
 
--- if a line at least is asked for, problems have a text, and only one; so has a byte text its report
+-- if at least one line may be listed, each problem has exactly one text, and each byte text exactly one report
 pub record OneReport : Type 0 where
   pub texts : (g : Geometry) → IsBoard g → (request : Request) → 1 ≤ request.lines → (problems : List Numbered) →
       (text : List ℕ) × AreTexts g request problems text

@@ -16,7 +16,7 @@ AreLineTexts g p (l ∷ lines) text = (line : List ℕ) × (rest : List ℕ) × 
     × AreLineTexts g p lines rest
     × (text ≡ line ++ codes "\n" ++ rest)
 
--- all of these lines, if they are at most so many, and their number
+-- all of these lines, if there are at most `most`, and their number
 pub record IsComplete (g : Geometry) (p : Placement) (most : ℕ) (lines : List (List Move))
     (text : List ℕ) : Type 0 where
   pub few : length lines ≤ most
@@ -29,7 +29,7 @@ unfoldable pub more_after : Geometry → List Move → List ℕ
 more_after g last =
     if (g.rows == 10) || (g.rows == 8) then codes "more after " ++ token_of g last ++ codes "\n" else codes "more\n"
 
--- so many of these lines, the first ones, and that more are left
+-- the first ones of these lines, as many as may be listed, and that more are left
 pub record IsCut (g : Geometry) (p : Placement) (most : ℕ) (lines : List (List Move)) (text : List ℕ) : Type 0 where
   pub earlier : List (List Move)
   pub last : List Move

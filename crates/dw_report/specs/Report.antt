@@ -59,7 +59,7 @@ abbrev pub first_line : Geometry → Numbered → List ℕ
 first_line g problem = codes "problem " ++ decimal problem.number ++ codes ": " ++ found_text g problem.found
     ++ codes "\n"
 
--- what is written of one of the legal moves: its text, and the position after it
+-- the line of a legal move: its text, and the position after it
 abbrev pub move_line : Geometry → Placement → List Listed → Listed → List ℕ
 move_line g p list l = text_among list l ++ codes " " ++ written g (play g p l.step) ++ codes "\n"
 
@@ -72,19 +72,19 @@ pub record IsMovesText (g : Geometry) (p : Placement) (text : List ℕ) : Type 0
   pub is : text ≡ flat_map (move_line g p list) list
       ++ (codes "moves " ++ decimal (length list) ++ codes " taking " ++ decimal most ++ codes "\n")
 
--- what is said of a position
+-- the text of the command on a position
 abbrev pub IsSaid : Geometry → Command → Request → Placement → List ℕ → Type 0
 IsSaid g Show request p text = text ≡ diagram_text g p
 IsSaid g Moves request p text = IsMovesText g p text
 IsSaid g Judge request p text = IsJudgedText g p request.moves text
 IsSaid g Lists request p text = IsListedText g p request.moves request.lines request.after text
 
--- what follows a first line: what the command says of the position, and nothing after a refusal
+-- the text after the first line: that of the command, or nothing after a refusal
 abbrev pub IsFurther : Geometry → Request → Found → List ℕ → Type 0
 IsFurther g request (Ok p) text = IsSaid g request.command request p text
 IsFurther g request (Err fault) text = text ≡ []
 
--- the text of a problem: its first line, and what follows it
+-- the text of a problem: its first line, and the rest
 pub record IsProblemText (g : Geometry) (request : Request) (problem : Numbered) (text : List ℕ) : Type 0 where
   pub further : List ℕ
   pub follows : IsFurther g request problem.found further

@@ -1,4 +1,4 @@
--- What a report is asked for, and so which problems it is on. No limit, no memo and no order of moves is among it.
+-- The request of a report, and so the problems that it is on. It has no limit, no memo and no order of moves.
 use Rattle.std.specs.Prelude.{ℕ, Option, option_map, List, ◌==◌, Bool, true, false, Some, None}
 use Rattle.dw_moves.specs.Moves.{Move}
 use Rattle.dw_notation.specs.declared.problems.Form.{Form}
@@ -15,7 +15,7 @@ pub record Request : Type 0 where
   pub lines : ℕ
   pub after : Option (List Move)
 
--- what the settings of a run ask for
+-- the request of a run's settings
 abbrev pub request_of : {B : Type 0} → Settings B → Request
 request_of settings = record {
   command = settings.command;
@@ -31,7 +31,7 @@ abbrev pub number_is_chosen : Option ℕ → ℕ → Bool
 number_is_chosen None number = true
 number_is_chosen (Some only) number = number == only
 
--- the one of a number is asked for, or none
+-- the problem of a number is requested, or none
 abbrev pub number_is_asked : Option ℕ → ℕ → Bool
 number_is_asked None number = false
 number_is_asked (Some only) number = number == only

@@ -1,4 +1,4 @@
--- What a run writes, what it counts, and what stands where a stream failed or the run was stopped.
+-- The output and the counts of a run, also if a stream failed or the run was stopped.
 use Rattle.std.specs.Prelude.{◌≡◌, ℕ, ◌+◌, ◌≤◌, ◌<◌, ◌⊎◌, if◌then◌else◌, List, [], ◌∷◌, ◌++◌, length, Bool, true, false}
 use Rattle.std.specs.Prelude.{Option, Some, None, Result, Ok, Err}
 use Rattle.std.specs.List.{list_any}
@@ -37,7 +37,7 @@ abbrev pub IsRefused : Geometry → Request → Found → Type 0
 IsRefused g request (Ok p) = (request.command ≡ asked.List) × IsNoLine g p request.moves request.after
 IsRefused g request (Err fault) = Unit {0}
 
--- so many of these problems are refused
+-- this number of these problems is refused
 abbrev pub AreRefused : Geometry → Request → List Numbered → ℕ → Type 0
 AreRefused g request [] count = count ≡ 0
 AreRefused g request (problem ∷ problems) count =
@@ -50,8 +50,8 @@ pub record Counts (g : Geometry) (request : Request) (summary : Summary) (proble
   pub shown : summary.shown ≡ length (chosen request.only problems)
   pub refusals : AreRefused g request (chosen request.only problems) summary.refused
 
--- No more was read than the problem of this number asks for: of the bytes read, those after the byte that ended it are
--- fewer than one read gives, for without the bytes of the last read it had not ended.
+-- No more was read than the problem of this number needs: the bytes read after the byte that ended it are fewer than
+-- one read gives, because without the bytes of the last read it had not ended.
 pub record ReadsUpTo (g : Geometry) (form : Form) (number : ℕ) (read : List ℕ) : Type 0 where
   pub before : List ℕ
   pub last : List ℕ
@@ -119,7 +119,7 @@ pub record IsPartOn (g : Geometry) (request : Request) (number : ℕ) (problems 
   pub further : AreLinesOf (IsFurther g request problem.found) lines
   pub is : out ≡ texts ++ (first_line g problem ++ lines)
 
--- a beginning of the report on some bytes, up to a line of some problem; no more was read than that problem asks for
+-- a beginning of the report on some bytes, up to a line of some problem; no more was read than that problem needs
 pub record IsPart (g : Geometry) (request : Request) (read bytes out : List ℕ) : Type 0 where
   pub problems : List Numbered
   pub are : AreProblems g request.form true bytes problems
@@ -127,7 +127,7 @@ pub record IsPart (g : Geometry) (request : Request) (read bytes out : List ℕ)
   pub need : ReadsUpTo g request.form number read
   pub part : IsPartOn g request number problems out
 
--- the sink has taken what is right whatever bytes follow those read; or the source's end was met, and none follow
+-- the output is right whatever bytes follow those read; or the source's end was met, and none follow
 pub record StopsAhead (P : (read text out : List ℕ) → Type 0) (bytes : List ℕ) (left : Option (List ℕ)) (ended : Bool)
     (taken after : Option (List ℕ)) : Type 0 where
   pub read : List ℕ
@@ -136,7 +136,7 @@ pub record StopsAhead (P : (read text out : List ℕ) → Type 0) (bytes : List 
   pub wrote : Appends taken after out
   pub front : ((more : List ℕ) → P read (read ++ more) out) ⊎ ((ended ≡ true) × P read read out)
 
--- what a run did, if the source tells its bytes
+-- the effect of a run, if the source tells its bytes
 abbrev pub RunEnds : Geometry → Request → Option (List ℕ) → Option (List ℕ) → Bool → Option (List ℕ)
     → Option (List ℕ) → Result Summary RunFault → Type 0
 RunEnds g request None left ended taken after result = Unit {0}

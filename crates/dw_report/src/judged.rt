@@ -29,8 +29,8 @@ use dw_verdict::{Judged, Verdict};
 use itoa::Buffer;
 use std::alloc::{AllocError, Global};
 
-/// Writes the verdict on a position, for a win within so many moves of the side to move, and then its tries, each as
-/// soon as it is known.
+/// Writes the verdict on a position, for a win within `moves` moves of the side to move, and then its tries. Each line
+/// is written as soon as it is known.
 pub(crate) fn write_judged<B: Board, K: Sink, M: Memo<B>, G: Guide<B>>(
     alloc: Global,
     sink: &mut K,
@@ -53,9 +53,8 @@ pub(crate) fn write_judged<B: Board, K: Sink, M: Memo<B>, G: Guide<B>>(
     write_tries(alloc, sink, solver, position, moves)
 }
 
-/// The text of a verdict and of the tries that `judge` answered, which `run` writes after a problem's first line.
-/// Example: at `W:W27,45:B16`, within 2 moves, it has the three lines `sound in 2: 45-40`, `try 27-21 refuted by 16x27`
-/// and `try 27-22 refuted by 16-21`.
+/// Returns the text of a verdict and of the tries that `judge` answered, which `run` writes after a problem's first
+/// line.
 pub fn judged_text<B: Board>(
     alloc: Global,
     position: &Position<B>,
@@ -157,7 +156,7 @@ fn write_try<B: Board, K: Sink, M: Memo<B>, G: Guide<B>>(
     Ok(())
 }
 
-/// The line of a verdict.
+/// Returns the line of a verdict.
 fn verdict_line<B: Board>(
     alloc: Global,
     position: &Position<B>,
@@ -192,7 +191,7 @@ fn verdict_line<B: Board>(
     }
 }
 
-/// The line of the verdict that several first moves win, or that there is a win in fewer moves.
+/// Returns the line of the verdict that several first moves win, or that there is a win in fewer moves.
 fn cooked_line<B: Board>(
     alloc: Global,
     position: &Position<B>,
@@ -217,7 +216,7 @@ fn cooked_line<B: Board>(
     .concat(alloc)
 }
 
-/// The line of the verdict that there is a choice after the first move.
+/// Returns the line of the verdict that there is a choice after the first move.
 fn dual_line<B: Board>(
     alloc: Global,
     position: &Position<B>,
@@ -246,7 +245,7 @@ fn dual_line<B: Board>(
     .concat(alloc)
 }
 
-/// The line of a try: its move, and the reply that refutes it.
+/// Returns the line of a try: its move, and the reply that refutes it.
 fn try_line<B: Board>(
     alloc: Global,
     position: &Position<B>,
@@ -269,7 +268,7 @@ fn try_line<B: Board>(
     .concat(alloc)
 }
 
-/// The position after moves, each legal after those before it.
+/// Returns the position after moves, each legal after those before it.
 pub(crate) fn reached<B: Board>(position: &Position<B>, moves: &[Move<B>]) -> Position<B>
     requires { ArePlayable B.geometry position.now moves.now }
     ensures { result ≡ reach B.geometry position.now moves.now }
@@ -281,8 +280,7 @@ pub(crate) fn reached<B: Board>(position: &Position<B>, moves: &[Move<B>]) -> Po
     current
 }
 
-/// The texts of legal moves of a position, with a mark between them.
-/// Example: of the two moves of `W:W32:B` with the mark ` / ` it is `32-27 / 32-28`.
+/// Returns the texts of legal moves of a position, with a mark between them.
 pub fn joined_text<B: Board>(
     alloc: Global,
     position: &Position<B>,

@@ -3,8 +3,7 @@ ghost use Rattle.dw_report.specs.Laws.{OneReport};
 
 pub use dw_verdict::laws::{one_verdict, tries_are_listed};
 
-/// If a line at least is asked for, each byte text has a report, and only one.
-/// Example: the report on a text without a byte is empty.
+/// Each byte text has exactly one report, if at least one line may be listed.
 pub fn one_report()
     ensures { OneReport }
 {

@@ -1,10 +1,7 @@
 //! The report on the problems of a source.
 //!
-//! Begin with `run::run` and the `Settings` that it is given; `judge::judge` answers the `Verdict` on one position.
-//! Verdicts are those of `dw_verdict`; the sources, sinks and problems that a run works on are those of `dw_notation`.
-//! They stand here under the same names.
-//!
-//! An example tells a position by its FEN text, on the board of ten rows if it names no other.
+//! Begin with `run::run` and its `Settings`. `judge::judge` returns the `Verdict` on one position. Verdicts come from
+//! `dw_verdict`, and sources, sinks and problems from `dw_notation`; they are offered here under the same names.
 #![tactic(auto)]
 
 mod judged;

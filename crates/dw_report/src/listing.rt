@@ -35,9 +35,10 @@ use std::alloc::Global;
 /// The bytes that suffice for each line's text and a line feed.
 const ROW_ROOM: usize = LINE_ROOM + 1;
 
-/// Writes the lines of a position, all or those after the line that the settings name, as many as they ask for, each
-/// as soon as it is known; and then that the list is complete, or after which line it goes on. Answers whether the
-/// line that they name was refused: it is none of the position's, and its place is written instead.
+/// Writes the lines of a position, each as soon as it is known: all of them, or those after the line in the settings,
+/// up to the number in the settings. The last line says that the list is complete, or names the line after which it
+/// goes on. Returns whether the line in the settings was refused, because it is none of the position's. Then only its
+/// place is written.
 pub(crate) fn write_lines<B: Board, K: Sink, M: Memo<B>, G: Guide<B>>(
     alloc: Global,
     sink: &mut K,
@@ -59,7 +60,7 @@ pub(crate) fn write_lines<B: Board, K: Sink, M: Memo<B>, G: Guide<B>>(
 {
     let mut lister = Lister::start(solver, position, settings.n);
     let result = write_asked(alloc, sink, &mut lister, settings, position);
-    // A lister that is only let go would not tell what its solver has spent.
+    // A dropped lister would not tell how much its solver has spent.
     let _ = lister.into_solver();
     result
 }
@@ -102,7 +103,7 @@ fn write_asked<B: Board, K: Sink, M: Memo<B>, G: Guide<B>>(
     }
 }
 
-/// Writes the lines of a lister's position after a given one, so many at most. Answers whether that is refused.
+/// Writes at most `most` lines of a lister's position after a given one. Returns whether that line is refused.
 fn write_after<B: Board, K: Sink, M: Memo<B>, G: Guide<B>>(
     alloc: Global,
     sink: &mut K,
@@ -139,7 +140,7 @@ fn write_after<B: Board, K: Sink, M: Memo<B>, G: Guide<B>>(
     }
 }
 
-/// Writes the lines that are still to come of a lister, so many at most, and how the list ends.
+/// Writes at most `most` of the lines still to come of a lister, and the end of the list.
 fn write_listing<B: Board, K: Sink, M: Memo<B>, G: Guide<B>>(
     alloc: Global,
     sink: &mut K,
@@ -249,7 +250,7 @@ fn fill_row<B: Board>(row: &mut ArrayString<ROW_ROOM>, text: &LineText<B>)
     row.push('\n');
 }
 
-/// That so many lines are all of them.
+/// Returns the last line `complete K`.
 fn complete_row(count: u64) -> ArrayString<SHORT_ROOM>
     ensures { result.bytes ≡ codes "complete " ++ decimal count ++ codes "\n" }
 {
@@ -277,14 +278,14 @@ fn write_more<B: Board, K: Sink>(sink: &mut K, last: &[Move<B>]) -> Result<(), W
     }
 }
 
-/// Whether lines have tokens on this board.
+/// Returns whether lines have tokens on this board.
 fn has_tokens<B: Board>() -> bool
     ensures { result ≡ has_tokens B.geometry }
 {
     B::ROWS == 10 || B::ROWS == 8
 }
 
-/// Writes that more lines come after this one, which is told by its token.
+/// Writes that more lines come after this one, with its token.
 fn write_more_after<B: Board, K: Sink>(sink: &mut K, last: &[Move<B>]) -> Result<(), WriteFault>
     requires odd { length last.now % 2 ≡ 1 }
     requires most { length last.now ≤ 39 }
@@ -302,7 +303,7 @@ fn write_more_after<B: Board, K: Sink>(sink: &mut K, last: &[Move<B>]) -> Result
     write_all(sink, "\n".as_bytes())
 }
 
-/// That a list of moves is no line, and the place at which it leaves all lines.
+/// Returns the refusal of a list of moves that is no line, with the place at which it leaves all lines.
 fn refused_row(place: usize) -> ArrayString<SHORT_ROOM>
     ensures { result.bytes ≡ refused_line place }
 {

@@ -20,8 +20,7 @@ use dw_verdict::Verdict;
 use std::alloc::{AllocError, Global};
 use std::slice;
 
-/// The texts of the keys that a verdict names: all first moves that win, in order.
-/// Example: at `W:W27,32,38:B18`, which is cooked in 2 moves, they are `27-22` and `32-28`.
+/// Returns the texts of the keys that a verdict names: all first moves that win, in order.
 pub fn key_texts<B: Board>(
     alloc: Global,
     position: &Position<B>,
@@ -39,8 +38,7 @@ pub fn key_texts<B: Board>(
     }
 }
 
-/// The text of the line before a choice, and the texts of the choices.
-/// Example: at `W:W27,32:B18`, which has a dual in 2 moves, they are `1. 32-28 18-22`, and `27x18` and `28x17`.
+/// Returns the text of the line before a choice, and the texts of the choices.
 pub fn dual_texts<B: Board>(
     alloc: Global,
     position: &Position<B>,
@@ -57,8 +55,7 @@ pub fn dual_texts<B: Board>(
     Ok((String::from_str(alloc, line.as_str())?, choices))
 }
 
-/// The texts of tries, each with its reply.
-/// Example: at `W:W27,45:B16`, within 2 moves, they are `27-21` with `16x27`, and `27-22` with `16-21`.
+/// Returns the texts of tries, each with its reply.
 pub fn try_texts<B: Board>(
     alloc: Global,
     position: &Position<B>,
@@ -75,7 +72,7 @@ pub fn try_texts<B: Board>(
     Ok(texts)
 }
 
-/// The text of a move and of a reply to it.
+/// Returns the text of a move and of a reply to it.
 pub(crate) fn try_words<B: Board>(
     alloc: Global,
     position: &Position<B>,
@@ -95,7 +92,7 @@ pub(crate) fn try_words<B: Board>(
     ))
 }
 
-/// The texts of legal moves of a position, in their order.
+/// Returns the texts of legal moves of a position, in their order.
 fn move_texts<B: Board>(
     alloc: Global,
     position: &Position<B>,

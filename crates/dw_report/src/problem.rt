@@ -58,9 +58,9 @@ impl From<WriteFault> for TextFault {
     }
 }
 
-/// Writes the text of a problem: what is known at once in one write, its first line and the diagram of a position that
-/// is shown; then what the command adds, each line as soon as it is known.
-/// Answers whether the problem was refused, or the line after which its lines are asked for.
+/// Writes the text of a problem. The first write has everything known at once: the first line, and the diagram of a
+/// position that is shown. The command adds the rest, each line as soon as it is known. Returns whether the problem was
+/// refused, or the line after which its lines are listed.
 ///
 /// After a stop the sink has its first line and whole lines of the rest.
 pub(crate) fn write_problem<B: Board, K: Sink, M: Memo<B>, G: Guide<B>>(
@@ -90,8 +90,8 @@ pub(crate) fn write_problem<B: Board, K: Sink, M: Memo<B>, G: Guide<B>>(
     }
 }
 
-/// Writes what the command says of a position beside its diagram. Answers whether the line after which lines are asked
-/// for was refused. A search is told first that another problem begins.
+/// Writes the text of the command except a diagram. Returns whether the line after which lines are listed was refused.
+/// The solver first learns that another problem begins.
 fn write_rest<B: Board, K: Sink, M: Memo<B>, G: Guide<B>>(
     alloc: Global,
     sink: &mut K,

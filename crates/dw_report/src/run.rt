@@ -16,18 +16,15 @@ use dw_notation::{Problem, Problems, Sink, Source};
 use dw_solve::{Guide, Solver};
 use std::alloc::Global;
 
-/// Writes the report on the problems of the source: of each chosen problem its whole text, in order. One solver over
-/// the memo, all of whose bounds are right, serves the whole run; the report depends neither on the memo nor on the
-/// guide. A list that is cut tells the token of its last line on the boards that have tokens, those of 10 and 8 rows;
-/// on another it tells only that there are more.
+/// Writes the report on the problems of the source: the whole text of each chosen problem, in order. One solver serves
+/// the whole run, with the memo, whose bounds must be right. The report depends neither on the memo nor on the guide. A
+/// list that is cut names the token of its last line on boards of 10 and 8 rows; other boards have no tokens.
 ///
-/// Reading ends at the end of the source, or after the problem that was asked for. `Read` and `Write` come only
-/// if that stream failed: after `Read` the sink has the whole texts of the chosen problems that end in
-/// the bytes read, and the problem asked for is none of these; after `Write` some beginning of the report. After
-/// `Stopped` the sink has the whole texts of some chosen problems, the first line of the next, and whole lines of the
-/// rest of its text. Positions are shown without a stop, and moves listed with none but that of memory; `Limit` comes
-/// only if as many positions were expanded as the settings allow.
-/// Example: judged within 1 move, `W:W32:B28` gives the lines `problem 1: W:W32:B28` and `sound in 1: 32x23`.
+/// Reading ends at the end of the source, or after the requested problem. `Read` and `Write` come only if that stream
+/// failed. After `Read` the sink has the whole texts of the chosen problems that ended before, and the requested
+/// problem is none of these. After `Write` it has some beginning of the report. After `Stopped` it has the whole texts
+/// of some chosen problems, the first line of the next, and whole lines of the rest of its text. `show` is never
+/// stopped, and `moves` only for lack of memory. `Limit` comes only after as many expansions as the settings allow.
 pub fn run<B: Board, S: Source, K: Sink, M: Memo<B> + Drop, G: Guide<B> + Drop>(
     alloc: Global,
     source: &mut S,
@@ -91,7 +88,7 @@ fn write_report<B: Board, S: Source, K: Sink, M: Memo<B>, G: Guide<B>>(
     }
 }
 
-/// How a run ends if a text was not written to its end, after so many expansions.
+/// Returns how a run ends if a text was not written to its end, after `expanded` expansions.
 fn ended(fault: TextFault, expanded: u64) -> RunFault
     ensures { result ≡ ended_by fault expanded }
 {
@@ -133,7 +130,7 @@ fn report_problem<B: Board, K: Sink, M: Memo<B>, G: Guide<B>>(
     Ok(with_shown(read, refused))
 }
 
-/// The summary with one more problem reported.
+/// Returns the summary with one more problem reported.
 fn with_shown(summary: Summary, is_refused: bool) -> Summary
     requires room { summary.problems < 4000001 }
     requires shown { summary.shown < summary.problems }

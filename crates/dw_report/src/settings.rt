@@ -1,4 +1,4 @@
-//! What a run is asked to do, and what it did.
+//! The settings of a run, and its summary.
 ghost use Rattle.std.specs.Prelude.{◌≡◌};
 ghost use Rattle.dw_report.specs.Request.{number_is_chosen, number_is_asked};
 
@@ -10,7 +10,6 @@ pub use dw_solve::Stop;
 use thiserror::Error;
 
 /// What is reported of each problem.
-/// Example: `dw judge` asks for `Command::Judge`.
 #[derive(Clone, Copy, Debug, PartialEq, Eq)]
 pub enum Command {
     /// The position, as a diagram.
@@ -24,8 +23,7 @@ pub enum Command {
     List,
 }
 
-/// What a run is asked to do.
-/// See [`Settings::chooses`] for an example.
+/// The settings of a run.
 #[derive(Drop)]
 pub struct Settings<B: Board> {
     pub command: Command,
@@ -44,8 +42,7 @@ pub struct Settings<B: Board> {
 }
 
 impl<B: Board> Settings<B> {
-    /// Whether the problem of this number is reported.
-    /// Example: if `only` is `Some(3)`, it is `true` for 3 alone; if it is `None`, for each number.
+    /// Returns whether the problem of this number is reported.
     pub fn chooses(&self, number: u32) -> bool
         ensures { result ≡ number_is_chosen self.now.only number }
     {
@@ -55,8 +52,7 @@ impl<B: Board> Settings<B> {
         }
     }
 
-    /// Whether the problem of this number is the one that was asked for: reading ends after it.
-    /// Example: if `only` is `Some(3)`, it is `true` for 3 alone; if it is `None`, for no number.
+    /// Returns whether the problem of this number is the one that was asked for: reading ends after it.
     pub fn asks_for(&self, number: u32) -> bool
         ensures { result ≡ number_is_asked self.now.only number }
     {
@@ -68,7 +64,6 @@ impl<B: Board> Settings<B> {
 }
 
 /// What a run did.
-/// Example: of three problems that are all reported, one of them as refused, it has 3, 3 and 1.
 #[derive(Clone, Copy, Debug, Default, PartialEq, Eq)]
 pub struct Summary {
     /// Problems read, 0 to 1,000,001.
@@ -80,7 +75,6 @@ pub struct Summary {
 }
 
 /// Why a run ended before its report was whole.
-/// Example: `RunFault::Read` is written `read failed`.
 #[derive(Clone, Copy, Debug, PartialEq, Eq, Error)]
 pub enum RunFault {
     /// It was stopped, after this many positions were expanded.

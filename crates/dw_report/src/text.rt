@@ -21,23 +21,21 @@ use itoa::Buffer;
 pub(crate) const SHORT_ROOM: usize = 64;
 
 /// The bytes that suffice for why a problem is refused.
-/// Example: `2 no fen` takes 8 of them.
 pub const REFUSAL_ROOM: usize = 192;
 
-/// The bytes that suffice for the same behind `refused: `.
+/// The bytes that suffice for a refusal after `refused: `.
 const REFUSED_ROOM: usize = 9 + REFUSAL_ROOM;
 
-/// The bytes that suffice for the line of a move: its text, a position, and what stands between and behind them.
+/// The bytes that suffice for the line of a move: its text, a position, and the bytes around them.
 const MOVE_LINE_ROOM: usize = MOVE_ROOM + FEN_ROOM + 8;
 
 /// The bytes that suffice for the first line of a problem's text.
 const LINE_ROOM: usize = 254;
 
-/// The bytes that suffice for what is known at once of a problem's text.
+/// The bytes that suffice for the part of a problem's text that is known at once.
 const KNOWN_ROOM: usize = LINE_ROOM + DIAGRAM_ROOM;
 
-/// What is known at once of a problem's text: its first line and, if positions are shown, the diagram.
-/// Example: of problem 1, which is `W:W32:B28` and judged, it is `problem 1: W:W32:B28` and a line end.
+/// Returns the part of a problem's text that is known at once: its first line, and the diagram if positions are shown.
 pub(crate) fn known_text<B: Board>(
     problem: &Problem<B>,
     command: Command,
@@ -53,8 +51,7 @@ pub(crate) fn known_text<B: Board>(
     text
 }
 
-/// The first line of a problem's text: its number, and its position or why it is refused.
-/// Example: of problem 1, which is `W:W32:B28`, it is `problem 1: W:W32:B28` and a line end.
+/// Returns the first line of a problem's text: its number, and its position or why it is refused.
 pub fn problem_line<B: Board>(problem: &Problem<B>) -> ArrayString<LINE_ROOM>
     ensures { result.bytes ≡ line_of B.geometry (numbered problem.now) }
 {
@@ -71,8 +68,8 @@ pub fn problem_line<B: Board>(problem: &Problem<B>) -> ArrayString<LINE_ROOM>
     line
 }
 
-/// The line of a legal move: its text, and the position after it. The place is that of the move in the list of all.
-/// Example: at `W:W32:B28` it is `32x23 B:W23:B` and a line end for place 0.
+/// Returns the line of a legal move: its text, and the position after it. The place is that of the move in the list of
+/// all.
 pub(crate) fn move_line<B: Board>(
     position: &Position<B>,
     list: &[Listed<B>],
@@ -91,8 +88,7 @@ pub(crate) fn move_line<B: Board>(
     line
 }
 
-/// The last line of a list of moves: how many they are, and how many pieces each of them takes.
-/// Example: of 5 moves that take one piece each it is `moves 5 taking 1` and a line end.
+/// Returns the last line of a list of moves: how many they are, and how many pieces each of them takes.
 pub(crate) fn count_line(moves: usize, taken: u8) -> ArrayString<SHORT_ROOM>
     ensures { result.bytes ≡ line_of_count moves taken }
 {
@@ -114,8 +110,7 @@ fn refused_text(fault: ProblemFault) -> ArrayString<REFUSED_ROOM>
     text
 }
 
-/// Why a problem is refused: the number and the name of its fault.
-/// Example: of `ProblemFault::NoFen` it is `2 no fen`.
+/// Returns the reason for a refusal: the number and the name of its fault.
 pub fn refusal_text(fault: ProblemFault) -> ArrayString<REFUSAL_ROOM>
     ensures { result.bytes ≡ refusal_text fault }
 {
@@ -134,7 +129,7 @@ pub fn refusal_text(fault: ProblemFault) -> ArrayString<REFUSAL_ROOM>
     text
 }
 
-/// The number and the name of a fault of a FEN text, and its place.
+/// Returns the number and the name of a fault of a FEN text, and its place.
 fn fen_refusal(fault: FenFault) -> ArrayString<SHORT_ROOM>
     ensures { result.bytes ≡ codes "1 fen: " ++ fen_fault_text fault.what ++ codes " at " ++ decimal fault.place }
 {

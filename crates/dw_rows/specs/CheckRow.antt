@@ -1,4 +1,4 @@
--- The row of JSON for what `check` says of a problem.
+-- The row of JSON of `check` for a problem.
 use Rattle.std.specs.Prelude.{◌≡◌, ℕ, Option, Some, None, List, [], ◌∷◌, ◌++◌, codes, decimal}
 use Rattle.json.specs.Json.{boolean, string}
 use Rattle.dw_board.specs.FenText.{written}
@@ -33,7 +33,7 @@ abbrev pub IsRemarkObject : Geometry → Placement → Remark → List Member �
 IsRemarkObject g p r members =
     (words : Words) × AreRemarkWords g p r words × (members ≡ word_members (kind_word r) words)
 
--- the row of a position and of what is remarked of its solution within n moves
+-- the row of a position and of the remarks on its solution within n moves
 abbrev pub IsCheckedRow : Geometry → (problem : ℕ) → Placement → (n : ℕ) → CheckNumbers → List Remark → List ℕ → Type 0
 IsCheckedRow g problem p n numbers remarks text =
     (each : List (List Member)) × AreObjects (IsRemarkObject g p) remarks each

@@ -1,3 +1,4 @@
 pub mod FirstMovesRow
 pub mod CheckRow
+pub mod SolutionRow
 pub mod inner

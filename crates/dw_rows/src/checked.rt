@@ -1,4 +1,4 @@
-//! The row of what is remarked of an author's solution.
+//! The row of the remarks on an author's solution.
 ghost use Rattle.std.specs.Prelude.{◌≡◌, ◌∷◌, [], ℕ, List, Some, codes, map, IfOk, OnOk};
 ghost use Rattle.std.specs.String.{string_bytes};
 ghost use Rattle.dw_board.specs.Lists.{Member as Has};
@@ -20,26 +20,24 @@ use itoa::Buffer;
 use json::Writer;
 use std::alloc::{AllocError, Global};
 
-/// What is counted of a solution.
-/// Example: of one that holds and leaves a reply open, `holds` is true and `open` is 1.
+/// The numbers that `check` writes of a solution.
 #[derive(Clone, Copy)]
 pub struct CheckNumbers {
     /// Whether there is a win within the number of moves.
     pub wins: bool,
     /// Whether the solution holds.
     pub holds: bool,
-    /// How many moves fail.
+    /// The number of moves that fail.
     pub fail: u64,
-    /// How many ends there are.
+    /// The number of ends that come too soon.
     pub end: u64,
-    /// At how many places replies are left open.
+    /// The number of places at which replies are left open.
     pub open: u64,
-    /// At how many places keys are left out.
+    /// The number of places at which keys are left out.
     pub also: u64,
 }
 
-/// The row of a solution within so many moves: what is counted, and the remarks, in order.
-/// Example: that of a solution of which nothing is remarked ends with `"remarks":[]}`.
+/// Makes the row of a solution: its numbers, and the remarks on it, in order.
 pub fn checked_row<B: Board>(
     alloc: Global,
     number: u32,
@@ -73,8 +71,7 @@ pub fn checked_row<B: Board>(
     end_row(row)
 }
 
-/// The row of a solution that is refused.
-/// Example: `{"problem":3,"fen":"W:W27,32:B18","solution_refused":"2 no such move at 5"}` and a line end.
+/// Makes the row of a solution that is refused.
 pub fn refused_solution_row<B: Board>(
     alloc: Global,
     number: u32,
@@ -123,7 +120,7 @@ impl<B: Board> PutObject<Remark<B>> for RemarksOn<'_, B> {
     }
 }
 
-/// The word for a kind of remark.
+/// Returns the word for a kind of remark.
 fn kind_of<B: Board>(remark: &Remark<B>) -> &'static str
     ensures { (tree : List (List _)) (r : AnyRemark) → remark_in tree remark.now ≡ Some r → result.now ≡ kind_word r }
 {

@@ -1,4 +1,4 @@
-//! The row of what the first moves of a problem do.
+//! The row of the effects of the first moves of a problem.
 ghost use Rattle.std.specs.Prelude.{◌≡◌, ◌∷◌, [], ℕ, List, codes, map, IfOk, OnOk};
 ghost use Rattle.std.specs.String.{string_bytes};
 ghost use Rattle.dw_moves.specs.Moves as of;
@@ -17,8 +17,7 @@ use dw_study::move_texts;
 use json::Writer;
 use std::alloc::{AllocError, Global};
 
-/// The row of what `first_moves` answered of a position within so many moves.
-/// Example: at `W:W32:B28`, within 1 move, its members are those of the problem, and `"winning":1,"moves":[..]`.
+/// Makes the row of the effects that `first_moves` found.
 pub fn first_moves_row<B: Board>(
     alloc: Global,
     number: u32,
@@ -60,7 +59,7 @@ impl<B: Board> PutObject<FirstMove<B>> for FirstMovesOf<'_, B> {
     }
 }
 
-/// Writes the member that tells what a first move does, by the position after it.
+/// Writes the member for the effect of a first move, by the position after the move.
 fn put_effect<B: Board>(
     alloc: Global,
     row: &mut Writer,

@@ -21,7 +21,6 @@ use std::{env, io};
 /// # Errors
 ///
 /// An argument is no UTF-8, or memory was refused.
-/// Example: of `dw show` they are `dw` and `show`.
 pub fn arguments(rt: &HostRuntime, program: &str) -> Result<Vec<String>, CliError> {
     match words_of(rt) {
         Ok(words) => Ok(words),
@@ -34,7 +33,6 @@ fn words_of(rt: &HostRuntime) -> io::Result<Vec<String>> {
 }
 
 /// Ends a program whose arguments are not obeyed. Writes the help to standard output if that was asked for.
-/// Example: of `CliError::Memory` the exit status is 3.
 pub fn end_refused(rt: &HostRuntime, program: &str, error: &CliError) -> ExitCode
     ensures { (ending : AnyEnding (Bor (List ℕ))) × (before : Option (List ℕ)) × (after : Option (List ℕ))
         × (is_failed : Bool) × EndsUnread before after is_failed error.now ending
@@ -46,7 +44,6 @@ pub fn end_refused(rt: &HostRuntime, program: &str, error: &CliError) -> ExitCod
 
 /// Says on standard error how a program ended, and returns its exit status. If that cannot be written, there is nobody
 /// left to tell.
-/// Example: of `Ending::Done` nothing is written, and the exit status is 0.
 pub fn end_with(rt: &HostRuntime, program: &str, ending: &Ending<&str>) -> ExitCode
     ensures { exit_status result ≡ (outcome_of ending.now).status }
 {

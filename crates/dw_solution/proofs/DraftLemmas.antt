@@ -1,7 +1,6 @@
 -- The text of first lines, put together.
 use Rattle.std.proofs.Common.{◌≡◌, ℕ, ◌+◌, ◌-◌, ◌<◌, ◌≤◌, suc, List, [], ◌∷◌, ◌++◌, length, take, refl, sym, ap, subst, ◌∙◌}
 use Rattle.std.proofs.Common.{Bool, true, false, leb, cond, append_assoc, length-append, arith, decimal, codes}
-use Rattle.std.specs.Prelude.{nat_lt, ◌||◌}
 use Rattle.std.proofs.lemmas.Fmt.{length-decimal-le}
 use Rattle.dw_board.specs.Geometry.{Geometry, IsBoard}
 use Rattle.dw_board.specs.Placement.{Placement, IsPosition}
@@ -10,10 +9,11 @@ use Rattle.dw_board.specs.declared.piece.Side.TheVariants.{White, Black}
 use Rattle.dw_moves.specs.Laws.{PlayStays}
 use Rattle.dw_moves.specs.Moves.{Move}
 use Rattle.dw_notation.specs.MoveReadingLaws.{WrittenMoveIsNamed}
+use Rattle.dw_solution.specs.FirstLines.{LinesFrom, is_cut}
 use Rattle.dw_solution.specs.Tree.{Tree, over, branch, lines_of, IsTreeOf}
 use Rattle.dw_solution.specs.Words.{AreWords}
 use Rattle.dw_solution.specs.Movetext.{filled, in_lines, verdict_word, verdict_comment, first_half, result_of}
-use Rattle.dw_solution.specs.Movetext.{last_words, IsTextOfFirst, IsMovetext}
+use Rattle.dw_solution.specs.Movetext.{last_words, IsTextOf, IsTextOfFirst, IsMovetext}
 use Rattle.dw_solution.specs.inner.Feeds.{fed, feeding, IsAdded, IsUnbroken, AreUnbroken}
 use Rattle.dw_solution.specs.declared.heading.Heading.{Heading}
 use Rattle.dw_solution.specs.declared.heading.VerdictKind.{VerdictKind}
@@ -49,15 +49,16 @@ last_unbroken false result h = (h, tt)
 
 -- ---- the whole text
 pub draft_text : (named : WrittenMoveIsNamed) (stays : PlayStays) (g : Geometry) → IsBoard g → (p : Placement)
-    → IsPosition g p.cells → (heading : Heading) (lines : List (List Move)) (more flag : Bool) (many : ℕ) (tree : Tree)
-    (a b c text : List ℕ) → flag ≡ (nat_lt many (length lines) || more) → IsTreeOf (take many lines) tree
+    → IsPosition g p.cells → (heading : Heading) (first : LinesFrom) (flag : Bool) (many : ℕ) (tree : Tree)
+    (a b c text : List ℕ) → p ≡ first.start → flag ≡ is_cut first many → IsTreeOf (take many first.lines) tree
     → a ≡ verdict_comment heading ++ 10 ∷ []
     → IsAdded (AreWords g p (first_half p.turn) true tree) a b
-    → c ≡ b ++ fed (last_words flag (result_of p.turn lines))
+    → c ≡ b ++ fed (last_words flag (result_of first.start.turn first.lines))
     → ((w : List ℕ) (words : List (List ℕ)) → IsUnbroken w → AreUnbroken words → c ≡ fed (w ∷ words)
     → text ≡ in_lines (w ∷ words))
-    → IsTextOfFirst g p heading lines more many text
-draft_text named stays g board p pos heading lines more flag many tree a b c text is whole front play end lined =
+    → IsTextOfFirst g heading first many text
+draft_text named stays g board p pos heading first flag many tree a b c text here is whole front play end lined =
+    let lines : List (List Move) = first.lines in
     let words : List (List ℕ) = play.words in
     let last : List (List ℕ) = last_words flag (result_of p.turn lines) in
     let comment : List ℕ = verdict_comment heading in
@@ -65,10 +66,13 @@ draft_text named stays g board p pos heading lines more flag many tree a b c tex
     unbroken_append words last (words_unbroken named stays g board p pos (first_half p.turn) true tree words play.are)
     (last_unbroken flag (result_of p.turn lines) (result_unbroken p.turn lines)) in
     let all : c ≡ fed (comment ∷ (words ++ last)) =
-    end ∙ (ap (λ z. z ++ fed last) (play.added ∙ ap (λ z. z ++ fed words) front)
+    end ∙ ap (λ z. b ++ fed (last_words flag (result_of z.turn lines))) (sym here)
+    ∙ (ap (λ z. z ++ fed last) (play.added ∙ ap (λ z. z ++ fed words) front)
     ∙ (append_assoc (comment ++ 10 ∷ []) (fed words) (fed last)
     ∙ (append_assoc comment (10 ∷ []) (fed words ++ fed last)
-    ∙ ap (λ z. comment ++ 10 ∷ z) (sym (fed_append words last))))) in (
+    ∙ ap (λ z. comment ++ 10 ∷ z) (sym (fed_append words last))))) in
+    subst (λ z. IsTextOf g z comment (last_words (is_cut first many) (result_of z.turn lines)) (take many lines) text)
+    here (
       tree,
       words,
       whole,
@@ -122,11 +126,12 @@ no_words : (g : Geometry) (p : Placement) (half : ℕ) (due : Bool) (tree : Tree
 no_words g p half due over words e h = h
 no_words g p half due (branch m b o) words e h = let some = lines_some m b o in absurd (filled_list (sym some.2 ∙ e))
 
-pub none_is_short : (g : Geometry) (p : Placement) (heading : Heading) (lines : List (List Move)) (more : Bool)
-    (text : List ℕ) → heading.moves < 256 → IsTextOfFirst g p heading lines more 0 text → length text ≤ 1000000
-none_is_short g p heading lines more text low (tree, words, whole, are, e) =
-    let flag : Bool = nat_lt 0 (length lines) || more in
-    let last : List (List ℕ) = last_words flag (result_of p.turn lines) in
+pub none_is_short : (g : Geometry) (heading : Heading) (first : LinesFrom) (text : List ℕ) → heading.moves < 256
+    → IsTextOfFirst g heading first 0 text → length text ≤ 1000000
+none_is_short g heading first text low (tree, words, whole, are, e) =
+    let p : Placement = first.start in
+    let flag : Bool = is_cut first 0 in
+    let last : List (List ℕ) = last_words flag (result_of p.turn first.lines) in
     let none : words ≡ [] = no_words g p (first_half p.turn) true tree words whole.lines are in
     let is : text ≡ verdict_comment heading ++ filled (length (verdict_comment heading)) last =
     e ∙ ap (λ z. in_lines (verdict_comment heading ∷ (z ++ last))) none in
@@ -136,44 +141,49 @@ none_is_short g p heading lines more text low (tree, words, whole, are, e) =
       long,
       length_filled (length (verdict_comment heading)) last,
       comment_short heading low,
-      last_short flag p.turn lines,
+      last_short flag p.turn first.lines,
     )
 
 -- ---- the movetext
-pub movetext_all : (g : Geometry) (p : Placement) (heading : Heading) (lines : List (List Move)) (more : Bool)
-    (text : List ℕ) → IsTextOfFirst g p heading lines more (length lines) text → length text ≤ 1000000
-    → IsMovetext g p heading lines more text
-movetext_all g p heading lines more text is short = record {
-  many = length lines;
-  within = omega arith;
+pub movetext_all : (g : Geometry) (heading : Heading) (first : LinesFrom) (many : ℕ) (text : List ℕ)
+    → many ≡ length first.lines → IsTextOfFirst g heading first many text → length text ≤ 1000000
+    → IsMovetext g heading first many text
+movetext_all g heading first many text all is short = record {
+  within = omega (arith, all);
   is = is;
   short = short;
-  greatest = λ low. absurd (omega (arith, low));
+  greatest = λ low. absurd (omega (arith, all, low));
 }
 
-pub movetext_cut : (g : Geometry) (p : Placement) (heading : Heading) (lines : List (List Move)) (more : Bool)
-    (many too_many : ℕ) (text longer : List ℕ) → many < too_many → too_many ≤ length lines → too_many - many ≤ 1
-    → IsTextOfFirst g p heading lines more many text → length text ≤ 1000000
-    → IsTextOfFirst g p heading lines more too_many longer → 1000000 < length longer
-    → IsMovetext g p heading lines more text
-movetext_cut g p heading lines more many too_many text longer low within next is short passes long =
+pub movetext_cut : (g : Geometry) (heading : Heading) (first : LinesFrom) (many too_many : ℕ) (text longer : List ℕ)
+    → many < too_many → too_many ≤ length first.lines → too_many - many ≤ 1
+    → IsTextOfFirst g heading first many text → length text ≤ 1000000
+    → IsTextOfFirst g heading first too_many longer → 1000000 < length longer
+    → IsMovetext g heading first many text
+movetext_cut g heading first many too_many text longer low within next is short passes long =
     let e : too_many ≡ suc many = omega (arith, low, next) in
     record {
-      many = many;
       within = omega (arith, low, within);
       is = is;
       short = short;
       greatest = λ more_lines. (
         longer,
-        subst (λ z. IsTextOfFirst g p heading lines more z longer) e passes,
+        subst (λ z. IsTextOfFirst g heading first z longer) e passes,
         long,
       );
     }
 
--- where the text of all lines is too large, there is a line
-pub passed_some : (g : Geometry) (p : Placement) (heading : Heading) (lines : List (List Move)) (more : Bool)
-    (text : List ℕ) → heading.moves < 256 → IsTextOfFirst g p heading lines more (length lines) text
+some_lines : (g : Geometry) (heading : Heading) (p : Placement) (lines : List (List Move)) (more : Bool)
+    (text : List ℕ) → heading.moves < 256
+    → IsTextOfFirst g heading (record { start = p; lines = lines; more = more }) (length lines) text
     → 1000000 < length text → 0 < length lines
-passed_some g p heading [] more text low is long =
-    let short = none_is_short g p heading [] more text low is in absurd (omega (arith, short, long))
-passed_some g p heading (l ∷ lines) more text low is long = omega arith
+some_lines g heading p [] more text low is long =
+    let short = none_is_short g heading (record { start = p; lines = []; more = more }) text low is in
+    absurd (omega (arith, short, long))
+some_lines g heading p (l ∷ lines) more text low is long = omega arith
+
+-- where the text of all lines is too large, there is a line
+pub passed_some : (g : Geometry) (heading : Heading) (first : LinesFrom) (text : List ℕ) → heading.moves < 256
+    → IsTextOfFirst g heading first (length first.lines) text → 1000000 < length text → 0 < length first.lines
+passed_some g heading first text low is long =
+    some_lines g heading first.start first.lines first.more text low is long

@@ -12,9 +12,8 @@ use Rattle.dw_moves.specs.Moves.{Move, play}
 use Rattle.dw_moves.specs.inner.MemberLemmas.{mem_left, mem_right, mem_map}
 use Rattle.dw_notation.specs.Text.{ArePlayable}
 use Rattle.dw_solution.specs.Tree.{Tree, over, branch, or_ended, lines_of, IsTreeOf}
-use Rattle.dw_solution.specs.Movetext.{AreAllPlayable}
 use Rattle.dw_solution.specs.inner.Steps.{whole_tree, chain, last_line, IsHeld, AreEnds, Parts, MayFollow}
-use Rattle.dw_solution.specs.inner.Steps.{IsPlayable}
+use Rattle.dw_solution.specs.inner.Steps.{AreAllPlayable, IsPlayable}
 use Rattle.dw_solution.specs.declared.step.TreeStep.{TreeStep}
 use Rattle.dw_solution.proofs.TreeLemmas.{Grown, lines_some, ended_some, last_append}
 use Rattle.dw_solution.proofs.StepLemmas.{Leaves, first, parts, AreDeep, grows}

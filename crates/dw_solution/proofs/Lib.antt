@@ -4,6 +4,7 @@ pub mod FeedLemmas
 pub mod FillLemmas
 pub mod TakingLemmas
 pub mod HeldLemmas
+pub mod PlacedLemmas
 pub mod WordLemmas
 pub mod DraftLemmas
 pub mod MarkLemmas

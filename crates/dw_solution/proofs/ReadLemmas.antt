@@ -3,7 +3,6 @@ use Rattle.std.proofs.Common.{◌≡◌, ℕ, ◌<◌, ◌≤◌, List, [], ◌�
 use Rattle.std.proofs.Common.{subst, ◌∙◌, inl, inr, append_assoc, arith, Bool, true, false}
 use Rattle.std.proofs.Common.{codes, decimal}
 use Rattle.std.specs.List.{list_all}
-use Rattle.std.specs.Prelude.{nat_lt, ◌||◌}
 use Rattle.std.proofs.lemmas.List.{length-take-le}
 use Rattle.dw_board.specs.Geometry.{Geometry, IsBoard}
 use Rattle.dw_board.specs.Lists.{Member}
@@ -17,6 +16,7 @@ use Rattle.dw_games.specs.Play.{results, IsResult, IsVariation, empty, passed, I
 use Rattle.dw_games.specs.Tokens.{Token, AreTokens, is_inside}
 use Rattle.dw_games.specs.declared.tokens.TokenKind.{TokenKind}
 use Rattle.dw_games.specs.declared.tokens.TokenKind.TheVariants.{Comment, Written}
+use Rattle.dw_solution.specs.FirstLines.{LinesFrom, is_cut}
 use Rattle.dw_solution.specs.Laws.{IsBeginning, IsReadAs}
 use Rattle.dw_solution.specs.Movetext.{verdict_word, verdict_comment, first_half, result_of, last_words, IsMovetext}
 use Rattle.dw_solution.specs.Tree.{Tree, over, branch, lines_of}
@@ -125,16 +125,17 @@ some_path : (t : Tree) (lines : List (List Move)) → lines_of t ≡ lines → 0
 some_path over lines e some = absurd (omega (arith, some, ap length e))
 some_path (branch m b o) lines e some = (m ∷ [], subst (λ z. IsBeginning z (m ∷ [])) e (begin_first m b o))
 
-pub read_back : WrittenMoveIsNamed → PlayStays → LegalMovesTake → (g : Geometry) → IsBoard g → (p : Placement)
-    → IsPosition g p.cells → (heading : Heading) (lines : List (List Move)) (more : Bool) (text : List ℕ)
-    → ((l : List Move) → Member l lines → length l ≤ 39) → (written : IsMovetext g p heading lines more text)
-    → 0 < written.many → IsReadAs g p text (take written.many lines)
-read_back named stays takes g board p pos heading lines more text few written some =
-    let many : ℕ = written.many in
+pub read_back : WrittenMoveIsNamed → PlayStays → LegalMovesTake → (g : Geometry) → IsBoard g → (heading : Heading)
+    (first : LinesFrom) (many : ℕ) (text : List ℕ) → IsPosition g first.start.cells
+    → ((l : List Move) → Member l first.lines → length l ≤ 39) → (written : IsMovetext g heading first many text)
+    → 0 < many → IsReadAs g first.start text (take many first.lines)
+read_back named stays takes g board heading begun many text pos few written some =
+    let p : Placement = begun.start in
+    let lines : List (List Move) = begun.lines in
     let tree : Tree = written.is.0 in
     let words : List (List ℕ) = written.is.1 in
     let whole = written.is.2 in
-    let flag : Bool = nat_lt many (length lines) || more in
+    let flag : Bool = is_cut begun many in
     let result : List ℕ = result_of p.turn lines in
     let comment : List ℕ = verdict_comment heading in
     let play = play_words named stays takes g board p tree p pos (first_half p.turn) true words written.is.3 in
@@ -150,10 +151,10 @@ read_back named stays takes g board p pos heading lines more text few written so
     let read = lines_read comment (words ++ last_words flag result) ((Comment, comment) ∷ (play.0 ++ behind)) spelled in
     let front = map_cons read.0 (Comment, comment) (play.0 ++ behind) read.2 in
     let split = map_split front.1 play.0 behind front.4 in
-    let begun : IsVariation g p 40 [] (front.0 ∷ []) [] [] = passed front.0 empty (inl (ap (λ z. z.0) front.3)) in
+    let opened : IsVariation g p 40 [] (front.0 ∷ []) [] [] = passed front.0 empty (inl (ap (λ z. z.0) front.3)) in
     let fits : Fits 0 tree = fits_lines 0 tree (λ l here. let short = few l (in_take l many lines
     (subst (Member l) whole.lines here)) in omega (arith, short)) in
-    let played = play.2 39 [] [] (front.0 ∷ []) split.0 [] [] refl refl (omega arith) fits begun split.3 in
+    let played = play.2 39 [] [] (front.0 ∷ []) split.0 [] [] refl refl (omega arith) fits opened split.3 in
     let ended = over_with g p flag result (front.0 ∷ split.0) split.1 played.0 played.1 played.2
     (result_member p.turn lines) split.4 in
     let tokens : front.0 ∷ (split.0 ++ split.1) ≡ read.0 = ap (λ z. front.0 ∷ z) (sym split.2) ∙ sym front.2 in

@@ -2,8 +2,8 @@
 use Rattle.std.proofs.Common.{◌≡◌, ℕ, ◌+◌, ◌<◌, ◌≤◌, zero, suc, List, [], ◌∷◌, ◌++◌, length, take, reverse, refl, sym}
 use Rattle.std.proofs.Common.{ap, subst, ◌∙◌, inl, inr, append_assoc, append-nil, length-append, arith, Bool, true, false}
 use Rattle.std.proofs.lemmas.List.{take_at, take_all}
-use Rattle.std.proofs.lemmas.Bool.{true≢false}
-use Rattle.std.specs.Prelude.{◌↔◌, IsTrue, Result, Ok, Err, IfOk}
+use Rattle.std.proofs.lemmas.Bool.{true≢false, cases_lt, le-ltb, lt-ltb}
+use Rattle.std.specs.Prelude.{◌↔◌, IsTrue, Result, Ok, Err, IfOk, nat_lt}
 use Rattle.dw_board.specs.Geometry.{Geometry}
 use Rattle.dw_board.specs.Placement.{Placement}
 use Rattle.dw_board.specs.Lists.{Member}
@@ -18,8 +18,8 @@ use Rattle.dw_solve.specs.Lines.{Line, Lines, Before}
 use Rattle.dw_list.specs.LineStack.{LineStack, AreToCome}
 use Rattle.dw_list.specs.StackWalk.{GivesFirst, GivesNone}
 use Rattle.dw_solve.specs.inner.LineOrderLemmas.{precedes_asym}
-use Rattle.dw_solution.specs.Movetext.{AreAllPlayable}
-use Rattle.dw_solution.specs.inner.Steps.{last_line, Parts, MayFollow}
+use Rattle.dw_solution.specs.FirstLines.{LinesFrom}
+use Rattle.dw_solution.specs.inner.Steps.{AreAllPlayable, last_line, Parts, MayFollow}
 use Rattle.dw_solution.specs.inner.Taking.{AreTaken, Takes, GoesOn}
 
 -- ---- a line parts from the one before it
@@ -162,6 +162,23 @@ pub first_playable : (g : Geometry) (p : Placement) (n most : ℕ) (lines first 
     → first ≡ take most lines → AreAllPlayable g p first
 first_playable g p n most lines first all e l here =
     line_playable g p n l ((all.exactly l).0 (in_take l most lines (subst (Member l) e here)))
+
+-- an answer is the test that it answers
+test_is : (more : Bool) (a b : ℕ) → IsTrue more ↔ (a < b) → more ≡ nat_lt a b
+test_is true a b h = sym (lt-ltb a b (h.0 refl))
+test_is false a b h = elim (cases_lt a b) [
+  | inl less ↦ absurd (true≢false (sym (h.1 less)))
+  | inr most ↦ sym (le-ltb a b most)
+]
+
+abbrev the_lines : Placement → List (List Move) → Bool → LinesFrom
+the_lines p lines more = record { start = p; lines = lines; more = more }
+
+-- the first lines, and whether there are more
+pub lines_of_taken : (p : Placement) (lines taken : List (List Move)) (more : Bool) (most : ℕ)
+    → taken ≡ take most lines → IsTrue more ↔ (most < length lines)
+    → the_lines p taken more ≡ the_lines p (take most lines) (nat_lt most (length lines))
+lines_of_taken p lines taken more most are tells = λ i. the_lines p (are i) (test_is more most (length lines) tells i)
 
 -- ---- the answers
 pub took_none : (g : Geometry) (p : Placement) (n : ℕ) (some : Bool) (s : LineStack) (old new : List (List Move))

@@ -2,12 +2,12 @@
 use Rattle.std.specs.Prelude.{◌≡◌, List, [], ◌∷◌, ◌++◌, map}
 use Rattle.dw_moves.specs.Moves.{Move}
 
--- What goes on from a beginning: nothing; or a move, with what goes on behind it, and the other moves in its place.
+-- The continuation of a beginning: nothing; or a move, with its continuation, and the other moves in its place.
 pub data Tree : Type 0 where
   over : Tree
   branch : Move → (behind others : Tree) → Tree
 
--- behind a move play goes on in some ways, or in one if there are none: it ends
+-- the continuations after a move: only the empty one if the play ends
 abbrev pub or_ended : List (List Move) → List (List Move)
 or_ended [] = [] ∷ []
 or_ended (l ∷ lines) = l ∷ lines
@@ -27,7 +27,7 @@ abbrev pub AreApart : Tree → Type 0
 AreApart over = Unit {0}
 AreApart (branch m behind others) = IsNotFirst m others × AreApart behind × AreApart others
 
--- The tree of some lines: it goes through these, in this order, and what neighbours have in common stands in it once.
+-- The tree of some lines: it has these, in this order, and the shared beginning of neighbours is in it once.
 pub record IsTreeOf (all : List (List Move)) (tree : Tree) : Type 0 where
   pub lines : lines_of tree ≡ all
   pub apart : AreApart tree

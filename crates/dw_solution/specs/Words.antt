@@ -19,7 +19,7 @@ move_words half due text =
     else if due then number_word half (codes "...") ∷ text ∷ []
     else text ∷ []
 
--- words with a parenthesis that closes behind the last one
+-- words with a parenthesis that closes after the last one
 abbrev pub closed : List (List ℕ) → List (List ℕ)
 closed [] = []
 closed (w ∷ []) = (w ++ codes ")") ∷ []
@@ -36,8 +36,8 @@ has_move over = false
 has_move (branch m behind others) = true
 
 abbrev mutual
-  -- The words of what goes on at a half turn: none; or the first move, then each of the others in its place as a
-  -- variation, and then what goes on behind the first. Behind a variation a number is due.
+  -- The words of a continuation at a half turn: none; or the first move, then each of the others in its place as a
+  -- variation, and then the continuation of the first. After a variation a number is due.
   pub AreWords : Geometry → Placement → ℕ → (due : Bool) → Tree → List (List ℕ) → Type 0
   AreWords g p half due over words = words ≡ []
   AreWords g p half due (branch m behind others) words =
@@ -45,7 +45,7 @@ abbrev mutual
       × AreVariations g p half others variations × AreWords g (play g p m) (half + 1) (has_move others) behind rest
       × (words ≡ move_words half due text ++ (variations ++ rest))
 
-  -- the words of moves as variations: each of them in parentheses, with what goes on behind it
+  -- the words of moves as variations: each of them in parentheses, with its continuation
   pub AreVariations : Geometry → Placement → ℕ → Tree → List (List ℕ) → Type 0
   AreVariations g p half over words = words ≡ []
   AreVariations g p half (branch m behind others) words =

@@ -1,6 +1,7 @@
--- What only relates the code to the definitions: no contract of a public call names it, but for what is sealed.
+-- Definitions that only relate the code to the public ones: no public contract names them, except sealed ones.
 pub mod Steps
 pub mod LineTreeCodes
+pub mod FirstLineCodes
 pub mod Taking
 pub mod Feeds
 pub mod Drafts

@@ -5,7 +5,7 @@ ghost use Rattle.dw_solution.specs.inner.Feeds.{feeding, IsUnbroken, AreUnbroken
 
 use crate::movetext::MAX_COLUMN;
 
-/// Puts a blank in place of each line feed, but where the word behind it would end behind the 79th byte of its line.
+/// Puts a blank in place of each line feed, unless the word after it would end after the 79th byte of its line.
 pub(crate) fn fill(text: &mut [u8])
     ensures { (w : List ℕ) (words : List (List ℕ)) → IsUnbroken w → AreUnbroken words
         → text.old ≡ w ++ feeding words → text.new ≡ w ++ filled (length w) words }
@@ -23,7 +23,7 @@ pub(crate) fn fill(text: &mut [u8])
     }
 }
 
-/// The place of the first line feed from a place on, or the end.
+/// Returns the place of the first line feed from a place on, or the end.
 fn next_feed(text: &[u8], from: usize) -> usize
     requires { from ≤ length text.now }
     ensures low { from ≤ result }

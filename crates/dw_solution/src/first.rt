@@ -1,33 +1,24 @@
 //! The first lines of a forced win.
 ghost use Rattle.std.specs.Prelude.{◌≡◌, ◌≤◌, ◌<◌, ◌↔◌, ◌++◌, ◌∷◌, [], IfOk, IsErrOf, IsTrue, length, take, List, ℕ};
+ghost use Rattle.std.specs.Prelude.{nat_lt};
 ghost use Rattle.dw_board.specs.Placement.{Placement};
 ghost use Rattle.dw_moves.specs.Moves as of;
 ghost use Rattle.dw_solve.specs.declared.stop.Stop.TheVariants.{Limit};
 ghost use Rattle.dw_solve.specs.Searching.{IsCounted};
 ghost use Rattle.dw_solve.specs.Lines.{Lines};
 ghost use Rattle.dw_list.specs.Listing.{lender, solver_of, stack_of};
-ghost use Rattle.dw_solution.specs.Movetext.{AreAllPlayable};
 ghost use Rattle.dw_solution.specs.inner.Taking.{AreTaken, Takes, GoesOn};
 
 use crate::line_tree::LineTree;
+use crate::listed::FirstLines;
 use dw_board::{Board, Position};
 use dw_list::Lister;
 use dw_memo::Memo;
 use dw_solve::{Guide, Solver, Stop};
 use std::alloc::Global;
 
-/// The first lines of a position as a tree, and whether there are more.
-/// See [`first_lines`] for an example.
-#[derive(Drop)]
-pub struct FirstLines<B: Board> {
-    pub tree: LineTree<B>,
-    pub more: bool,
-}
-
-/// The first lines in which the side to move wins within so many of its moves, 1 to 20: at most so many lines. They
-/// are listed one by one, and only their tree is held. After a stop the call can be made again.
-/// Example: at `W:W27,32:B18`, within 2 moves, the first two of three lines are `32-28 18-22 27x18` and
-/// `32-28 18-22 28x17`, and there are more.
+/// Lists the first lines in which the side to move wins within `moves` of its moves, 1 to 20: at most `most` lines. It
+/// lists them one by one, and holds their tree alone. After a stop the call can be made again.
 pub fn first_lines<B: Board, M: Memo<B>, G: Guide<B>>(
     alloc: Global,
     solver: &mut Solver<B, M, G>,
@@ -38,10 +29,11 @@ pub fn first_lines<B: Board, M: Memo<B>, G: Guide<B>>(
     requires some { 1 ≤ moves }
     requires few { moves ≤ 20 }
     ensures lines { (lines : List (List of.Move)) → Lines B.geometry position.now moves lines
-        → IfOk result (λ first. first.tree ≡ take most lines) }
-    ensures more { (lines : List (List of.Move)) → Lines B.geometry position.now moves lines
-        → IfOk result (λ first. IsTrue first.more ↔ (most < length lines)) }
-    ensures playable { IfOk result (λ first. AreAllPlayable B.geometry position.now first.tree) }
+        → IfOk result (λ first. first ≡ record {
+          start = position.now;
+          lines = take most lines;
+          more = nat_lt most (length lines);
+        }) }
     ensures count { IsCounted solver.old.expanded solver.old.limit solver.new.expanded solver.new.limit }
     ensures stop { IsErrOf result Limit → solver.new.expanded ≡ solver.new.limit }
 {
@@ -49,23 +41,28 @@ pub fn first_lines<B: Board, M: Memo<B>, G: Guide<B>>(
     solver.keeps_its_limit();
     let mut lister = Lister::start(solver, position, moves);
     let first = taken(alloc, &mut lister, most);
-    // A lister that is only let go would not tell what its solver has spent.
+    // A lister that is only dropped would not tell how many positions its solver has expanded.
     let _ = lister.into_solver();
-    first
+    let (tree, more) = first?;
+    Ok(FirstLines {
+        position: *position,
+        tree,
+        more,
+    })
 }
 
-/// The first lines of a lister that has given none yet.
+/// Takes the first lines of a lister at its beginning, and says whether there are more.
 fn taken<B: Board, M: Memo<B>, G: Guide<B>>(
     alloc: Global,
     lister: &mut Lister<'_, B, M, G>,
     most: usize,
-) -> Result<FirstLines<B>, Stop>
+) -> Result<(LineTree<B>, bool), Stop>
     requires first { (p : Placement) × (n : ℕ) × AreTaken B.geometry p n (stack_of lister.old) [] }
     requires counted { (solver_of lister.old).expanded ≤ (solver_of lister.old).limit }
     ensures lender { lender lister.new ≡ lender lister.old }
     ensures lines { (p : Placement) (n : ℕ) (lines : List (List of.Move))
         → AreTaken B.geometry p n (stack_of lister.old) [] → Lines B.geometry p n lines
-        → IfOk result (λ first. (first.tree ≡ take most lines) × (IsTrue first.more ↔ (most < length lines))) }
+        → IfOk result (λ first. (first.0 ≡ take most lines) × (IsTrue first.1 ↔ (most < length lines))) }
     ensures count { IsCounted (solver_of lister.old).expanded (solver_of lister.old).limit
         (solver_of lister.new).expanded (solver_of lister.new).limit }
     ensures stop { IsErrOf result Limit → (solver_of lister.new).expanded ≡ (solver_of lister.new).limit }
@@ -74,14 +71,14 @@ fn taken<B: Board, M: Memo<B>, G: Guide<B>>(
     let mut tree = LineTree::new(alloc);
     'lines: while tree.len() < most {
         if !take_next(alloc, lister, &mut tree)? {
-            return Ok(FirstLines { tree, more: false });
+            return Ok((tree, false));
         }
     }
     let more = has_next(alloc, lister)?;
-    Ok(FirstLines { tree, more })
+    Ok((tree, more))
 }
 
-/// Takes the next line of a lister, if there is one, and answers whether there was.
+/// Takes the next line of a lister, if there is one, and says whether there was one.
 fn take_next<B: Board, M: Memo<B>, G: Guide<B>>(
     alloc: Global,
     lister: &mut Lister<'_, B, M, G>,
@@ -107,7 +104,7 @@ fn take_next<B: Board, M: Memo<B>, G: Guide<B>>(
     }
 }
 
-/// Whether a line is still to come of a lister. If it is, it is passed.
+/// Says whether a lister has another line, and passes it.
 fn has_next<B: Board, M: Memo<B>, G: Guide<B>>(
     alloc: Global,
     lister: &mut Lister<'_, B, M, G>,

@@ -1,9 +1,8 @@
-//! What the comment in front of a movetext says.
+//! The comment before a movetext.
 ghost use Rattle.std.specs.Prelude.{◌≡◌, ◌<◌, ◌^◌};
 ghost use Rattle.dw_solution.specs.Movetext.{verdict_word};
 
-/// What a verdict says, without its moves.
-/// Example: at `W:W27,32:B18`, within 2 moves, it is `Dual`.
+/// A verdict without its moves.
 #[derive(Clone, Copy, Debug, PartialEq, Eq)]
 pub enum VerdictKind {
     /// There is no win.
@@ -17,7 +16,6 @@ pub enum VerdictKind {
 }
 
 /// A verdict and the number of moves that it speaks of.
-/// Example: of `VerdictKind::Dual` and 2 moves the comment is `{dual in 2}`.
 #[derive(Clone, Copy, Debug, PartialEq, Eq)]
 pub struct Heading {
     pub kind: VerdictKind,
@@ -25,8 +23,7 @@ pub struct Heading {
 }
 
 impl VerdictKind {
-    /// Its word.
-    /// Example: that of `VerdictKind::Dual` is `dual`.
+    /// Returns its word.
     pub fn word(self) -> &'static str
         ensures { result.now ≡ verdict_word self }
     {
@@ -40,7 +37,7 @@ impl VerdictKind {
 }
 
 impl Heading {
-    /// The number of moves is that of a byte: a law, which does nothing.
+    /// States that the number of moves fits a byte. This law does nothing.
     pub(crate) fn keeps_its_range(self)
         ensures { self.moves < 2 ^ 8 }
     {}

@@ -1,11 +1,9 @@
-//! The solution of a problem as a movetext: the first lines of a forced win as a tree, and the text of that tree, which
-//! is read as the same tree again.
+//! The solution of a problem as a movetext: the first lines of a forced win as a tree, and the text of that tree.
+//! Reading the text again gives the same tree.
 //!
-//! Everything is generic over the board. Memory is taken by the tree and by its text.
+//! Everything is generic over the board. The tree and its text take memory.
 //!
-//! Begin with `first_lines`, which makes the tree, and with `movetext::movetext`, which writes it.
-//!
-//! An example tells a position by its FEN text, on the board of ten rows if it names no other.
+//! Begin with `first_lines`, which makes the tree. `movetext::movetext` writes it, and `placed_moves` lists its moves.
 #![tactic(auto)]
 
 mod fill;
@@ -13,11 +11,15 @@ pub mod first;
 pub mod heading;
 pub mod laws;
 pub mod line_tree;
+pub mod listed;
 pub mod movetext;
+pub mod placed;
 mod step;
 mod writer;
 
-pub use first::{FirstLines, first_lines};
+pub use first::first_lines;
 pub use heading::{Heading, VerdictKind};
 pub use line_tree::LineTree;
-pub use movetext::MAX_WRITTEN;
+pub use listed::FirstLines;
+pub use movetext::{MAX_WRITTEN, SolutionText};
+pub use placed::{PlacedMove, placed_moves};

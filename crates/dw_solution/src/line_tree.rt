@@ -1,4 +1,4 @@
-//! Lines as a tree, where what neighbours have in common stands once.
+//! Lines as a tree, in which the moves that neighbours share stand once.
 ghost use Rattle.std.specs.Prelude.{◌≡◌, ◌≢◌, ◌++◌, ◌∷◌, [], ◌≤◌, ◌<◌, OnOk, OnErr, Some, length, take, slice_get};
 
 use crate::step::{TreeStep, add_steps};
@@ -9,12 +9,11 @@ use dw_notation::MAX_MOVES;
 use std::alloc::{AllocError, Global};
 use std::marker::Model;
 
-/// Lines in order, as a tree: of each line only the moves are held that the line before it does not begin with.
-/// Example: the lines `32-28 18-22 27x18` and `32-28 18-22 28x17` take four moves, of which `32-28` is the first.
+/// Lines in order, as a tree. Of each line it holds only the moves after those that it shares with the line before it.
 #[derive(Drop)]
 pub struct LineTree<B: Board> {
     steps: Vec<TreeStep<B>>,
-    /// With how many steps each line ends.
+    /// The number of steps up to the end of each line.
     ends: Vec<usize>,
     /// The last line, or no move.
     last: ArrayVec<Move<B>, MAX_MOVES>,
@@ -41,7 +40,7 @@ impl<B: Board> LineTree<B> {
     ghost use Rattle.dw_solution.specs.Tree.{IsTreeOf};
     ghost use Rattle.dw_solution.specs.inner.Steps.{whole_tree, MayFollow};
 
-    /// No line.
+    /// Makes a tree without lines.
     pub(crate) fn new(alloc: Global) -> Self
         ensures { result ≡ [] }
     {
@@ -52,15 +51,14 @@ impl<B: Board> LineTree<B> {
         }
     }
 
-    /// How many lines it has.
-    /// Example: that of the solution of `W:W27,32:B18` within 2 moves has 3.
+    /// Returns how many lines it has.
     pub fn len(&self) -> usize
         ensures { result ≡ length self.now }
     {
         self.ends.as_slice().len()
     }
 
-    /// Puts a line of at most 39 moves behind the others; or nothing, if out of memory.
+    /// Appends a line of at most 39 moves, or changes nothing if memory is refused.
     pub(crate) fn push(&mut self, line: &[Move<B>]) -> Result<(), AllocError>
         requires few { length line.now ≤ 39 }
         requires follows { MayFollow self.old line.now }
@@ -78,7 +76,7 @@ impl<B: Board> LineTree<B> {
         Ok(())
     }
 
-    /// The steps of the first lines, so many of them.
+    /// Returns the steps of the first `lines` lines.
     pub(crate) fn first_steps(&self, lines: usize) -> &[TreeStep<B>]
         requires { lines ≤ length self.now }
         ensures { IsTreeOf (take lines self.now) (whole_tree result.now) }
@@ -92,7 +90,7 @@ impl<B: Board> LineTree<B> {
     }
 }
 
-/// How many moves two lines have in common at their beginnings.
+/// Returns how many moves two lines share at their beginnings.
 fn shared<B: Board>(last: &[Move<B>], line: &[Move<B>]) -> usize
     ensures last { result ≤ length last.now }
     ensures line { result ≤ length line.now }

@@ -1,75 +1,72 @@
 //! The movetext of a solution.
-ghost use Rattle.std.specs.Prelude.{◌≡◌, ◌≤◌, ◌++◌, ◌∷◌, ◌||◌, [], ℕ, List, length, IfOk, OnOk};
-ghost use Rattle.dw_solution.specs.Movetext.{IsMovetext, AreAllPlayable};
+ghost use Rattle.std.specs.Prelude.{◌≡◌, ◌≤◌, ◌++◌, ◌∷◌, [], ℕ, List, length, IfOk, OnOk};
+ghost use Rattle.dw_solution.specs.Movetext.{IsMovetext};
 ghost use Rattle.dw_solution.specs.Movetext.{first_half, verdict_comment, last_words, result_of, in_lines};
 ghost use Rattle.dw_solution.specs.inner.Drafts.{IsDraftOf, IsPassed};
 ghost use Rattle.dw_solution.specs.inner.Feeds.{fed, IsUnbroken, AreUnbroken};
 
 use crate::fill::fill;
-use crate::first::FirstLines;
 use crate::heading::Heading;
+use crate::listed::FirstLines;
 use crate::writer::{WriteState, Writer};
-use dw_board::{Board, Position, Side};
+use dw_board::{Board, Side};
 use itoa::Buffer;
 use std::alloc::{AllocError, Global};
 
-/// The most bytes of a movetext that is written.
-/// Example: a solution whose movetext would have 1,000,001 bytes is written with fewer lines.
+/// The most bytes of a movetext.
 pub const MAX_WRITTEN: usize = 1_000_000;
 
 /// The most bytes of a line, if no word is longer.
-/// Example: a word that would end at the 80th byte of a line begins the next one.
 pub const MAX_COLUMN: usize = 79;
 
-/// The movetext of the first lines of a position: the verdict as a comment, the tree of the lines, `{more}` if lines
-/// are left out, and the result. If that would pass 1,000,000 bytes, it is the movetext of as many first lines as do
-/// not.
-/// Example: at `W:W27,32:B18`, within 2 moves, that of all lines is
-/// `{dual in 2} 1. 32-28 18-22 (1... 18-23 2. 28x19) 2. 27x18 (2. 28x17) 2-0`.
+/// A movetext, and how many of the first lines it has.
+#[derive(Drop)]
+pub struct SolutionText {
+    pub text: Vec<u8>,
+    pub lines: usize,
+}
+
+/// Writes first lines as a movetext: the verdict as a comment, the tree of the lines, `{more}` if lines are left out,
+/// and the result. If that would pass 1,000,000 bytes, the movetext has as many first lines as do not.
 pub fn movetext<B: Board>(
     alloc: Global,
-    position: &Position<B>,
     first: &FirstLines<B>,
     heading: Heading,
-) -> Result<Vec<u8>, AllocError>
-    requires { AreAllPlayable B.geometry position.now first.now.tree }
-    ensures { IfOk result (λ text. IsMovetext B.geometry position.now heading first.now.tree first.now.more
-        text.items) }
+) -> Result<SolutionText, AllocError>
+    ensures { IfOk result (λ written. IsMovetext B.geometry heading first.now written.lines written.text.items) }
 {
     let draft = Draft {
         alloc,
-        position,
         first,
         heading,
     };
-    let text = draft.text(first.tree.len())?;
+    let lines = first.len();
+    let text = draft.text(lines)?;
     if text.as_slice().len() <= MAX_WRITTEN {
-        return Ok(text);
+        return Ok(SolutionText { text, lines });
     }
     draft.cut_text()
 }
 
-/// What a movetext is written of.
+/// First lines whose movetext is written.
 #[derive(Clone, Copy)]
 struct Draft<'a, B: Board> {
     alloc: Global,
-    position: &'a Position<B>,
     first: &'a FirstLines<B>,
     heading: Heading,
 }
 
 impl<B: Board> Draft<'_, B> {
-    /// The text of as many first lines as do not pass 1,000,000 bytes, if all do.
-    fn cut_text(&self) -> Result<Vec<u8>, AllocError>
-        requires playable { AreAllPlayable B.geometry self.now.position.now self.now.first.now.tree }
-        requires passed { IsPassed B.geometry self.now (length self.now.first.now.tree) }
-        ensures { IfOk result (λ text. IsMovetext B.geometry self.now.position.now self.now.heading
-            self.now.first.now.tree self.now.first.now.more text.items) }
+    /// Writes as many first lines as do not pass 1,000,000 bytes, where all of them do.
+    fn cut_text(&self) -> Result<SolutionText, AllocError>
+        requires { IsPassed B.geometry self.now (length self.now.first.now.lines) }
+        ensures { IfOk result (λ written. IsMovetext B.geometry self.now.heading self.now.first.now written.lines
+            written.text.items) }
     {
         self.heading.keeps_its_range();
         let mut text = self.text(0)?;
         let mut many = 0;
-        let mut too_many = self.first.tree.len();
+        let mut too_many = self.first.len();
         'cuts: while too_many - many > 1 {
             let middle = many + (too_many - many) / 2;
             let longer = self.text(middle)?;
@@ -80,13 +77,12 @@ impl<B: Board> Draft<'_, B> {
                 too_many = middle;
             }
         }
-        Ok(text)
+        Ok(SolutionText { text, lines: many })
     }
 
-    /// The text of the first lines, so many of them.
+    /// Writes the first `lines` lines.
     fn text(&self, lines: usize) -> Result<Vec<u8>, AllocError>
-        requires playable { AreAllPlayable B.geometry self.now.position.now self.now.first.now.tree }
-        requires within { lines ≤ length self.now.first.now.tree }
+        requires { lines ≤ length self.now.first.now.lines }
         ensures { IfOk result (λ text. IsDraftOf B.geometry self.now lines text.items) }
     {
         dw_notation::laws::written_moves_are_read();
@@ -96,17 +92,18 @@ impl<B: Board> Draft<'_, B> {
             text: Vec::new(self.alloc),
         };
         self.write_comment(&mut writer)?;
+        let position = self.first.position();
         let state = WriteState {
-            position: *self.position,
+            position,
             depth: 0,
-            half: first_half(self.position.turn()),
+            half: first_half(position.turn()),
         };
-        writer.write_play(self.first.tree.first_steps(lines), &state, true)?;
-        self.write_end(&mut writer, lines < self.first.tree.len())?;
+        writer.write_play(self.first.steps(lines), &state, true)?;
+        self.write_end(&mut writer, self.first.is_cut(lines))?;
         Ok(lined(writer))
     }
 
-    /// The comment in front.
+    /// Writes the comment before the moves.
     fn write_comment(&self, writer: &mut Writer) -> Result<(), AllocError>
         ensures { OnOk result (writer.new.text.items
             ≡ writer.old.text.items ++ (verdict_comment self.now.heading ++ 10 ∷ [])) }
@@ -123,32 +120,32 @@ impl<B: Board> Draft<'_, B> {
         writer.write_word(word.as_str())
     }
 
-    /// The words behind the play, by whether it is cut.
+    /// Writes the words after the moves.
     fn write_end(&self, writer: &mut Writer, is_cut: bool) -> Result<(), AllocError>
-        ensures { OnOk result (writer.new.text.items ≡ writer.old.text.items ++ fed (last_words
-            (is_cut || self.now.first.now.more) (result_of self.now.position.now.turn self.now.first.now.tree))) }
+        ensures { OnOk result (writer.new.text.items ≡ writer.old.text.items ++ fed (last_words is_cut
+            (result_of self.now.first.now.start.turn self.now.first.now.lines))) }
     {
-        if is_cut || self.first.more {
+        if is_cut {
             writer.write_word("{more}")?;
         }
         writer.write_word(self.result())
     }
 
-    /// The result: a win, if there is a line.
+    /// Returns the result: a win, if there is a line.
     fn result(&self) -> &'static str
-        ensures { result.now ≡ result_of self.now.position.now.turn self.now.first.now.tree }
+        ensures { result.now ≡ result_of self.now.first.now.start.turn self.now.first.now.lines }
     {
-        if self.first.tree.len() == 0 {
+        if self.first.len() == 0 {
             return "*";
         }
-        match self.position.turn() {
+        match self.first.position().turn() {
             Side::White => "2-0",
             Side::Black => "0-2",
         }
     }
 }
 
-/// The half turn of the first move.
+/// Returns the half turn of the first move.
 fn first_half(side: Side) -> usize
     ensures { result ≡ first_half side }
 {
@@ -158,7 +155,7 @@ fn first_half(side: Side) -> usize
     }
 }
 
-/// A text in lines, whose words end with line feeds.
+/// Cuts a text into lines. Each of its words ends with a line feed.
 fn lined(writer: Writer) -> Vec<u8>
     ensures { (w : List ℕ) (words : List (List ℕ)) → IsUnbroken w → AreUnbroken words
         → writer.text.items ≡ fed (w ∷ words) → result.items ≡ in_lines (w ∷ words) }

@@ -1,4 +1,4 @@
-//! The moves of a tree in a row: each with what goes on behind it, before the next move in its place.
+//! The moves of a tree in a row: each with the moves that go on after it, before the next move in its place.
 ghost use Rattle.std.specs.Prelude.{◌≡◌, ◌+◌, ◌^◌, ◌++◌, ◌<◌, OnOk, OnErr, option_map, length};
 ghost use Rattle.dw_solution.specs.inner.Steps.{IsFirstAt, chain};
 
@@ -7,21 +7,20 @@ use dw_moves::Move;
 use std::alloc::AllocError;
 
 /// A move of a tree, and how many moves stand before it on its way from the root.
-/// Example: in `1. 32-28 (1. 27-22) 18-22` the move `27-22` has the depth 0, and `18-22` has the depth 1.
 #[derive(Clone, Copy)]
 pub(crate) struct TreeStep<B: Board> {
     pub(crate) depth: usize,
     pub(crate) mv: Move<B>,
 }
 
-/// A move, and the steps behind it in the row.
+/// A move, and the steps after it in the row.
 #[derive(Clone, Copy)]
 pub(crate) struct First<'a, B: Board> {
     pub(crate) mv: Move<B>,
     pub(crate) rest: &'a [TreeStep<B>],
 }
 
-/// The first of the moves at a depth that stand before any move less deep.
+/// Returns the first of the moves at a depth that stand before any move less deep.
 pub(crate) fn first_at<B: Board>(steps: &[TreeStep<B>], depth: usize) -> Option<First<'_, B>>
     ensures { IsFirstAt steps.entry.now depth (option_map (λ f. (f.mv, f.rest.now)) result) }
 {
@@ -38,7 +37,7 @@ pub(crate) fn first_at<B: Board>(steps: &[TreeStep<B>], depth: usize) -> Option<
     }
 }
 
-/// Puts moves that follow one another behind all others, the first one at this depth; or nothing, if out of memory.
+/// Appends moves that follow one another, the first one at this depth; or changes nothing if memory is refused.
 pub(crate) fn add_steps<B: Board>(
     steps: &mut Vec<TreeStep<B>>,
     depth: usize,

@@ -1,4 +1,4 @@
-//! Writing the words of a tree, each with a line feed behind it.
+//! Writing the words of a tree, each with a line feed after it.
 ghost use Rattle.std.specs.Prelude.{◌≡◌, ◌+◌, ◌^◌, ◌<◌, ◌++◌, ◌∷◌, [], OnOk, IfOk, length, List, ℕ};
 ghost use Rattle.dw_moves.specs.Moves as of;
 ghost use Rattle.dw_moves.specs.Moves.{Legal};
@@ -14,8 +14,8 @@ use dw_notation::text_in;
 use itoa::Buffer;
 use std::alloc::{AllocError, Global};
 
-/// A place in a tree: the position there, how many moves stand before it, and its half turn, counted from 0 at a move
-/// of White's.
+/// A place in a tree: the position there, the number of moves before it, and its half turn, counted from 0 at a move of
+/// White's.
 #[derive(Clone, Copy)]
 pub(crate) struct WriteState<B: Board> {
     pub(crate) position: Position<B>,
@@ -23,7 +23,7 @@ pub(crate) struct WriteState<B: Board> {
     pub(crate) half: usize,
 }
 
-/// The place behind a move.
+/// Returns the place after a move.
 fn behind<B: Board>(state: &WriteState<B>, mv: &Move<B>) -> WriteState<B>
     requires legal { Legal B.geometry state.now.position mv.now }
     requires depth { state.now.depth + 1 < 2 ^ 64 }
@@ -49,7 +49,7 @@ pub(crate) struct Writer {
 }
 
 impl Writer {
-    /// A word.
+    /// Writes a word.
     pub(crate) fn write_word(&mut self, word: &str) -> Result<(), AllocError>
         ensures { OnOk result (self.new.text.items ≡ self.old.text.items ++ (word.now ++ 10 ∷ [])) }
     {
@@ -58,7 +58,7 @@ impl Writer {
         Ok(())
     }
 
-    /// What goes on at a place: the first move, the others in its place as variations, and what goes on behind it.
+    /// Writes the play at a place: the first move, the others in its place as variations, and the play after the first.
     #[cycle(play)]
     pub(crate) fn write_play<B: Board>(
         &mut self,
@@ -81,7 +81,7 @@ impl Writer {
         self.write_play(first.rest, &behind(state, &first.mv), branches)
     }
 
-    /// The moves at a place as variations, each with what goes on behind it; and whether there are any.
+    /// Writes the moves at a place as variations, each with the play after it, and returns whether there are any.
     #[cycle(play)]
     fn write_variations<B: Board>(
         &mut self,
@@ -109,7 +109,7 @@ impl Writer {
         Ok(some)
     }
 
-    /// A move with its number, if it has one.
+    /// Writes a move with its number, if it has one.
     fn write_move<B: Board>(
         &mut self,
         mv: &Move<B>,
@@ -125,7 +125,7 @@ impl Writer {
         self.write_word(text.as_str())
     }
 
-    /// The number of a move at a half turn: one of White's always, one of Black's where it is due.
+    /// Writes the number of a move at a half turn: of one of White's always, of one of Black's if it is due.
     fn write_number(&mut self, half: usize, due: bool) -> Result<(), AllocError>
         ensures { OnOk result (self.new.text.items ≡ self.old.text.items ++ fed (number_words half due)) }
     {
@@ -140,7 +140,7 @@ impl Writer {
         self.write_word(dots)
     }
 
-    /// A parenthesis that closes, behind the last word.
+    /// Closes a parenthesis after the last word.
     fn close(&mut self) -> Result<(), AllocError>
         ensures { (front : List ℕ) → self.old.text.items ≡ front ++ 10 ∷ []
             → OnOk result (self.new.text.items ≡ front ++ 41 ∷ 10 ∷ []) }

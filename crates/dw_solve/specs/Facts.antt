@@ -33,7 +33,7 @@ IsDecided c p n = KnownWin c p n ⊎ KnownFail c p n
 abbrev pub RepliesAreDecided : Geometry → Content → Placement → ℕ → Type 0
 RepliesAreDecided g c q n = (r : Move) → Legal g q r → (n ≡ 0) ⊎ IsDecided c (play g q r) n
 
--- what the memo says is so
+-- every fact of the memo is true
 pub record AreTrue (g : Geometry) (c : Content) : Type 0 where
   pub fails : (p : Placement) (f : ℕ) → KnownFail c p f → Win g p f → ⊥
   pub wins : (p : Placement) (w : ℕ) → KnownWin c p w → Win g p w

@@ -16,7 +16,7 @@ Line g p (suc n) (m ∷ []) = Legal g p m × Lost g (play g p m) n × NoMove g (
 Line g p (suc n) (m ∷ r ∷ l) =
     Legal g p m × Lost g (play g p m) n × Legal g (play g p m) r × Line g (play g (play g p m) r) n l
 
--- Lists of moves are in the order of their first differing moves; what begins a list comes before it.
+-- Lists of moves are in the order of their first differing moves; the beginning of a list comes before it.
 abbrev pub Before : Geometry → Placement → List Move → List Move → Type 0
 Before g p [] [] = ⊥
 Before g p [] (n ∷ ns) = Unit {0}

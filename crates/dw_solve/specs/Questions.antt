@@ -20,7 +20,7 @@ pub record Asked {M A : Type 0} (g : Geometry) (content : M → Content) (lost :
   pub stop : IsErrOf answer Limit → new.expanded ≡ new.limit
   pub searched : Searched g n (cut_off answer n) (moment_of content lost old) (moment_of content lost new)
 
--- nothing was expanded, and the memo holds what it held
+-- nothing was expanded, and the memo has the same content
 abbrev pub Idle : {M : Type 0} → (M → Content) → Solving M → Solving M → Type 0
 Idle content old new = (new.expanded ≡ old.expanded) × SameEntries (content old.memo) (content new.memo)
 

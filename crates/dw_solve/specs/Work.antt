@@ -8,7 +8,7 @@ use Rattle.dw_memo.specs.Content.{Entry, Content}
 use Rattle.dw_board.specs.Lists.{Member}
 use Rattle.dw_solve.specs.Facts.{KnownWin, KnownFail, IsClosed}
 
--- a search at one time: what its memo holds, how many entries the memo has lost, how many positions were expanded
+-- a search at one moment: its memo's content, the number of lost entries, the number of expanded positions
 pub record Moment : Type 0 where
   pub content : Content
   pub lost : ℕ
@@ -17,7 +17,7 @@ pub record Moment : Type 0 where
 abbrev pub moment : {M : Type 0} → (M → Content) → (M → ℕ) → M → ℕ → Moment
 moment content lost memo expanded = record { content = content memo; lost = lost memo; expanded = expanded }
 
--- what the memo says it goes on saying
+-- every answer of the memo stays an answer
 pub record Stronger (old new : Content) : Type 0 where
   pub wins : (p : Placement) (n : ℕ) → KnownWin old p n → KnownWin new p n
   pub fails : (p : Placement) (n : ℕ) → KnownFail old p n → KnownFail new p n
@@ -42,20 +42,20 @@ pub record LossIsCounted (before after : ℕ) : Type 0 where
   pub rises : before < 2 ^ 64 → before ≤ after
   pub within : before < 2 ^ 64 → after < 2 ^ 64
 
--- the memo lost nothing: its count is what it was, and could still rise
+-- the memo lost nothing: its count is the same, and could still rise
 abbrev pub NothingLost : Moment → Moment → Type 0
 NothingLost before after = (before.lost ≡ after.lost) × (after.lost < 2 ^ 64 - 1)
 
--- What searches for wins within n moves do to a memo that loses nothing: what is known stays known; if each bound
--- followed from others, each still does; and each expansion added a pair of a position and a number of moves, up to n
--- or any greater one, that is decided, but for so many that were cut off.
+-- The effect of searches for wins within n moves on a memo that loses nothing: known facts stay known; if each bound
+-- followed from others, each still does; and each expansion added a decided pair of a position and a number of moves,
+-- up to n or any greater one, except for a number of expansions that were cut off.
 pub record Worked (g : Geometry) (n cut : ℕ) (before after : Moment) : Type 0 where
   pub stronger : Stronger before.content after.content
   pub closed : IsClosed g before.content → IsClosed g after.content
   pub growth : (k : ℕ) → n ≤ k → after.expanded + decided_to before.content k
       ≤ before.expanded + decided_to after.content k + cut
 
--- what searches for wins within n moves do to any memo
+-- the effect of searches for wins within n moves on any memo
 pub record Searched (g : Geometry) (n cut : ℕ) (before after : Moment) : Type 0 where
   pub few : FewNew before after
   pub counted : LossIsCounted before.lost after.lost

@@ -11,24 +11,21 @@ use dw_moves::play::play as played;
 
 /// Ranks moves: those of a lower rank are tried first, if they leave the attacker two further moves or more. With
 /// fewer, a search goes by orders of its own, which cost less than ranks. No answer depends on it.
-/// See [`ByTrial`] for an example.
 pub trait Guide<B: Board> {
-    /// The rank of a legal move.
-    /// Example: `AnyOrder` gives each move the rank 0.
+    /// Returns the rank of a legal move.
     fn rank(&self, position: &Position<B>, mv: &Move<B>) -> u32
         requires { Legal B.geometry position.now mv.now };
 
-    /// A rank that costs less, for moves of the attacker, and for replies to them if he has two moves left. If a guide
-    /// says nothing else, it is the rank.
-    /// Example: by `ByTrial` it is the `trial` of the move.
+    /// Returns a rank that costs less, for moves of the attacker, and for replies to them if he has two moves left. If
+    /// a guide says nothing else, it is the rank.
     fn quick_rank(&self, position: &Position<B>, mv: &Move<B>) -> u32
         requires { Legal B.geometry position.now mv.now }
     {
         self.rank(position, mv)
     }
 
-    /// The rank of a move that leads to this position. A guide that ranks moves by it need not make the move again.
-    /// Example: by `AnyOrder` it is 0.
+    /// Returns the rank of a move that leads to this position. A guide that ranks moves by it need not make the move
+    /// again.
     fn rank_reached(&self, position: &Position<B>, mv: &Move<B>, _after: &Position<B>) -> u32
         requires legal { Legal B.geometry position.now mv.now }
         requires reached { _after.now ≡ play B.geometry position.now mv.now }
@@ -36,8 +33,7 @@ pub trait Guide<B: Board> {
         self.rank(position, mv)
     }
 
-    /// The quick rank of a move that leads to this position.
-    /// Example: by `ByTrial` it is the `trial` of the move.
+    /// Returns the quick rank of a move that leads to this position.
     fn quick_rank_reached(&self, position: &Position<B>, mv: &Move<B>, _after: &Position<B>) -> u32
         requires legal { Legal B.geometry position.now mv.now }
         requires reached { _after.now ≡ play B.geometry position.now mv.now }
@@ -47,7 +43,6 @@ pub trait Guide<B: Board> {
 }
 
 /// Moves come in any order.
-/// Example: at `W:W27,45:B16` the moves `27-21` and `45-40` both have the rank 0.
 #[derive(Clone, Copy, Debug, Default)]
 pub struct AnyOrder;
 
@@ -68,8 +63,6 @@ const PER_PIECE: u32 = 3;
 /// Moves that leave the other side less choice come first. The rank is twice the `trial` of the move. If that is 0, and
 /// so the other side must capture or has no move, the rank is twice the number of squares on which a capture ends, and
 /// 3 more for each piece after the first that it takes.
-/// Example: at `W:W27,45:B16` the rank of `27-21`, which forces a capture of one piece, is 2, and that of `45-40` is 2
-/// too, since it leaves one quiet move.
 #[derive(Clone, Copy, Debug, Default)]
 pub struct ByTrial;
 
@@ -101,7 +94,7 @@ impl<B: Board> Guide<B> for ByTrial {
     }
 }
 
-/// The rank of a move that leads to this position.
+/// Returns the rank of a move that leads to this position.
 fn rank_by_trial<B: Board>(after: &Position<B>) -> u32
     ensures { IsRankByTrial B.geometry after.now result }
 {
@@ -113,7 +106,7 @@ fn rank_by_trial<B: Board>(after: &Position<B>) -> u32
     }
 }
 
-/// The rank by the captures of the side to move.
+/// Returns the rank by the captures of the side to move.
 fn capture_rank<B: Board>(position: &Position<B>) -> u32
     ensures { IsCaptureRank B.geometry position.now result }
 {

@@ -11,10 +11,10 @@ const NUMBERS: usize = 51;
 /// With fewer moves left a search puts no moves of the attacker in order, and no win is counted.
 pub(crate) const FEWEST_LEFT: u8 = 2;
 
-/// A win with more moves left counts no more than one with so many.
+/// A win with more moves left than this counts no more.
 const MOST_DOUBLINGS: u8 = 12;
 
-/// A step of a quick rank counts as much as so many doublings of what a move won.
+/// A step of a quick rank counts as this number of doublings in the history.
 const PER_RANK: u32 = 4;
 
 /// How much the moves between each two squares won since the question was asked. It is an order among moves, and no
@@ -41,7 +41,7 @@ impl Row {
 }
 
 impl History {
-    /// No move has won yet.
+    /// Returns an empty history.
     pub(crate) fn new() -> Self {
         History {
             rows: [Row::EMPTY; NUMBERS],
@@ -63,7 +63,7 @@ impl History {
         }
     }
 
-    /// A move won, after which so many moves were left. Each of them doubles what the win counts.
+    /// Records a winning move with a number of moves left. Each of these moves doubles its weight.
     pub(crate) fn add<B: Board>(&mut self, mv: &Move<B>, moves: u8) {
         if moves < FEWEST_LEFT {
             return;
@@ -76,7 +76,7 @@ impl History {
         self.is_empty = false;
     }
 
-    /// The rank of a move: the more it won, the lower.
+    /// Returns the rank of a move: the more it won, the lower.
     fn rank<B: Board>(&self, mv: &Move<B>) -> u32
         ensures { result ≤ 32 }
     {

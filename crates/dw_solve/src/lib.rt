@@ -1,8 +1,6 @@
-//! Forced wins: in how many moves the side to move wins whatever the other side replies.
+//! Forced wins: in how many moves the side to move wins, whatever the other side replies.
 //!
-//! Begin with `Solver`, which is made of a memo and a `Guide`, and with its calls `wins`, `loses` and `least`.
-//!
-//! An example tells a position by its FEN text, on the board of ten rows if it names no other.
+//! Begin with `Solver`, which needs a memo and a `Guide`, and with its calls `wins`, `loses` and `least`.
 #![tactic(auto)]
 
 pub mod guide;

@@ -9,7 +9,6 @@ use std::marker::Model;
 
 /// The moves of one position, each with its rank, in the order in which a solver tries them. `Solver::line_up` fills
 /// it, and uses its memory again.
-/// See [`Solver::line_up`](crate::solver::Solver::line_up) for an example.
 #[derive(Drop)]
 pub struct Lineup<B: Board> {
     pub(crate) ply: Ply<B>,
@@ -28,8 +27,7 @@ impl<B: Board> Model for Lineup<B> {
 }
 
 impl<B: Board> Lineup<B> {
-    /// No moves. It takes no memory.
-    /// Example: of `Lineup::<Ten>::new(alloc)` the `moves` are empty.
+    /// Returns an empty list. It takes no memory.
     pub fn new(alloc: Global) -> Self
         ensures { result ≡ [] }
     {
@@ -38,8 +36,7 @@ impl<B: Board> Lineup<B> {
         }
     }
 
-    /// The moves with their ranks, that which is tried first before the others.
-    /// Example: lined up by a solver with `ByTrial` at `W:W27,32,38:B18`, the first is `27-22` with the rank 2.
+    /// Returns the moves with their ranks, that which is tried first before the others.
     pub fn moves(&self) -> &[(u32, Move<B>)]
         ensures { result.now ≡ self.now }
     {

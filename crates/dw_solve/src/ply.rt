@@ -20,7 +20,7 @@ pub(crate) struct Ply<B: Board> {
 }
 
 impl<B: Board> Ply<B> {
-    /// Empty lists.
+    /// Makes empty lists.
     pub(crate) fn new(alloc: Global) -> Self
         ensures { result.ranked.items ≡ [] }
     {
@@ -44,7 +44,7 @@ impl<B: Board> Ply<B> {
         Ok(())
     }
 
-    /// The same for a search, which needs no rank of a single move.
+    /// Returns the same for a search, which needs no rank of a single move.
     pub(crate) fn fill_unless_single<G: Guide<B>>(
         &mut self,
         position: &Position<B>,
@@ -70,7 +70,7 @@ impl<B: Board> Ply<B> {
         self.gather(position, &AnyOrder)
     }
 
-    /// Whether a legal move leaves the other side without one. The moves are gone through as they come.
+    /// Returns whether a legal move leaves the other side without one. The moves are gone through as they come.
     pub(crate) fn wins_at_once(&mut self, position: &Position<B>) -> Result<bool, AllocError>
         ensures { IfOk result (IsLastWin B.geometry position.now) }
     {
@@ -83,7 +83,8 @@ impl<B: Board> Ply<B> {
         Ok(false)
     }
 
-    /// The position after the first move after which it is seen at a glance that the other side has no win in one move.
+    /// Returns the position after the first move after which it is seen at a glance that the other side has no win in
+    /// one move.
     pub(crate) fn first_sure(&self, position: &Position<B>) -> Option<Position<B>>
         requires { AreRanked B.geometry position.now self.now.ranked.items }
         ensures { IfSome result (IsSureReply B.geometry position.now) }

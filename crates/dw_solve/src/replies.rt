@@ -26,8 +26,8 @@ pub(crate) enum Tried {
     PutOff(u32),
 }
 
-/// The rank of a reply that leads to this position, in which the attacker has so many moves left. `None` if it is the
-/// only one, or so good that the ranks of the others would mostly be for nothing.
+/// Returns the rank of a reply that leads to this position, with `moves` moves left for the attacker. Returns `None` if
+/// it is the only reply, or so good that it is searched at once.
 pub(crate) fn put_off<B: Board, G: Guide<B>>(
     guide: &G,
     position: &Position<B>,
@@ -82,7 +82,8 @@ pub(crate) fn line_up_last<B: Board>(
     Ok(ply.first_sure(position))
 }
 
-/// The position after a step of one square, if it is seen at a glance that the other side has no win in one move then.
+/// Returns the position after a step of one square, if it is seen at a glance that the other side has no win in one
+/// move then.
 fn sure_reply<B: Board>(position: &Position<B>) -> Option<Position<B>>
     ensures { IfSome result (IsSureReply B.geometry position.now) }
 {

@@ -38,7 +38,7 @@ pub(crate) struct Search<M, G> {
     pub(crate) history: History,
 }
 
-/// Whether the side to move wins within so many of its moves.
+/// Returns whether the side to move wins within `moves` moves.
 #[cycle(search)]
 pub(crate) fn wins<B: Board, M: Memo<B>, G: Guide<B>>(
     search: &mut Search<M, G>,
@@ -64,8 +64,7 @@ pub(crate) fn wins<B: Board, M: Memo<B>, G: Guide<B>>(
     expand(search, plies, position, moves)
 }
 
-/// Whether the side to move wins within so many of its moves, if the memo does not decide it: the position is counted,
-/// its moves are gone through, and what is found out is noted.
+/// Searches a position that the memo does not decide: counts it, tries its moves, and stores the answer.
 #[cycle(search)]
 pub(crate) fn expand<B: Board, M: Memo<B>, G: Guide<B>>(
     search: &mut Search<M, G>,
@@ -90,7 +89,7 @@ pub(crate) fn expand<B: Board, M: Memo<B>, G: Guide<B>>(
     Ok(won)
 }
 
-/// Whether some move of the attacker leaves a position that is lost within so many further moves.
+/// Returns whether some move of the attacker leaves a position that is lost within `moves` further moves.
 #[cycle(search)]
 fn some_move_wins<B: Board, M: Memo<B>, G: Guide<B>>(
     search: &mut Search<M, G>,
@@ -117,8 +116,8 @@ fn some_move_wins<B: Board, M: Memo<B>, G: Guide<B>>(
     Ok(false)
 }
 
-/// Whether the side to move has lost: the other wins within so many of its moves after every reply. A reply that is
-/// known to be good is searched as soon as it is met, and the others later, by their ranks.
+/// Returns whether the side to move has lost: after every reply the other side wins within `moves` moves. Good replies
+/// are searched at once, the others later by their ranks.
 #[cycle(search)]
 pub(crate) fn loses<B: Board, M: Memo<B>, G: Guide<B>>(
     search: &mut Search<M, G>,
@@ -195,7 +194,7 @@ fn good_reply_refutes<B: Board, M: Memo<B>, G: Guide<B>>(
     Ok(false)
 }
 
-/// Whether the attacker wins within so many of his moves after a reply, if the memo decides it or the reply is good.
+/// Returns whether the attacker wins within `moves` moves after a reply, if the memo decides it or the reply is good.
 #[cycle(search)]
 fn try_reply<B: Board, M: Memo<B>, G: Guide<B>>(
     search: &mut Search<M, G>,
@@ -228,7 +227,7 @@ fn try_reply<B: Board, M: Memo<B>, G: Guide<B>>(
     Ok(Tried::Answered(wins))
 }
 
-/// Whether the attacker wins within so many of his moves after each of these replies.
+/// Returns whether the attacker wins within `moves` moves after each of these replies.
 #[cycle(search)]
 fn all_replies_lose<B: Board, M: Memo<B>, G: Guide<B>>(
     search: &mut Search<M, G>,
@@ -255,8 +254,8 @@ fn all_replies_lose<B: Board, M: Memo<B>, G: Guide<B>>(
     Ok(true)
 }
 
-/// Whether the side to move has lost, as a caller asks: with one move left the memo is asked about each reply, which it
-/// is not in a search once it has lost something.
+/// Returns whether the side to move has lost, for a caller. With one move left it looks up every reply. Inside a search
+/// this stops once the memo has lost an entry.
 pub(crate) fn loses_at_root<B: Board, M: Memo<B>, G: Guide<B>>(
     search: &mut Search<M, G>,
     plies: &mut [Ply<B>],
@@ -281,8 +280,8 @@ pub(crate) fn loses_at_root<B: Board, M: Memo<B>, G: Guide<B>>(
     }
 }
 
-/// Whether the side to move has lost, with one move of the attacker left, if the memo decides each reply or one that
-/// refutes.
+/// Returns whether the side to move has lost, with one move of the attacker left, if the memo decides each reply or one
+/// that refutes.
 fn known_loss<B: Board, M: Memo<B>, G>(
     search: &mut Search<M, G>,
     plies: &mut [Ply<B>],
@@ -306,7 +305,7 @@ fn known_loss<B: Board, M: Memo<B>, G>(
     Ok(Some(true))
 }
 
-/// Whether the side to move has lost, with one move of the attacker left.
+/// Returns whether the side to move has lost, with one move of the attacker left.
 fn loses_last<B: Board, M: Memo<B>, G>(
     search: &mut Search<M, G>,
     plies: &mut [Ply<B>],
@@ -333,8 +332,8 @@ fn loses_last<B: Board, M: Memo<B>, G>(
     Ok(true)
 }
 
-/// Takes up the moves of the attacker, who has so many left after them: in the guide's order if there are two or more,
-/// those that won before earlier. With one or none left, going through them costs less than their ranks.
+/// Lists the moves of the attacker. With two or more moves left after them, they come in the guide's order, earlier
+/// winning moves first. With fewer, ranks would cost more than the search.
 fn line_up<B: Board, M, G: Guide<B>>(
     search: &Search<M, G>,
     ply: &mut Ply<B>,
@@ -372,7 +371,7 @@ fn refute<B: Board, M: Memo<B>, G>(
     refute_noted(search, position)
 }
 
-/// The same, if the memo does not leave it out: the position is counted and noted, unless the memo decides it.
+/// Returns the same, if the memo does not leave it out: the position is counted and noted, unless the memo decides it.
 fn refute_noted<B: Board, M: Memo<B>, G>(
     search: &mut Search<M, G>,
     position: &Position<B>,
@@ -392,7 +391,7 @@ fn refute_noted<B: Board, M: Memo<B>, G>(
     Ok(())
 }
 
-/// Whether the side to move wins with its next move, which is its last. The memo may leave it out.
+/// Returns whether the side to move wins with its next move, which is its last. The memo may leave it out.
 fn wins_last<B: Board, M: Memo<B>, G>(
     search: &mut Search<M, G>,
     ply: &mut Ply<B>,
@@ -424,8 +423,8 @@ fn leave_out<B: Board, M: Memo<B>, G>(search: &mut Search<M, G>) -> Result<bool,
     Ok(true)
 }
 
-/// The same, if the memo does not leave it out. Nothing else comes between the look at the memo and the note, so the
-/// bounds are looked up once.
+/// Returns the same, if the memo does not leave it out. Nothing else comes between the look at the memo and the note,
+/// so the bounds are looked up once.
 fn wins_at_once<B: Board, M: Memo<B>, G>(
     search: &mut Search<M, G>,
     ply: &mut Ply<B>,
@@ -447,7 +446,7 @@ fn wins_at_once<B: Board, M: Memo<B>, G>(
     Ok(won)
 }
 
-/// Whether there is a win within so many moves, if that is known without a search.
+/// Returns whether there is a win within `moves` moves, if this is known without a search.
 pub(crate) fn known<B: Board, M: Memo<B>, G>(
     search: &mut Search<M, G>,
     position: &Position<B>,
@@ -485,7 +484,7 @@ fn count<M, G>(search: &mut Search<M, G>) -> Result<(), Stop>
     Ok(())
 }
 
-/// Notes whether there is a win within so many moves, beside what the memo says of the position by now.
+/// Stores whether there is a win within `moves` moves, added to the present bounds of the position.
 fn note<B: Board, M: Memo<B>, G>(
     search: &mut Search<M, G>,
     position: &Position<B>,
@@ -504,7 +503,7 @@ fn note<B: Board, M: Memo<B>, G>(
     search.memo.note(*position, joined(bounds, moves, won));
 }
 
-/// The bounds of a position, which say nothing if it is not held.
+/// Returns the bounds of a position, which say nothing if it is not held.
 fn bounds_now<B: Board, M: Memo<B>>(memo: &mut M, position: &Position<B>) -> Bounds
     ensures map { IsMap (M.content memo.old) }
     ensures bounds { HasBounds (M.content memo.old) position.now result }
@@ -520,7 +519,7 @@ fn bounds_now<B: Board, M: Memo<B>>(memo: &mut M, position: &Position<B>) -> Bou
     }
 }
 
-/// The bounds, and whether there is a win within so many moves.
+/// Returns the bounds with the answer for `moves` moves added.
 fn joined(bounds: Bounds, moves: u8, won: bool) -> Bounds
     ensures { result ≡ cond won (with_win bounds moves) (with_fail bounds moves) }
 {

@@ -30,7 +30,6 @@ const PLIES: usize = 2 * MOST_MOVES + 1;
 
 /// Answers in how many moves a side wins. What it finds out it notes in a memo, and it counts each position that it
 /// expands, that is whose moves it goes through, up to a limit.
-/// See [`Solver::wins`] for an example.
 #[derive(Drop)]
 pub struct Solver<B: Board, M: Memo<B>, G: Guide<B>> {
     search: Search<M, G>,
@@ -55,9 +54,8 @@ impl<B: Board, M: Memo<B>, G: Guide<B>> Model for Solver<B, M, G> {
 }
 
 impl<B: Board, M: Memo<B>, G: Guide<B>> Solver<B, M, G> {
-    /// A solver over a memo, all of whose bounds are right, as those of an empty one are. It may expand as many
+    /// Returns a solver over a memo, all of whose bounds are right, as those of an empty one are. It may expand as many
     /// positions as the limit says, at least 1.
-    /// Example: `Solver::<Ten, NoMemo, AnyOrder>::new(NoMemo::new(), AnyOrder, 1_000)` may expand 1,000 positions.
     pub fn new(memo: M, guide: G, limit: u64) -> Self
         requires right { AreTrue B.geometry (M.content memo) }
         requires some { 1 ≤ limit }
@@ -75,16 +73,14 @@ impl<B: Board, M: Memo<B>, G: Guide<B>> Solver<B, M, G> {
         }
     }
 
-    /// How many positions were expanded so far.
-    /// Example: of a new solver it is 0.
+    /// Returns how many positions were expanded so far.
     pub fn expanded(&self) -> u64
         ensures { result ≡ self.now.expanded }
     {
         self.search.expanded
     }
 
-    /// How many positions may be expanded in all.
-    /// Example: of `Solver::<Ten, NoMemo, AnyOrder>::new(NoMemo::new(), AnyOrder, 1_000)` it is 1,000.
+    /// Returns how many positions may be expanded in all.
     pub fn limit(&self) -> u64
         ensures limit { result ≡ self.now.limit }
         ensures within { self.now.expanded ≤ self.now.limit }
@@ -92,8 +88,7 @@ impl<B: Board, M: Memo<B>, G: Guide<B>> Solver<B, M, G> {
         self.search.limit
     }
 
-    /// A solver never expands more positions than it may: a law, which does nothing.
-    /// Example: of a new solver it says that 0 is at most its limit.
+    /// States that a solver never expands more positions than it may. A law, which does nothing.
     #[inline]
     pub fn keeps_its_limit(&self)
         ensures { self.now.expanded ≤ self.now.limit }
@@ -101,8 +96,8 @@ impl<B: Board, M: Memo<B>, G: Guide<B>> Solver<B, M, G> {
         let _ = &self.search;
     }
 
-    /// All bounds in a solver's memo are right, and a position stands there once: a law, which does nothing.
-    /// Example: of a solver over a new memo it says that no bound is wrong.
+    /// States that all bounds in a solver's memo are right, and that each position is there once. A law, which does
+    /// nothing.
     pub fn keeps_its_facts(&self)
         ensures right { AreTrue B.geometry (M.content self.now.memo) }
         ensures map { IsMap (M.content self.now.memo) }
@@ -110,8 +105,7 @@ impl<B: Board, M: Memo<B>, G: Guide<B>> Solver<B, M, G> {
         self.search.memo.keeps_its_map();
     }
 
-    /// How many entries the memo has lost so far.
-    /// Example: over a new memo it is 0 at the start.
+    /// Returns how many entries the memo has lost so far.
     pub fn dropped(&self) -> u64
         ensures count { result ≡ M.dropped self.now.memo }
         ensures map { IsMap (M.content self.now.memo) }
@@ -119,8 +113,7 @@ impl<B: Board, M: Memo<B>, G: Guide<B>> Solver<B, M, G> {
         self.search.memo.dropped()
     }
 
-    /// Changes the limit. It is at least 1, and not below what was expanded.
-    /// Example: after `set_limit(2_000)` `limit` answers 2,000.
+    /// Changes the limit. It becomes at least 1, and at least the number of expanded positions.
     pub fn set_limit(&mut self, limit: u64)
         requires some { 1 ≤ limit }
         requires enough { self.old.expanded ≤ limit }
@@ -129,9 +122,8 @@ impl<B: Board, M: Memo<B>, G: Guide<B>> Solver<B, M, G> {
         self.search.limit = limit;
     }
 
-    /// Tells that the positions to come have little to do with those before, as those of another problem: the memo may
-    /// give up what it holds. No answer depends on it.
-    /// Example: over a `DeepMemo` each position has to be expanded again that was asked for before.
+    /// Announces that the next positions have little to do with the earlier ones, as after a new problem. The memo may
+    /// drop its entries. No answer depends on it.
     pub fn forget(&mut self)
         ensures forgets { MayForget (M.content self.old.memo) (M.content self.new.memo) }
         ensures dropped { M.dropped self.new.memo ≡ M.dropped self.old.memo }
@@ -141,10 +133,9 @@ impl<B: Board, M: Memo<B>, G: Guide<B>> Solver<B, M, G> {
         self.search.memo.forget();
     }
 
-    /// Whether the side to move wins within so many of its moves, 0 to 20. It is answered without a search, without
-    /// memory and without an expansion if the memo decides it or the number is 0. After a stop all bounds in the
-    /// memo are right, and it can be asked again.
-    /// Example: at `W:W27,45:B16` it is `Ok(false)` within 1 move, and `Ok(true)` within 2.
+    /// Returns whether the side to move wins within `moves` of its moves, 0 to 20. If the memo decides it or `moves` is
+    /// 0, this takes no search, no memory and no expansion. After a stop all bounds in the memo are right, and the call
+    /// can be repeated.
     pub fn wins(&mut self, alloc: Global, position: &Position<B>, moves: u8) -> Result<bool, Stop>
         requires { moves ≤ 20 }
         ensures answer { IfOk result (λ yes. IsTrue yes ↔ Win B.geometry position.now moves) }
@@ -164,9 +155,9 @@ impl<B: Board, M: Memo<B>, G: Guide<B>> Solver<B, M, G> {
         answer
     }
 
-    /// Whether the side to move has lost: whatever it plays, the other wins within so many of its moves, 0 to 20. If
-    /// the memo decides each reply, nothing is counted, and the limit is no hindrance. At 0 it takes no memory.
-    /// Example: at `B:W27,40:B16` it is `Ok(false)` within 0 moves, and `Ok(true)` within 1.
+    /// Returns whether the side to move has lost: whatever it plays, the other side wins within `moves` of its moves, 0
+    /// to 20. If the memo decides each reply, nothing is counted, and the limit does not matter. With 0 moves it takes
+    /// no memory.
     pub fn loses(&mut self, alloc: Global, position: &Position<B>, moves: u8) -> Result<bool, Stop>
         requires { moves ≤ 20 }
         ensures answer { IfOk result (λ yes. IsTrue yes ↔ Lost B.geometry position.now moves) }
@@ -183,10 +174,9 @@ impl<B: Board, M: Memo<B>, G: Guide<B>> Solver<B, M, G> {
         answer
     }
 
-    /// The least number of moves, from 1 to the given one, within which the side to move wins, or `None` if it has
-    /// no win within that number, which is at most 20. It is answered without memory and without an expansion if the
-    /// memo decides each of these numbers.
-    /// Example: at `W:W27,45:B16` it is `Ok(None)` up to 1 move, and `Ok(Some(2))` up to 20.
+    /// Returns the least number of moves, from 1 to the given one, within which the side to move wins, or `None` if it
+    /// has no win within that number, which is at most 20. It is answered without memory and without an expansion if
+    /// the memo decides each of these numbers.
     pub fn least(
         &mut self,
         alloc: Global,
@@ -215,8 +205,6 @@ impl<B: Board, M: Memo<B>, G: Guide<B>> Solver<B, M, G> {
 
     /// Takes up the legal moves of a position, in the order in which `loses` goes through replies while the attacker
     /// has three moves or more: by rank, the lowest first. Nothing is searched.
-    /// Example: with `ByTrial` at `W:W27,32,38:B18` the move `27-22`, which forces a capture, comes first, and others
-    /// come after it, as `32-28` does.
     pub fn line_up(&self, position: &Position<B>, lineup: &mut Lineup<B>) -> Result<(), AllocError>
         ensures ranked { OnOk result (AreRanked B.geometry position.now lineup.new) }
         ensures order { OnOk result (IsNonDecreasingBy (λ r. r.0) lineup.new) }
@@ -224,8 +212,7 @@ impl<B: Board, M: Memo<B>, G: Guide<B>> Solver<B, M, G> {
         lineup.ply.fill(position, &self.search.guide)
     }
 
-    /// The memo. All its bounds are right.
-    /// Example: what the memo then says it dropped is what `dropped` said before.
+    /// Returns the memo. All its bounds are right.
     pub fn into_memo(self) -> M
     where
         G: Drop,
@@ -236,7 +223,7 @@ impl<B: Board, M: Memo<B>, G: Guide<B>> Solver<B, M, G> {
     }
 }
 
-/// What `Solver::wins` answers. The lists are made only for a search.
+/// Answers `Solver::wins`. Lists are made only for a search.
 fn ask_wins<B: Board, M: Memo<B>, G: Guide<B>>(
     search: &mut Search<M, G>,
     spare: &mut Option<Vec<Ply<B>>>,
@@ -266,7 +253,7 @@ fn ask_wins<B: Board, M: Memo<B>, G: Guide<B>>(
     answer
 }
 
-/// What `Solver::loses` answers. If no move of the attacker is left, no list is needed.
+/// Answers `Solver::loses`. If the attacker has no move left, no list is needed.
 fn ask_loses<B: Board, M: Memo<B>, G: Guide<B>>(
     search: &mut Search<M, G>,
     spare: &mut Option<Vec<Ply<B>>>,
@@ -291,7 +278,7 @@ fn ask_loses<B: Board, M: Memo<B>, G: Guide<B>>(
     answer
 }
 
-/// At least so many lists, with those that are there from before, if there are some.
+/// Makes sure that there are at least `needed` lists, and keeps the present ones.
 fn prepared<B: Board>(
     alloc: Global,
     spare: Option<Vec<Ply<B>>>,

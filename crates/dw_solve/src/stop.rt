@@ -6,7 +6,6 @@ use std::alloc::AllocError;
 use thiserror::Error;
 
 /// Why a search ended without an answer. It can be asked again.
-/// Example: over `NoMemo`, in `AnyOrder` and with the limit 2, `wins` in 2 at `W:W27,32:B18` is `Err(Stop::Limit)`.
 #[derive(Clone, Copy, Debug, PartialEq, Eq, Error)]
 pub enum Stop {
     /// Memory was refused.

@@ -7,9 +7,8 @@ use dw_board::{Board, Position};
 use dw_moves::play::play as played;
 use dw_moves::{Move, count_if_quiet};
 
-/// How free the other side is after a legal move: the number of its quiet moves, at most 400, or 0 if it must capture.
-/// A move that leaves less freedom is worth trying first.
-/// Example: at `W:W27,32,38:B18` it is 0 for `27-22`, which forces a capture, and 2 for `32-28`.
+/// Returns how free the other side is after a legal move: the number of its quiet moves, at most 400, or 0 if it must
+/// capture. A move that leaves less freedom is worth trying first.
 pub fn trial<B: Board>(position: &Position<B>, mv: &Move<B>) -> u32
     requires { Legal B.geometry position.now mv.now }
     ensures value { IsTrial B.geometry (play B.geometry position.now mv.now) result }
@@ -18,7 +17,7 @@ pub fn trial<B: Board>(position: &Position<B>, mv: &Move<B>) -> u32
     freedom(&played(position, mv))
 }
 
-/// How free the side to move is: the number of its quiet moves, at most 400, or 0 if it must capture.
+/// Returns how free the side to move is: the number of its quiet moves, at most 400, or 0 if it must capture.
 #[inline]
 pub(crate) fn freedom<B: Board>(position: &Position<B>) -> u32
     ensures value { IsTrial B.geometry position.now result }

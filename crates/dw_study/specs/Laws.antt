@@ -27,13 +27,13 @@ OneListOfRemarks = (g : Geometry) (p : Placement) (text : List ℕ) (tree : List
     → (n : ℕ) (remarks others : List Remark) → AreRemarks g tree n p [] remarks → AreRemarks g tree n p [] others
     → remarks ≡ others
 
--- each remark on the tree of a movetext can be told
+-- each remark on the tree of a movetext has a text
 abbrev pub RemarksCanBeTold : Type 0
 RemarksCanBeTold = (g : Geometry) (p : Placement) (text : List ℕ) (tree : List (List Move)) → IsTree g p text tree
     → (n : ℕ) (remarks : List Remark) → AreRemarks g tree n p [] remarks → (r : Remark) → Member r remarks
     → CanBeTold g p r
 
--- a remark tells of a fault: a move fails, or a path ends too soon
+-- a remark is about a fault: a move fails, or a path ends too soon
 abbrev pub IsFault : Remark → Type 0
 IsFault (fails b m r) = Unit {0}
 IsFault (also b keys) = ⊥
@@ -44,8 +44,8 @@ IsFault (ends b) = Unit {0}
 abbrev pub IsWholePath : List (List Move) → List Move → Type 0
 IsWholePath tree path = Member path tree × ((m : Move) → Member (path ++ m ∷ []) tree → ⊥)
 
--- no remark on the tree of a movetext tells of a fault exactly if each of its paths that goes on nowhere is a line; and
--- there is no remark at all exactly if these are just the lines
+-- no remark on the tree of a movetext is about a fault exactly if each of its complete paths is a line; and there is no
+-- remark at all exactly if these are all the lines
 pub record SolutionsHold : Type 0 where
   pub lines : (g : Geometry) → IsBoard g → (p : Placement) (text : List ℕ) (tree : List (List Move))
       → IsTree g p text tree → (n : ℕ) (remarks : List Remark) → AreRemarks g tree n p [] remarks

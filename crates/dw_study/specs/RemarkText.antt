@@ -14,7 +14,7 @@ abbrev pub behind_blank : List ℕ → List ℕ
 behind_blank [] = []
 behind_blank (byte ∷ line) = codes " " ++ byte ∷ line
 
--- its moves can be played where they stand, behind at most 39 others
+-- its moves are legal where they are played, after at most 39 others
 abbrev pub CanBeTold : Geometry → Placement → Remark → Type 0
 CanBeTold g p (fails b m r) = (length b ≤ 39) × ArePlayable g p b × Legal g (reach g p b) m
     × Legal g (play g (reach g p b) m) r
@@ -24,7 +24,7 @@ CanBeTold g p (leaves_open b replies) =
     (length b ≤ 39) × ArePlayable g p b × ((m : Move) → Member m replies → Legal g (reach g p b) m)
 CanBeTold g p (ends b) = (length b ≤ 39) × ArePlayable g p b
 
--- a remark in words: the beginning, and what stands or is missing behind it
+-- the text of a remark: the beginning, and the moves that are wrong or missing after it
 abbrev pub IsRemarkText : Geometry → Placement → Remark → List ℕ → Type 0
 IsRemarkText g p (fails b m r) text = (line : List ℕ) × (move : List ℕ) × (reply : List ℕ) × IsLineText g p b line
     × IsMoveText g (reach g p b) m move × IsMoveText g (play g (reach g p b) m) r reply

@@ -1,4 +1,4 @@
--- The texts that a remark on an author's solution is told by, one by one.
+-- The parts of the text of a remark on an author's solution, one by one.
 use Rattle.std.specs.Prelude.{◌≡◌, ℕ, Option, Some, None, List, [], ◌∷◌}
 use Rattle.dw_board.specs.Geometry.{Geometry}
 use Rattle.dw_board.specs.Placement.{Placement}
@@ -14,7 +14,7 @@ pub record Words : Type 0 where
   pub moves : List (List ℕ)
   pub refutation : Option (List ℕ)
 
--- the texts of a beginning and of moves behind it, without a refutation
+-- the texts of a beginning and of moves after it, without a refutation
 abbrev pub AreWordsFor : Geometry → Placement → (beginning moves : List Move) → Words → Type 0
 AreWordsFor g p b moves words = IsLineText g p b words.line × AreMoveTexts g (reach g p b) moves words.moves
     × (words.refutation ≡ None)

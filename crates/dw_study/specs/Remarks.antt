@@ -1,4 +1,4 @@
--- What is remarked of an author's solution: of a tree of moves, which is told by the beginnings of its paths.
+-- The remarks on an author's solution: on a tree of moves, given by the beginnings of its paths.
 use Rattle.std.specs.Prelude.{◌≡◌, ◌⊎◌, ℕ, ◌-◌, ◌<◌, Some, List, [], ◌∷◌, ◌++◌, map, slice_get}
 use Rattle.std.proofs.Common.{zero, suc}
 use Rattle.dw_board.specs.Geometry.{Geometry}
@@ -37,9 +37,9 @@ abbrev pub if_any : (List Move → Remark) → List Move → List Remark
 if_any remark [] = []
 if_any remark (m ∷ moves) = remark (m ∷ moves) ∷ []
 
--- The remarks on a beginning after which the attacker is to move, with n moves left, and the moves of the tree behind
--- which more is looked at: those that win. It is an end; or there are remarks on each move that fails, and on the keys
--- that the tree has not.
+-- The remarks on a beginning after which the attacker is to move, with n moves left, and the moves of the tree that are
+-- examined further: those that win. It is an end; or there are remarks on each move that fails, and on the keys that
+-- the tree lacks.
 pub data AtAttacker (g : Geometry) (p : Placement) (n : ℕ) (tree : List (List Move)) (b : List Move)
     : List Remark → List Move → Type 0 where
   without_move : ((m : Move) → GoesOnBy g p tree b m → ⊥) → AtAttacker g p n tree b (ends b ∷ []) []
@@ -49,8 +49,8 @@ pub data AtAttacker (g : Geometry) (p : Placement) (n : ℕ) (tree : List (List 
       → IsListOf (StandsBefore tree b) (λ k. GoesOnBy g p tree b k × IsWinning g p n k) keys
       → AtAttacker g p n tree b (map (λ t. fails b t.0 t.1) failing ++ if_any (also b) others) keys
 
--- The remarks on a beginning after which the defender is to move, and the replies of the tree, behind all of which more
--- is looked at. The play is over; or it is an end; or there is a remark on the replies that the tree has not.
+-- The remarks on a beginning after which the defender is to move, and the replies of the tree, which are all examined
+-- further. The play is over; or it is an end; or there is a remark on the replies that the tree lacks.
 pub data AtDefender (g : Geometry) (q : Placement) (tree : List (List Move)) (b : List Move)
     : List Remark → List Move → Type 0 where
   over : NoMove g q → AtDefender g q tree b [] []
@@ -61,13 +61,13 @@ pub data AtDefender (g : Geometry) (q : Placement) (tree : List (List Move)) (b 
       → IsListOf (StandsBefore tree b) (GoesOnBy g q tree b) replies
       → AtDefender g q tree b (if_any (leaves_open b) others) replies
 
--- what is remarked behind each of these moves, in turn
+-- the remarks after each of these moves, in turn
 pub data InTurn (Behind : Move → List Remark → Type 0) : List Move → List Remark → Type 0 where
   nothing : InTurn Behind [] []
   one_more : {moves : List Move} {before remarks : List Remark} (m : Move) → InTurn Behind moves before
       → Behind m remarks → InTurn Behind (moves ++ m ∷ []) (before ++ remarks)
 
--- remarks on a beginning, and then those behind each move behind which more is looked at
+-- the remarks on a beginning, and then those after each move that is examined further
 pub record AndBehind (At : List Remark → List Move → Type 0) (Behind : Move → List Remark → Type 0)
     (remarks : List Remark) : Type 0 where
   pub here : List Remark
@@ -77,8 +77,8 @@ pub record AndBehind (At : List Remark → List Move → Type 0) (Behind : Move 
   pub behind : InTurn Behind moves later
   pub joined : remarks ≡ here ++ later
 
--- the remarks on a beginning after which the defender is to move, and on all that is longer, if it is known what is
--- remarked after a reply
+-- the remarks on a beginning after which the defender is to move, and on its continuations, given the remarks after
+-- each reply
 abbrev pub AfterKey : (Placement → List Move → List Remark → Type 0) → Geometry → List (List Move) → Placement
     → List Move → List Remark → Type 0
 AfterKey Replied g tree q b remarks =

@@ -1,4 +1,4 @@
--- How findings and remarks are told.
+-- Findings and remarks of the code, as values of the definitions.
 use Rattle.std.specs.Prelude.{◌≡◌, ℕ, ◌+◌, ◌≤◌, Result, Ok, Err, Option, Some, IfSome, option_map, List, map}
 use Rattle.dw_board.specs.Geometry.{Geometry}
 use Rattle.dw_board.specs.Placement.{Placement}
@@ -22,7 +22,7 @@ use Rattle.dw_study.specs.declared.finding.Finding.TheVariants.{Judged, Undecide
 use Rattle.dw_study.specs.declared.remark.Remark as remarks
 use Rattle.dw_study.specs.declared.remark.Remark.TheVariants.{Fails, Also, Open, Ends}
 
--- what a finding says
+-- the value of a finding
 abbrev pub told_by : {B : Type 0} → findings.Finding B → Finding
 told_by (Judged k it) = judged k (said_by it.verdict) it.tries.items
 told_by (Undecided k) = undecided k
@@ -66,14 +66,14 @@ IsKnownInTime g content lost p n first each old new (Judged k it) =
     KnownInTime g content lost p n first each old new k
 IsKnownInTime g content lost p n first each old new (Undecided k) = Unit {0}
 
--- what a remark says, whose beginning is told by its place in a tree
+-- the value of a remark, whose beginning is given by its place in a tree
 abbrev pub remark_in : {B : Type 0} → List (List Move) → remarks.Remark B → Option Remark
 remark_in tree (Fails at mv reply) = option_map (λ b. fails b mv reply) (beginning_at tree (place_of at))
 remark_in tree (Also at keys) = option_map (λ b. also b keys.items) (beginning_at tree (place_of at))
 remark_in tree (Open at replies) = option_map (λ b. leaves_open b replies.items) (beginning_at tree (place_of at))
 remark_in tree (Ends at) = option_map (λ b. ends b) (beginning_at tree (place_of at))
 
--- these remarks on a tree say what holds
+-- these remarks on a tree are right
 abbrev pub Say : {B : Type 0} → List (List Move) → List (remarks.Remark B) → (List Remark → Type 0) → Type 0
 Say tree items Holds = (said : List Remark) × (map (remark_in tree) items ≡ map (λ r. Some r) said) × Holds said
 

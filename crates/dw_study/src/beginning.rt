@@ -1,4 +1,4 @@
-//! Beginnings of an author's solution: their moves, the positions behind them, their texts.
+//! Beginnings of an author's solution: their moves, the positions after them, their texts.
 ghost use Rattle.std.specs.Prelude.{◌≡◌, ◌<◌, ◌≤◌, None, Some, length, IfOk, IfSome, IsSome, MatchOption};
 ghost use Rattle.std.specs.String.{string_bytes};
 ghost use Rattle.dw_notation.specs.Text.{ArePlayable};
@@ -16,7 +16,7 @@ use dw_notation::MAX_MOVES;
 use dw_notation::line_text::line_text;
 use std::alloc::{AllocError, Global};
 
-/// A beginning of a path: its moves, the position behind it, its text, and that with a blank before it.
+/// A beginning of a path: its moves, the position after them, its text, and the text with a blank before it.
 #[derive(Drop)]
 pub(crate) struct Beginning<B: Board> {
     pub(crate) moves: ArrayVec<Move<B>, MAX_MOVES>,
@@ -25,7 +25,7 @@ pub(crate) struct Beginning<B: Board> {
     pub(crate) text: String,
 }
 
-/// The beginning before a node, if it can be played from a position.
+/// Returns the beginning before a node, if it can be played from a position.
 pub(crate) fn beginning_of<B: Board>(
     alloc: Global,
     position: &Position<B>,
@@ -54,7 +54,7 @@ pub(crate) fn beginning_of<B: Board>(
     }))
 }
 
-/// A text with a blank before it, or nothing, if it is empty.
+/// Returns a text with a blank before it, or nothing, if it is empty.
 fn with_blank(alloc: Global, text: &str) -> Result<String, AllocError>
     ensures { IfOk result (λ made. string_bytes made ≡ behind_blank text.now) }
 {
@@ -64,7 +64,7 @@ fn with_blank(alloc: Global, text: &str) -> Result<String, AllocError>
     [" ", text].concat(alloc)
 }
 
-/// The moves of the beginning before a node, if there are at most 39.
+/// Returns the moves of the beginning before a node, if there are at most 39.
 pub(crate) fn moves_to<B: Board>(
     tree: &Tree<B>,
     node: Option<Node>,
@@ -87,7 +87,7 @@ pub(crate) fn moves_to<B: Board>(
     Some(moves)
 }
 
-/// The position after moves, if each is legal after those before it.
+/// Returns the position after moves, if each is legal after those before it.
 fn played<B: Board>(position: &Position<B>, moves: &[Move<B>]) -> Option<Position<B>>
     ensures { MatchOption result (ArePlayable B.geometry position.now moves.now → ⊥)
         (λ behind. ArePlayable B.geometry position.now moves.now

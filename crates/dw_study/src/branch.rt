@@ -1,4 +1,4 @@
-//! Beginnings of an author's solution, and how it goes on from them.
+//! Beginnings of an author's solution, and their continuations.
 ghost use Rattle.std.specs.Prelude.{◌≡◌, ◌↔◌, ◌++◌, ◌∷◌, [], Some, IfOk, OnOk, IsTrue, MatchOption, map, not};
 ghost use Rattle.std.specs.Prelude.{slice_get};
 ghost use Rattle.dw_board.specs.Lists.{Member};
@@ -15,8 +15,8 @@ use dw_moves::play::play;
 use dw_moves::{Move, is_legal};
 use std::alloc::{AllocError, Global};
 
-/// A beginning of a path: its node, `None` at the root, and the position behind it; whether the attacker is to move
-/// there, and how many moves he has left.
+/// A beginning of a path: its node, `None` at the root, and the position there; whether the attacker is to move, and
+/// how many moves he has left.
 #[derive(Clone, Copy)]
 pub(crate) struct CheckNode<B: Board> {
     pub(crate) node: Option<Node>,
@@ -32,7 +32,7 @@ pub(crate) struct Child<B: Board> {
     pub(crate) mv: Move<B>,
 }
 
-/// What was seen of a beginning: the remarks on it, and the children behind which more is looked at.
+/// The result for a beginning: its remarks, and the children that are examined further.
 #[derive(Drop)]
 pub(crate) struct Seen<B: Board> {
     pub(crate) remarks: Vec<Remark<B>>,
@@ -40,7 +40,7 @@ pub(crate) struct Seen<B: Board> {
 }
 
 impl<B: Board> CheckNode<B> {
-    /// The beginning with one move more.
+    /// Returns the beginning with one move more.
     pub(crate) fn after(&self, child: &Child<B>) -> Self
         requires { Legal B.geometry self.now.position child.now.mv }
         ensures { result ≡ record {
@@ -63,7 +63,7 @@ impl<B: Board> CheckNode<B> {
     }
 }
 
-/// The nodes behind a node by moves that are legal at the position there, in the tree's order.
+/// Returns the children of a node by legal moves, in the tree's order.
 pub(crate) fn children<B: Board>(
     alloc: Global,
     tree: &Tree<B>,
@@ -85,7 +85,7 @@ pub(crate) fn children<B: Board>(
     Ok(children)
 }
 
-/// A node with the move before it, if that is legal.
+/// Returns a node with the move before it, if that is legal.
 fn legal_child<B: Board>(tree: &Tree<B>, node: Node, position: &Position<B>) -> Option<Child<B>>
     ensures { (b : _) (m : _) → slice_get tree.now node.0 ≡ Some (b ++ m ∷ [])
         → MatchOption result (Legal B.geometry position.now m → ⊥)
@@ -99,7 +99,7 @@ fn legal_child<B: Board>(tree: &Tree<B>, node: Node, position: &Position<B>) -> 
     }
 }
 
-/// The legal moves that are none of these children's, in order.
+/// Returns the legal moves that are none of these children's, in order.
 pub(crate) fn others<B: Board>(
     alloc: Global,
     position: &Position<B>,
@@ -118,7 +118,7 @@ pub(crate) fn others<B: Board>(
     Ok(others)
 }
 
-/// Whether one of these children is by this move.
+/// Returns whether one of these children is by this move.
 fn has<B: Board>(children: &[Child<B>], mv: &Move<B>) -> bool
     ensures { IsTrue result ↔ Member mv.now (map (λ c. c.mv) children.now) }
 {

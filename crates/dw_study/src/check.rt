@@ -1,4 +1,4 @@
-//! What an author's solution gets wrong, and what it leaves out.
+//! The comparison of an author's solution with all wins: wrong moves and missing ones.
 ghost use Rattle.std.specs.Prelude.{◌≡◌, ◌≤◌, ◌↔◌, [], Some, IfOk, IsTrue};
 ghost use Rattle.dw_memo.specs.Content.{IsMap};
 ghost use Rattle.dw_solve.specs.Facts.{AreTrue};
@@ -21,12 +21,10 @@ use dw_memo::Memo;
 use dw_solve::{Guide, Solver, Stop};
 use std::alloc::Global;
 
-/// Compares an author's solution to a position with the truth, within so many moves of the side to move, 1 to 20, and
-/// says whether it can win within them. Where a move is no key, nothing behind it is looked at; moves of the tree that
-/// are not legal where they stand are passed over. After a stop all bounds in the memo are right, and the call can be
-/// made again. The slices begin anew; no answer depends on them.
-/// Example: at `W:W27,32:B18` the solution `1. 32-28 18-22 2. 27x18`, within 2 moves, leaves the reply `18-23` open,
-/// and `28x17` is a key also.
+/// Compares an author's solution with all wins within `moves` moves of the side to move, 1 to 20, and returns whether
+/// there is a win. Moves after a move that fails are not examined, and illegal moves of the tree are skipped. After a
+/// stop all bounds in the memo are right, and the call can be repeated. The slices start again; no answer depends on
+/// them.
 pub fn check<B: Board, M: Memo<B>, G: Guide<B>, W: Watcher>(
     alloc: Global,
     solver: &mut Solver<B, M, G>,
@@ -52,7 +50,7 @@ pub fn check<B: Board, M: Memo<B>, G: Guide<B>, W: Watcher>(
     checked
 }
 
-/// What `check` answers, in slices that began before.
+/// Answers `check` in slices that go on from earlier ones.
 fn check_resuming<B: Board, M: Memo<B>, G: Guide<B>, W: Watcher>(
     alloc: Global,
     solver: &mut Solver<B, M, G>,
@@ -79,7 +77,7 @@ fn check_resuming<B: Board, M: Memo<B>, G: Guide<B>, W: Watcher>(
     Ok(Checked { wins, remarks })
 }
 
-/// The remarks on a beginning, and on all that is longer: those on it, and then those behind each child in turn.
+/// Returns the remarks on a beginning and its continuations, depth first.
 fn remarks_from<B: Board, M: Memo<B>, G: Guide<B>, W: Watcher>(
     alloc: Global,
     solver: &mut Solver<B, M, G>,
@@ -107,7 +105,7 @@ fn remarks_from<B: Board, M: Memo<B>, G: Guide<B>, W: Watcher>(
     Ok(remarks)
 }
 
-/// What is seen of a beginning.
+/// Returns the remarks on a beginning.
 fn seen<B: Board, M: Memo<B>, G: Guide<B>, W: Watcher>(
     alloc: Global,
     solver: &mut Solver<B, M, G>,

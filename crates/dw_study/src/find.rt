@@ -15,12 +15,11 @@ use dw_memo::Memo;
 use dw_solve::{Guide, Solver, Stop};
 use std::alloc::Global;
 
-/// The least number of moves within which the side to move wins, with the verdict and the tries at it; or those at the
-/// most moves asked for, if there is no win within them. It is undecided if as many positions were expanded as the
-/// bounds allow before the number was known, also if the solver's limit is met with the last of them. What the verdict
-/// and the tries then take has no limit but the solver's own, which stays what it is. After a stop all bounds in the
-/// memo are right, and the call can be made again. The slices begin anew; no answer depends on them.
-/// Example: at `W:W27,45:B16`, within 20 moves, it is 2 moves and sound by `45-40`.
+/// Returns the least number of moves within which the side to move wins, with the verdict and the tries for it. If
+/// there is no win within the greatest number in the bounds, it answers for that number. The answer is undecided if the
+/// number is not known after as many expansions as the bounds allow, also if the solver's limit is met with the last of
+/// them. The verdict and the tries have no limit but the solver's own, which stays the same. After a stop all bounds in
+/// the memo are right, and the call can be repeated. The slices start again; no answer depends on them.
 pub fn find<B: Board, M: Memo<B>, G: Guide<B>, W: Watcher>(
     alloc: Global,
     solver: &mut Solver<B, M, G>,

@@ -3,8 +3,6 @@ use dw_board::Board;
 use dw_verdict::Judged;
 
 /// How far is looked for a win.
-/// Example: `FindBounds { most: 20, each: Some(1_000_000) }` looks for one within 20 moves, until 1,000,000 positions
-/// were expanded.
 #[derive(Clone, Copy, Debug, PartialEq, Eq)]
 pub struct FindBounds {
     /// The most moves, 1 to 20.
@@ -14,7 +12,6 @@ pub struct FindBounds {
 }
 
 /// What is found of a position.
-/// See [`find`] for an example.
 #[derive(Drop)]
 pub enum Finding<B: Board> {
     /// The number of moves is known, and the position is judged at it.
@@ -26,7 +23,7 @@ pub enum Finding<B: Board> {
     },
     /// So many positions were expanded as was allowed, before the number was known.
     Undecided {
-        /// The greatest number of moves of which it was found out that there is no win within it; at least 0.
+        /// The greatest number of moves known to have no win; at least 0.
         no_win_in: u8,
     },
 }

@@ -51,9 +51,8 @@ impl<B: Board> Question<B, Judged<B>> for AllAsked {
     }
 }
 
-/// What `judge` answers, with searches that are cut into slices, which begin anew. After a stop all bounds in the memo
-/// are right, and the call can be made again.
-/// Example: at `W:W27,45:B16`, within 2 moves, it is sound by `45-40`, whatever the slices are.
+/// Answers `judge` with searches in slices, which start again. After a stop all bounds in the memo are right, and the
+/// call can be repeated.
 pub fn judge_in_slices<B: Board, M: Memo<B>, G: Guide<B>, W: Watcher>(
     alloc: Global,
     solver: &mut Solver<B, M, G>,
@@ -77,9 +76,8 @@ pub fn judge_in_slices<B: Board, M: Memo<B>, G: Guide<B>, W: Watcher>(
     judge_resuming(alloc, solver, position, moves, slices)
 }
 
-/// What `judge_in_slices` answers, in slices that began before, as
-/// [`wins_resuming`](crate::sliced::wins_resuming) does.
-/// Example: at `W:W27,45:B16`, within 2 moves, it is sound by `45-40`, and the slices start where they did.
+/// Answers `judge_in_slices` in slices that go on from earlier ones, as [`wins_resuming`](crate::sliced::wins_resuming)
+/// does.
 pub fn judge_resuming<B: Board, M: Memo<B>, G: Guide<B>, W: Watcher>(
     alloc: Global,
     solver: &mut Solver<B, M, G>,
@@ -101,8 +99,7 @@ pub fn judge_resuming<B: Board, M: Memo<B>, G: Guide<B>, W: Watcher>(
     ask_resuming(alloc, solver, position, moves, slices, &AllAsked)
 }
 
-/// The verdict that `judge_in_slices` answers, without the tries.
-/// Example: at `W:W27,45:B16`, within 2 moves, it is sound by `45-40`, whatever the slices are.
+/// Returns the verdict that `judge_in_slices` answers, without the tries.
 pub fn verdict_in_slices<B: Board, M: Memo<B>, G: Guide<B>, W: Watcher>(
     alloc: Global,
     solver: &mut Solver<B, M, G>,
@@ -125,8 +122,7 @@ pub fn verdict_in_slices<B: Board, M: Memo<B>, G: Guide<B>, W: Watcher>(
     verdict_resuming(alloc, solver, position, moves, slices)
 }
 
-/// The verdict that `judge_resuming` answers, without the tries.
-/// Example: at `W:W27,45:B16`, within 2 moves, it is sound by `45-40`, and the slices start where they did.
+/// Returns the verdict that `judge_resuming` answers, without the tries.
 pub fn verdict_resuming<B: Board, M: Memo<B>, G: Guide<B>, W: Watcher>(
     alloc: Global,
     solver: &mut Solver<B, M, G>,

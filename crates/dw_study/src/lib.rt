@@ -1,10 +1,8 @@
-//! What a composer or an editor asks of a position: the least number of moves within which it is won, with the verdict;
-//! and what an author's solution gets wrong or leaves out.
+//! Answers for composers and editors: the least number of moves with a win, with its verdict, and the comparison of an
+//! author's solution with all wins.
 //!
-//! Begin with `find`, which answers a `Finding`, or with `check`, which answers what is `Checked`; `Slices` say how
-//! their searches are cut into slices, and who is told between two of them how far it is.
-//!
-//! An example tells a position by its FEN text, on the board of ten rows if it names no other.
+//! Begin with `find`, which returns a `Finding`, or with `check`, which returns `Checked`. `Slices` cut searches into
+//! slices, and a `Watcher` learns between two of them how far the search is.
 #![tactic(auto)]
 
 mod beginning;

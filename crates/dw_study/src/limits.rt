@@ -5,7 +5,7 @@ use dw_board::Board;
 use dw_memo::Memo;
 use dw_solve::{Guide, Solver};
 
-/// Lowers the limit of a solver, if it is greater than this one, and answers what it was.
+/// Lowers the limit of a solver, if it is greater than this one, and returns the former limit.
 pub(crate) fn lower<B: Board, M: Memo<B>, G: Guide<B>>(
     solver: &mut Solver<B, M, G>,
     until: u64,

@@ -18,13 +18,13 @@ use std::alloc::Global;
 /// What was found out before a stop.
 #[derive(Clone, Copy)]
 pub(crate) struct Cut {
-    /// The greatest number of moves of which it is known that there is no win within it.
+    /// The greatest number of moves known to have no win.
     pub(crate) no_win_in: u8,
     /// Why the search for one more move was stopped.
     pub(crate) stop: Stop,
 }
 
-/// The number of moves at which a position is judged, as far as so many expansions suffice to find it out.
+/// Returns the number of moves at which a position is judged, as far as the expansions of `bounds` suffice to find it.
 pub(crate) fn number_within<B: Board, M: Memo<B>, G: Guide<B>, W: Watcher>(
     alloc: Global,
     solver: &mut Solver<B, M, G>,
@@ -53,7 +53,7 @@ pub(crate) fn number_within<B: Board, M: Memo<B>, G: Guide<B>, W: Watcher>(
     number
 }
 
-/// The count after as many expansions more as are allowed: the greatest there is, if any number is.
+/// Returns the count after as many expansions more as are allowed: the greatest there is, if any number is.
 fn count_after(expanded: u64, each: Option<u64>) -> u64
     requires { IfSome each (λ bound. 1 ≤ bound) }
     ensures some { 1 ≤ result }
@@ -66,7 +66,7 @@ fn count_after(expanded: u64, each: Option<u64>) -> u64
     }
 }
 
-/// The number of moves at which a position is judged, or what was found out of it before a stop.
+/// Returns the number of moves at which a position is judged, or the result so far at a stop.
 fn number<B: Board, M: Memo<B>, G: Guide<B>, W: Watcher>(
     alloc: Global,
     solver: &mut Solver<B, M, G>,

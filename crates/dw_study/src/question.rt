@@ -14,12 +14,12 @@ use dw_memo::Memo;
 use dw_solve::{Guide, Solver, Stop};
 use std::alloc::Global;
 
-/// What is asked of a solver about a position, with the type of the answer.
+/// A question to a solver about a position, with the type of its answer.
 pub(crate) trait Question<B: Board, A> {
-    /// It is the answer at a position, for a win within so many moves.
+    /// The right answer at a position, for a win within a number of moves.
     ghost is_answer: { Placement → ℕ → A → Type 0 };
 
-    /// Asks it, for a win within so many moves of the side to move, 1 to 20.
+    /// Asks for a win within `moves` moves of the side to move, 1 to 20.
     fn ask<M: Memo<B>, G: Guide<B>>(
         &self,
         alloc: Global,
@@ -34,7 +34,7 @@ pub(crate) trait Question<B: Board, A> {
         ensures map { IsMap (M.content solver.new.memo) };
 }
 
-/// What a question is answered, in slices that began before.
+/// Answers a question in slices that go on from earlier ones.
 pub(crate) fn ask_resuming<
     B: Board,
     M: Memo<B>,
@@ -71,7 +71,7 @@ pub(crate) fn ask_resuming<
     }
 }
 
-/// What a question is answered, under a limit that may be lower.
+/// Answers a question under a limit that may be lower.
 fn ask_until<B: Board, M: Memo<B>, G: Guide<B>, A: Drop, Q: Question<B, A>>(
     alloc: Global,
     solver: &mut Solver<B, M, G>,

@@ -3,8 +3,7 @@ use dw_board::Board;
 use dw_games::Node;
 use dw_moves::Move;
 
-/// A remark on an author's solution. A beginning is told by its node in the tree, `None` if it has no move.
-/// Example: at `W:W27,32:B18` the solution `1. 32-28`, within 2 moves, has the remark `Ends` behind `32-28`.
+/// A remark on an author's solution. Its place is a node of the tree, `None` before the first move.
 #[derive(Drop)]
 pub enum Remark<B: Board> {
     /// A move of the attacker is no key.
@@ -16,14 +15,14 @@ pub enum Remark<B: Board> {
         /// The first reply after which the attacker has no win within the moves that he has left.
         reply: Move<B>,
     },
-    /// The attacker has keys that the solution leaves out, though it goes on.
+    /// The attacker has keys that the solution lacks, though it has other moves.
     Also {
         /// The beginning before them.
         at: Option<Node>,
         /// All of them, in order.
         keys: Vec<Move<B>>,
     },
-    /// The defender has replies that the solution leaves out, though it goes on.
+    /// The defender has replies that the solution lacks, though it has other moves.
     Open {
         /// The beginning before them.
         at: Option<Node>,
@@ -32,18 +31,17 @@ pub enum Remark<B: Board> {
     },
     /// The solution does not go on, though the attacker is to move, or the defender is and can move.
     Ends {
-        /// The beginning behind which it has nothing.
+        /// The node after which it has no moves.
         at: Option<Node>,
     },
 }
 
 /// What was found out of an author's solution.
-/// See [`check`](crate::check::check) for an example.
 #[derive(Drop)]
 pub struct Checked<B: Board> {
     /// Whether there is a win within the moves asked for.
     pub wins: bool,
-    /// What is remarked, beginning by beginning: of one the moves that fail, then keys, replies or an end; then what is
-    /// remarked behind it, in the order of the tree.
+    /// The remarks, place by place: failing moves, then missing keys, missing replies or an end; then the remarks after
+    /// it, in the order of the tree.
     pub remarks: Vec<Remark<B>>,
 }

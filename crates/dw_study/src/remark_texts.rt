@@ -20,10 +20,8 @@ use dw_report::joined_text;
 use itoa::Buffer;
 use std::alloc::{AllocError, Global};
 
-/// The text of a remark on a tree of a position, as `check` makes it; none, if some move that it names can not be
-/// played there, or stands behind more than 39 others.
-/// Example: at `W:W27,32:B18`, within 2 moves, that of the first remark on `1. 32-28 18-22 2. 27x18` is
-/// `open 1. 32-28: 18-23` and a line end.
+/// Returns the text of a remark on a tree of a position, as `check` makes it, or `None` if a move that it names is not
+/// legal there or comes after more than 39 others.
 pub fn remark_text<B: Board>(
     alloc: Global,
     position: &Position<B>,
@@ -55,7 +53,7 @@ pub fn remark_text<B: Board>(
     }
 }
 
-/// The text of a move that fails.
+/// Returns the text of a move that fails.
 fn fails_text<B: Board>(
     alloc: Global,
     beginning: &Beginning<B>,
@@ -92,7 +90,7 @@ fn fails_text<B: Board>(
     Ok(Some(text))
 }
 
-/// The text of keys that are left out.
+/// Returns the text of keys that are left out.
 fn also_text<B: Board>(
     alloc: Global,
     beginning: &Beginning<B>,
@@ -120,7 +118,7 @@ fn also_text<B: Board>(
     Ok(Some(text))
 }
 
-/// The text of replies that are left open.
+/// Returns the text of replies that are left open.
 fn open_text<B: Board>(
     alloc: Global,
     beginning: &Beginning<B>,
@@ -140,7 +138,7 @@ fn open_text<B: Board>(
     Ok(Some(text))
 }
 
-/// The text of an end.
+/// Returns the text of an end.
 fn ends_text<B: Board>(
     alloc: Global,
     beginning: &Beginning<B>,
@@ -153,7 +151,7 @@ fn ends_text<B: Board>(
     Ok(Some(text))
 }
 
-/// Whether all moves are legal at a position.
+/// Returns whether all moves are legal at a position.
 pub(crate) fn are_legal<B: Board>(position: &Position<B>, moves: &[Move<B>]) -> bool
     ensures { (result ≡ true) ↔ ((m : of.Move) → Member m moves.now → Legal B.geometry position.now m) }
 {

@@ -21,7 +21,7 @@ use dw_moves::play::play;
 use dw_solve::{Guide, Solver, Stop};
 use std::alloc::{AllocError, Global};
 
-/// What is seen where the attacker is to move: he can follow the children that win.
+/// Returns the remarks at a turn of the attacker. He can follow the children that win.
 pub(crate) fn seen_by_attacker<B: Board, M: Memo<B>, G: Guide<B>, W: Watcher>(
     alloc: Global,
     solver: &mut Solver<B, M, G>,
@@ -55,7 +55,7 @@ pub(crate) fn seen_by_attacker<B: Board, M: Memo<B>, G: Guide<B>, W: Watcher>(
     Ok(seen)
 }
 
-/// What is seen where the defender is to move: he can follow all children.
+/// Returns the remarks at a turn of the defender. He can follow all children.
 pub(crate) fn seen_by_defender<B: Board>(
     alloc: Global,
     tree: &Tree<B>,
@@ -86,7 +86,7 @@ pub(crate) fn seen_by_defender<B: Board>(
     Ok(Seen { remarks, followed })
 }
 
-/// What is seen where the solution ends.
+/// Returns the remarks at the end of the solution.
 fn end<B: Board>(alloc: Global, spot: &CheckNode<B>) -> Result<Seen<B>, AllocError>
     ensures remarks { IfOk result (λ seen. seen.remarks.items ≡ Remark.Ends spot.now.node ∷ []) }
     ensures followed { IfOk result (λ seen. seen.followed.items ≡ []) }
@@ -99,7 +99,7 @@ fn end<B: Board>(alloc: Global, spot: &CheckNode<B>) -> Result<Seen<B>, AllocErr
     })
 }
 
-/// The children that win, and remarks on those that fail.
+/// Returns the children that win, and remarks on those that fail.
 fn sorted<B: Board, M: Memo<B>, G: Guide<B>, W: Watcher>(
     alloc: Global,
     solver: &mut Solver<B, M, G>,
@@ -136,7 +136,7 @@ fn sorted<B: Board, M: Memo<B>, G: Guide<B>, W: Watcher>(
     Ok(Seen { remarks, followed })
 }
 
-/// Those of some legal moves that win.
+/// Returns those of some legal moves that win.
 fn winning<B: Board, M: Memo<B>, G: Guide<B>, W: Watcher>(
     alloc: Global,
     solver: &mut Solver<B, M, G>,
@@ -163,7 +163,7 @@ fn winning<B: Board, M: Memo<B>, G: Guide<B>, W: Watcher>(
     Ok(keys)
 }
 
-/// The first reply after which the attacker has no win within so many moves, if there is one.
+/// Returns the first reply after which the attacker has no win within `left` moves, if there is one.
 fn refutation<B: Board, M: Memo<B>, G: Guide<B>, W: Watcher>(
     alloc: Global,
     solver: &mut Solver<B, M, G>,

@@ -16,9 +16,8 @@ use dw_memo::Memo;
 use dw_solve::{Guide, Solver, Stop};
 use std::alloc::Global;
 
-/// What `Solver::wins` answers, with a search that is cut into slices, which begin anew. After a stop all bounds in the
-/// memo are right, and it can be asked again.
-/// Example: at `W:W27,45:B16` it is `Ok(false)` within 1 move, and `Ok(true)` within 2, whatever the slices are.
+/// Answers `Solver::wins` with a search in slices, which start again. After a stop all bounds in the memo are right,
+/// and the call can be repeated.
 pub fn wins_in_slices<B: Board, M: Memo<B>, G: Guide<B>, W: Watcher>(
     alloc: Global,
     solver: &mut Solver<B, M, G>,
@@ -47,9 +46,8 @@ pub fn wins_in_slices<B: Board, M: Memo<B>, G: Guide<B>, W: Watcher>(
     wins_resuming(alloc, solver, position, moves, slices)
 }
 
-/// What `wins_in_slices` answers, in slices that began before: those of a run of questions, of which the watcher is
-/// told as of one search.
-/// Example: at `W:W27,45:B16` it is `Ok(true)` within 2 moves, and the slices start where they did.
+/// Answers `wins_in_slices` in slices that go on from earlier ones: a run of questions appears as one search to the
+/// watcher.
 pub fn wins_resuming<B: Board, M: Memo<B>, G: Guide<B>, W: Watcher>(
     alloc: Global,
     solver: &mut Solver<B, M, G>,
@@ -85,7 +83,7 @@ pub fn wins_resuming<B: Board, M: Memo<B>, G: Guide<B>, W: Watcher>(
     }
 }
 
-/// What `Solver::wins` answers, under a limit that may be lower.
+/// Answers `Solver::wins` under a limit that may be lower.
 fn wins_until<B: Board, M: Memo<B>, G: Guide<B>>(
     alloc: Global,
     solver: &mut Solver<B, M, G>,

@@ -11,10 +11,8 @@ use dw_report::judged_text;
 use itoa::Buffer;
 use std::alloc::{AllocError, Global};
 
-/// The text of what `find` answered of a position: the verdict and the tries, as a report has them, or how far it is
-/// known that there is no win.
-/// Example: at `W:W27,45:B16` it has the three lines `sound in 2: 45-40`, `try 27-21 refuted by 16x27` and
-/// `try 27-22 refuted by 16-21`; if it is undecided at 1 move, it is the line `undecided, no win in 1`.
+/// Returns the text of a `Finding`: the verdict and the tries as in a report, or the greatest number of moves known to
+/// have no win.
 pub fn found_text<B: Board>(
     alloc: Global,
     position: &Position<B>,

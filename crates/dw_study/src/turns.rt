@@ -6,8 +6,7 @@ use crate::beginning::moves_to;
 use dw_board::Board;
 use dw_games::Tree;
 
-/// The most moves of the attacker on a path of a tree, of those that have at most 39 moves: 0 to 20.
-/// Example: `1. 32-28 18-22 2. 27x18` has 2.
+/// Returns the most moves of the attacker on a path of a tree, of those that have at most 39 moves: 0 to 20.
 pub fn turns_of<B: Board>(tree: &Tree<B>) -> u8
     ensures turns { HasTurns tree.now result }
     ensures few { result ≤ 20 }

@@ -1,4 +1,4 @@
-//! The texts that a remark on an author's solution is told by, one by one.
+//! The parts of the text of a remark, one by one.
 ghost use Rattle.std.specs.Prelude.{◌≡◌, [], Some, List, map, IfOk, IfSome, IsSome};
 ghost use Rattle.std.specs.String.{string_bytes};
 ghost use Rattle.dw_board.specs.Lists.{Member};
@@ -22,7 +22,6 @@ use dw_notation::text_in;
 use std::alloc::{AllocError, Global};
 
 /// The texts of a remark.
-/// Example: `open 1. 32-28: 18-23` has the line `1. 32-28`, the move `18-23` and no refutation.
 #[derive(Drop)]
 pub struct RemarkWords {
     /// The beginning that it is on, as a line; empty, if that has no move.
@@ -33,10 +32,8 @@ pub struct RemarkWords {
     pub refutation: Option<String>,
 }
 
-/// The texts of a remark on a tree of a position, as `check` makes it; none, if some move that it names can not be
-/// played there, or stands behind more than 39 others.
-/// Example: at `W:W27,32:B18`, within 2 moves, those of the first remark on `1. 32-28 18-22 2. 27x18` are the line
-/// `1. 32-28` and the move `18-23`.
+/// Returns the parts of the text of a remark on a tree of a position, as `check` makes it, or `None` if a move that it
+/// names is not legal there or comes after more than 39 others.
 pub fn remark_words<B: Board>(
     alloc: Global,
     position: &Position<B>,
@@ -68,7 +65,7 @@ pub fn remark_words<B: Board>(
     }
 }
 
-/// The texts of a move that fails.
+/// Returns the texts of a move that fails.
 fn fails_words<B: Board>(
     alloc: Global,
     beginning: &Beginning<B>,
@@ -99,7 +96,7 @@ fn fails_words<B: Board>(
     }))
 }
 
-/// The texts of moves that are missing.
+/// Returns the texts of moves that are missing.
 fn words_for<B: Board>(
     alloc: Global,
     beginning: &Beginning<B>,
@@ -120,7 +117,7 @@ fn words_for<B: Board>(
     }))
 }
 
-/// The texts of an end.
+/// Returns the texts of an end.
 fn end_words<B: Board>(
     alloc: Global,
     beginning: &Beginning<B>,
@@ -136,8 +133,7 @@ fn end_words<B: Board>(
     }))
 }
 
-/// The texts of legal moves of a position, in their order.
-/// Example: at `W:W27,32:B18` those of the first two are `27-21` and `27-22`.
+/// Returns the texts of legal moves of a position, in their order.
 pub fn move_texts<B: Board>(
     alloc: Global,
     position: &Position<B>,

@@ -11,7 +11,7 @@ enum Before {
     Digit(u8),
 }
 
-/// The bytes that a text stands for, if it stands for some.
+/// Returns the bytes that a text stands for, if it stands for some.
 pub fn unescaped(alloc: Global, text: &str) -> Option<Vec<u8>> {
     let mut bytes = Vec::new(alloc);
     let mut before = Before::Nothing;
@@ -28,7 +28,7 @@ pub fn unescaped(alloc: Global, text: &str) -> Option<Vec<u8>> {
     }
 }
 
-/// What comes before the next byte, and the byte that is whole now, if one is.
+/// Returns what comes before the next byte, and the byte that is whole now, if one is.
 fn taken(before: Before, byte: u8) -> Option<(Before, Option<u8>)> {
     match (before, byte) {
         (Before::Nothing, b'\\') => Some((Before::Backslash, None)),
@@ -43,7 +43,7 @@ fn taken(before: Before, byte: u8) -> Option<(Before, Option<u8>)> {
     }
 }
 
-/// The byte that a letter behind a backslash stands for.
+/// Returns the byte that a letter after a backslash means.
 fn marked(letter: u8) -> Option<u8> {
     match letter {
         b'n' => Some(b'\n'),
@@ -54,7 +54,7 @@ fn marked(letter: u8) -> Option<u8> {
     }
 }
 
-/// The number of a digit to the base 16.
+/// Returns the number of a digit to the base 16.
 fn digit(byte: u8) -> Option<u8> {
     match byte {
         b'0'..=b'9' => Some(byte - b'0'),

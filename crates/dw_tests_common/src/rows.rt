@@ -1,8 +1,8 @@
-//! Rows of text: what is asked, and what has to be answered.
+//! Rows of text: questions and the right answers.
 //!
 //! A line that begins with `#` is a comment. A line that begins with no blank is the head of a section. The lines below
-//! it, which begin with two blanks, are its rows: `ASKED = WANTED`. Lines that begin with `> ` behind the two blanks go
-//! on with what is wanted of the row above them, each with its line end.
+//! it, which begin with two blanks, are its rows: `ASKED = WANTED`. Lines that begin with two blanks and `> ` continue
+//! the right answer of the row above them, each with its line end.
 
 use std::alloc::{AllocError, Global};
 use std::io;
@@ -22,12 +22,12 @@ pub struct Section {
     pub rows: Vec<Row>,
 }
 
-/// All sections of standard input.
+/// Returns all sections of standard input.
 pub fn input_sections(rt: &HostRuntime) -> io::Result<Vec<Section>> {
     read_sections(rt.alloc(), BufReader::new(rt.alloc(), rt.reader())?)
 }
 
-/// All sections of a text.
+/// Returns all sections of a text.
 fn read_sections<R: BufRead + Drop>(alloc: Global, input: R) -> io::Result<Vec<Section>> {
     let mut sections = Vec::new(alloc);
     for line in input.lines(alloc) {
@@ -36,7 +36,7 @@ fn read_sections<R: BufRead + Drop>(alloc: Global, input: R) -> io::Result<Vec<S
     Ok(sections)
 }
 
-/// A row that stands in no section is made a head, and so it is seen that it says nothing.
+/// Makes a row outside all sections a head, so that it shows up as empty.
 fn add_line(alloc: Global, sections: &mut Vec<Section>, line: &str) -> Result<(), AllocError> {
     if line.is_empty() || line.starts_with('#') {
         return Ok(());
@@ -67,12 +67,12 @@ fn add_row(alloc: Global, rows: &mut Vec<Row>, text: &str) -> Result<(), AllocEr
     Ok(())
 }
 
-/// The column of this place, counted from 0, without the blanks around it; nothing if there is none.
+/// Returns the column of this place, counted from 0, without the blanks around it; nothing if there is none.
 pub fn column(text: &str, place: usize) -> &str {
     text.split('|').nth(place).unwrap_or("").trim()
 }
 
-/// The word of this place, counted from 0; nothing if there is none.
+/// Returns the word of this place, counted from 0; nothing if there is none.
 pub fn word(text: &str, place: usize) -> &str {
     text.split_whitespace().nth(place).unwrap_or("")
 }

@@ -42,7 +42,7 @@ impl io::Read for Chopped<'_> {
     }
 }
 
-/// Gives one line again and again, so many times.
+/// A source that repeats one line a number of times.
 #[derive(Drop)]
 pub struct Repeated {
     line: &'static [u8],

@@ -38,7 +38,7 @@ impl RowText {
         self.is_cut = write!(self.text, "{value:?}").is_err() || self.is_cut;
     }
 
-    /// What was added so far.
+    /// Returns what was added so far.
     pub fn as_str(&self) -> &str {
         self.text.as_str()
     }

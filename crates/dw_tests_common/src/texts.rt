@@ -8,12 +8,12 @@ use dw_moves::{Move, is_legal};
 use dw_notation::read_move::read_move;
 use std::alloc::Global;
 
-/// The square of this number.
+/// Returns the square of this number.
 pub fn square_of<B: Board>(text: &str) -> Option<Square<B>> {
     Square::new(text.parse::<u8>().ok()?)
 }
 
-/// The set of the squares of these numbers, with blanks between them.
+/// Returns the set of the squares of these numbers, with blanks between them.
 pub fn set_of<B: Board>(text: &str) -> Option<Squares<B>> {
     let mut squares = Squares::none();
     for number in text.split_whitespace() {
@@ -22,7 +22,7 @@ pub fn set_of<B: Board>(text: &str) -> Option<Squares<B>> {
     Some(squares)
 }
 
-/// A move that need not be legal: `FROM TO`, or `FROM TO taking SQUARES`.
+/// Returns a move that need not be legal: `FROM TO`, or `FROM TO taking SQUARES`.
 pub fn step_of<B: Board>(text: &str) -> Option<Move<B>> {
     let (ends, taken) = text.split_once(" taking ").unwrap_or((text, ""));
     let (from, to) = ends.split_once(' ')?;
@@ -33,12 +33,12 @@ pub fn step_of<B: Board>(text: &str) -> Option<Move<B>> {
     })
 }
 
-/// The position that a FEN text names, if it names one.
+/// Returns the position that a FEN text names, if it names one.
 pub fn read_position<B: Board>(text: &str) -> Option<Position<B>> {
     read_fen::<B>(text.as_bytes()).ok()
 }
 
-/// The legal move that a text names, if it names one.
+/// Returns the legal move that a text names, if it names one.
 pub fn read_legal<B: Board>(alloc: Global, position: &Position<B>, text: &str) -> Option<Move<B>>
     ensures { IfSome result (λ step. Legal B.geometry position.now step) }
 {

@@ -28,17 +28,17 @@ impl<'a> Asked<'a> {
         }
     }
 
-    /// The column of this place, counted from 0.
+    /// Returns the column of this place, counted from 0.
     pub fn column(&self, place: usize) -> &'a str {
         column(self.text, place)
     }
 
-    /// The number in a column, if one stands there.
+    /// Returns the number in a column, if one stands there.
     pub fn number(&self, place: usize) -> Option<u64> {
         self.column(place).parse::<u64>().ok()
     }
 
-    /// Within how many moves a win is looked for, 1 to 20.
+    /// Returns the number of moves of a row, 1 to 20.
     pub fn moves(&self) -> Option<u8>
         ensures some { IfSome result (λ moves. 1 ≤ moves) }
         ensures few { IfSome result (λ moves. moves ≤ 20) }
@@ -59,12 +59,12 @@ impl<'a> Asked<'a> {
         }
     }
 
-    /// The line after which lines are listed, if one is asked for and its token is one.
+    /// Returns the line after which lines are listed, if one is asked for and its token is one.
     fn after<B: Board>(&self) -> Option<ArrayVec<Move<B>, 39>> {
         read_token(self.column(3).as_bytes()).ok()
     }
 
-    /// The settings, with this limit of expansions.
+    /// Returns the settings, with this limit of expansions.
     pub fn settings<B: Board>(&self, limit: u64) -> Option<Settings<B>>
         ensures some { IfSome result (λ settings. 1 ≤ settings.n) }
         ensures few { IfSome result (λ settings. settings.n ≤ 20) }

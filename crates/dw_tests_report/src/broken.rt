@@ -10,7 +10,7 @@ use dw_tests_common::streams::{Chopped, Narrow};
 use dw_tests_common::tally::RowText;
 use std::alloc::Global;
 
-/// The first lines of a text, so many.
+/// Returns the first `lines` lines of a text.
 fn front_of(text: &[u8], lines: usize) -> &[u8] {
     let mut left = lines;
     for (place, byte) in text.iter().enumerate() {
@@ -24,8 +24,8 @@ fn front_of(text: &[u8], lines: usize) -> &[u8] {
     text
 }
 
-/// How many lines are written of the problems that end in so many bytes. `ended` has a word BYTES:LINES for each
-/// problem, in order.
+/// Returns how many lines are written of the problems that end in the first `bytes` bytes. `ended` has a word
+/// BYTES:LINES for each problem, in order.
 fn lines_in(ended: &str, bytes: usize) -> Option<usize> {
     let mut lines = 0;
     for word in ended.split_whitespace() {
@@ -37,8 +37,8 @@ fn lines_in(ended: &str, bytes: usize) -> Option<usize> {
     Some(lines)
 }
 
-/// Nothing, unless a source that gives so many bytes a read and fails at one leaves the sink just with the whole texts
-/// of the problems that ended before, and with the whole report if that read is not needed.
+/// Returns `None` unless a source that gives a fixed number of bytes a read and fails at one leaves the sink just with
+/// the whole texts of the problems that ended before, and with the whole report if that read is not needed.
 fn fails_at_reads<B: Board>(
     alloc: Global,
     asked: &Asked<'_>,
@@ -72,7 +72,7 @@ fn fails_at_reads<B: Board>(
     if ended { Some(()) } else { None }
 }
 
-/// The report and the answer, if each read fails as it should.
+/// Adds the report and the answer, if each read fails as it should.
 pub fn reads<B: Board>(alloc: Global, asked: &Asked<'_>, found: &mut RowText) -> Option<()> {
     let text = unescaped(alloc, asked.column(0))?;
     let settings = asked.settings::<B>(AMPLE)?;
@@ -87,7 +87,8 @@ pub fn reads<B: Board>(alloc: Global, asked: &Asked<'_>, found: &mut RowText) ->
     whole.say(found)
 }
 
-/// What a run answers and writes to a sink that takes so many bytes a write and fails at one of its writes.
+/// Returns what a run answers and writes to a sink that takes a fixed number of bytes a write and fails at one of its
+/// writes.
 fn narrowed<B: Board>(
     alloc: Global,
     settings: &Settings<B>,
@@ -110,8 +111,8 @@ fn narrowed<B: Board>(
     )
 }
 
-/// Nothing, unless a sink that takes so many bytes a write and fails at one has a beginning of the report, byte for
-/// byte.
+/// Returns `None` unless a sink that takes a fixed number of bytes a write and fails at one has a beginning of the
+/// report, byte for byte.
 fn fails_at_writes<B: Board>(
     alloc: Global,
     settings: &Settings<B>,
@@ -141,7 +142,7 @@ fn fails_at_writes<B: Board>(
     if ended { Some(()) } else { None }
 }
 
-/// Nothing, unless a run fails whose sink takes nothing.
+/// Returns `None` unless a run fails whose sink takes nothing.
 fn fails_at_once<B: Board>(alloc: Global, settings: &Settings<B>, text: &[u8]) -> Option<()>
     requires some { 1 ≤ settings.now.n }
     requires few { settings.now.n ≤ 20 }
@@ -155,7 +156,7 @@ fn fails_at_once<B: Board>(alloc: Global, settings: &Settings<B>, text: &[u8]) -
     }
 }
 
-/// The report and the answer, if each write fails as it should, and a sink that takes nothing.
+/// Adds the report and the answer, if each write fails as it should, and a sink that takes nothing.
 pub fn writes<B: Board>(alloc: Global, asked: &Asked<'_>, found: &mut RowText) -> Option<()> {
     let text = unescaped(alloc, asked.column(0))?;
     let settings = asked.settings::<B>(AMPLE)?;

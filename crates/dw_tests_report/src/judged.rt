@@ -14,7 +14,7 @@ use dw_tests_common::tally::RowText;
 use dw_tests_common::texts::{add_step, read_position};
 use std::alloc::Global;
 
-/// Adds moves, each in a line of its own behind a word.
+/// Adds moves, each in a line of its own after a word.
 fn add_moves<B: Board>(word: &str, moves: &[Move<B>], found: &mut RowText) {
     for step in moves {
         found.add(word);
@@ -75,7 +75,7 @@ fn add_answer<B: Board>(
     }
 }
 
-/// The position of a row, and within how many moves a win is looked for.
+/// Returns the position of a row, and within how many moves a win is looked for.
 fn question<B: Board>(asked: &Asked<'_>) -> Option<(Position<B>, u8)>
     ensures some { IfSome result (λ read. 1 ≤ read.1) }
     ensures few { IfSome result (λ read. read.1 ≤ 20) }
@@ -84,7 +84,7 @@ fn question<B: Board>(asked: &Asked<'_>) -> Option<(Position<B>, u8)>
     Some((position, asked.moves()?))
 }
 
-/// What is judged of a position, with no memo.
+/// Adds the verdict on a position, without a memo.
 pub fn judged<B: Board>(alloc: Global, asked: &Asked<'_>, found: &mut RowText) -> Option<()> {
     let (position, moves) = question::<B>(asked)?;
     let memo = AnyMemo::None(NoMemo::new());
@@ -96,7 +96,7 @@ pub fn judged<B: Board>(alloc: Global, asked: &Asked<'_>, found: &mut RowText) -
     }
 }
 
-/// What is judged under limits that rise by one, with a memo: the solver is asked again until it has an answer.
+/// Adds the verdict under limits that rise by one, with a memo: the solver is asked again until it has an answer.
 pub fn stopped<B: Board>(alloc: Global, asked: &Asked<'_>, found: &mut RowText) -> Option<()> {
     let (position, moves) = question::<B>(asked)?;
     let memo = AnyMemo::Lru(LruMemo::new(alloc, 1_000).ok()?);
@@ -104,8 +104,8 @@ pub fn stopped<B: Board>(alloc: Global, asked: &Asked<'_>, found: &mut RowText) 
     add_at_last(alloc, &mut solver, &position, moves, found)
 }
 
-/// What is judged with the memo that the head names. Where a memo or the solver is refused memory it says so, and
-/// then it can be asked again (`checks/refused_search.py` refuses it).
+/// Adds the verdict with the memo of the head. If memory is refused it says so, and then it can be asked again
+/// (`checks/refused_search.py` refuses memory).
 pub fn refused<B: Board>(alloc: Global, asked: &Asked<'_>, found: &mut RowText) -> Option<()> {
     let (position, moves) = question::<B>(asked)?;
     let name = word(asked.head, 4);

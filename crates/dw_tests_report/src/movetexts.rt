@@ -10,7 +10,7 @@ use dw_tests_common::tally::RowText;
 use dw_tests_common::texts::read_position;
 use std::alloc::Global;
 
-/// The verdict of this name.
+/// Returns the verdict of this name.
 fn kind_named(name: &str) -> Option<VerdictKind> {
     match name {
         "unsolvable" => Some(VerdictKind::Unsolvable),
@@ -21,7 +21,7 @@ fn kind_named(name: &str) -> Option<VerdictKind> {
     }
 }
 
-/// Adds the movetext of a row, `POSITION | NUMBER OF MOVES | MOST LINES | VERDICT`, with a line feed behind it.
+/// Adds the movetext of a row, `POSITION | NUMBER OF MOVES | MOST LINES | VERDICT`, with a line feed after it.
 pub fn written<B: Board>(alloc: Global, asked: &Asked<'_>, found: &mut RowText) -> Option<()> {
     let position: Position<B> = read_position(asked.column(0))?;
     let moves = asked.moves()?;
@@ -29,8 +29,8 @@ pub fn written<B: Board>(alloc: Global, asked: &Asked<'_>, found: &mut RowText) 
     let kind = kind_named(asked.column(3))?;
     let mut solver = Solver::new(NoMemo::new(), ByTrial, AMPLE);
     let first = first_lines(alloc, &mut solver, &position, moves, most).ok()?;
-    let text = movetext(alloc, &position, &first, Heading { kind, moves }).ok()?;
-    for byte in text.as_slice() {
+    let written = movetext(alloc, &first, Heading { kind, moves }).ok()?;
+    for byte in written.text.as_slice() {
         found.say(&char::from(*byte));
     }
     found.add("\n");

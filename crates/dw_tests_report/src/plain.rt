@@ -12,7 +12,7 @@ use dw_tests_common::streams::{Narrow, Repeated};
 use dw_tests_common::tally::RowText;
 use std::alloc::Global;
 
-/// The report on a text of so many lines, each of one letter that names no position.
+/// Adds the report on a text of many lines, each of one letter that names no position.
 pub fn many<B: Board>(alloc: Global, asked: &Asked<'_>, found: &mut RowText) -> Option<()> {
     let lines = asked.column(0).parse::<u32>().ok()?;
     let settings = asked.settings::<B>(AMPLE)?;
@@ -24,7 +24,7 @@ pub fn many<B: Board>(alloc: Global, asked: &Asked<'_>, found: &mut RowText) -> 
     Ran { answer, written }.say(found)
 }
 
-/// Whether the problem of a number is reported, and whether it is the one that was asked for.
+/// Adds whether the problem of a number is reported, and whether it is the one that was asked for.
 pub fn chosen<B: Board>(asked: &Asked<'_>, found: &mut RowText) -> Option<()> {
     let settings = asked.settings::<B>(AMPLE)?;
     let number = asked.column(0).parse::<u32>().ok()?;

@@ -11,7 +11,7 @@ use dw_tests_common::streams::{Chopped, Narrow};
 use dw_tests_common::tally::RowText;
 use std::alloc::Global;
 
-/// A run that reads and writes so many bytes at a time.
+/// Returns a run that reads and writes a fixed number of bytes at a time.
 fn in_pieces<B: Board>(
     alloc: Global,
     settings: &Settings<B>,
@@ -28,7 +28,7 @@ fn in_pieces<B: Board>(
     ran_with(alloc, settings, memo, reader, writer)
 }
 
-/// Nothing, unless runs with this memo write and answer the same in whatever pieces.
+/// Returns `None` unless runs with this memo write and answer the same in whatever pieces.
 fn same_with<B: Board>(
     alloc: Global,
     settings: &Settings<B>,
@@ -50,7 +50,7 @@ fn same_with<B: Board>(
     Some(())
 }
 
-/// The report, and what the run answers, which are the same with each memo and in whatever pieces.
+/// Adds the report, and what the run answers, which are the same with each memo and in whatever pieces.
 pub fn whole<B: Board>(alloc: Global, asked: &Asked<'_>, found: &mut RowText) -> Option<()> {
     let text = unescaped(alloc, asked.column(0))?;
     let settings = asked.settings::<B>(AMPLE)?;
@@ -62,8 +62,8 @@ pub fn whole<B: Board>(alloc: Global, asked: &Asked<'_>, found: &mut RowText) ->
     Some(())
 }
 
-/// Whether a run under this limit was stopped after the first line and whole lines of the rest of a report, of which no
-/// less was written than that many bytes.
+/// Returns whether a run under this limit was stopped after the first line and whole lines of the rest of a report, of
+/// which no less was written than that many bytes.
 fn is_stopped(ran: &Ran, whole: &[u8], limit: u64, most: usize) -> bool {
     let taken = ran.written.as_slice();
     let stopped = RunFault::Stopped {
@@ -77,14 +77,14 @@ fn is_stopped(ran: &Ran, whole: &[u8], limit: u64, most: usize) -> bool {
         && taken.len() >= most
 }
 
-/// A run with no memo, under this limit of expansions.
+/// Returns a run with no memo, under this limit of expansions.
 fn limited<B: Board>(alloc: Global, asked: &Asked<'_>, text: &[u8], limit: u64) -> Option<Ran> {
     let settings = asked.settings::<B>(limit)?;
     in_pieces(alloc, &settings, "none", text, 4096)
 }
 
-/// The report and the answer, if under limits that rise by one from 1 a run is stopped, or it is whole, and then it is
-/// so with each higher limit.
+/// Adds the report and the answer, if under limits that rise by one from 1 a run is stopped, or it is whole, and then
+/// it is so with each higher limit.
 pub fn limits<B: Board>(alloc: Global, asked: &Asked<'_>, found: &mut RowText) -> Option<()> {
     let text = unescaped(alloc, asked.column(0))?;
     let whole = limited::<B>(alloc, asked, text.as_slice(), AMPLE)?;
@@ -106,7 +106,7 @@ pub fn limits<B: Board>(alloc: Global, asked: &Asked<'_>, found: &mut RowText) -
     if ended { whole.say(found) } else { None }
 }
 
-/// Nothing, unless the report on a text is the same in whatever pieces, and begins with a problem.
+/// Returns `None` unless the report on a text is the same in whatever pieces, and begins with a problem.
 fn reported<B: Board>(alloc: Global, settings: &Settings<B>, text: &[u8]) -> Option<()>
     requires some { 1 ≤ settings.now.n }
     requires few { settings.now.n ≤ 20 }
@@ -123,7 +123,7 @@ fn reported<B: Board>(alloc: Global, settings: &Settings<B>, text: &[u8]) -> Opt
     }
 }
 
-/// Nothing, unless a text has a report while this byte is changed to a mark.
+/// Returns `None` unless a text has a report while this byte is changed to a mark.
 fn reported_with<B: Board>(
     alloc: Global,
     settings: &Settings<B>,
@@ -143,7 +143,7 @@ fn reported_with<B: Board>(
     Some(())
 }
 
-/// How many texts have a report, if each byte of a text is changed in turn to each mark of the form.
+/// Adds how many texts have a report, if each byte of a text is changed in turn to each mark of the form.
 pub fn changed<B: Board>(alloc: Global, asked: &Asked<'_>, found: &mut RowText) -> Option<()> {
     let mut text = unescaped(alloc, asked.column(0))?;
     let settings = asked.settings::<B>(AMPLE)?;

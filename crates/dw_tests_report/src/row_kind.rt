@@ -18,7 +18,7 @@ pub enum RowKind {
 }
 
 impl RowKind {
-    /// The kind that a word names.
+    /// Returns the kind that a word names.
     pub fn named(word: &str) -> Option<RowKind> {
         match word {
             "judge" => Some(RowKind::Judge),

@@ -21,7 +21,7 @@ pub struct Ran {
 }
 
 impl Ran {
-    /// Whether another run answered and wrote the same.
+    /// Returns whether another run answered and wrote the same.
     pub fn is_same(&self, other: &Ran) -> bool {
         self.answer == other.answer && self.written.as_slice() == other.written.as_slice()
     }
@@ -38,7 +38,7 @@ impl Ran {
     }
 }
 
-/// A run with a memo.
+/// Returns a run with a memo.
 fn run_over<B: Board>(
     alloc: Global,
     settings: &Settings<B>,
@@ -59,7 +59,7 @@ fn run_over<B: Board>(
     Ran { answer, written }
 }
 
-/// A run with the memo that is named, `none`, `lru:SIZE` or `slots:SIZE`.
+/// Returns a run with the memo that is named, `none`, `lru:SIZE` or `slots:SIZE`.
 pub fn ran_with<B: Board>(
     alloc: Global,
     settings: &Settings<B>,
@@ -76,7 +76,7 @@ pub fn ran_with<B: Board>(
     Some(run_over(alloc, settings, memo, reader, writer))
 }
 
-/// The memo that is named.
+/// Returns the memo that is named.
 pub fn new_memo<B: Board>(alloc: Global, memo: &str) -> Option<AnyMemo<B>>
     ensures { IfSome result (λ m. content_of m ≡ []) }
 {

@@ -19,8 +19,8 @@ const ANSWERS: u32 = 8;
 /// The most bytes of a movetext that is shown, and not counted.
 const SHOWN: usize = 100;
 
-/// The games of a text: of each what its section says, and its movetext. Whatever the pieces in which the text is read,
-/// it has the same games.
+/// Adds the games of a text: of each what its section says, and its movetext. Whatever the pieces in which the text is
+/// read, it has the same games.
 pub fn games<B: Board>(alloc: Global, asked: &str, found: &mut RowText) -> Option<()> {
     let text = whole_text(alloc, asked)?;
     add_games::<B, _>(alloc, text.as_slice(), found)?;
@@ -38,7 +38,7 @@ pub fn games<B: Board>(alloc: Global, asked: &str, found: &mut RowText) -> Optio
     Some(())
 }
 
-/// A text, the bytes of each read, the read that fails, and the one that gives nothing, which is the end.
+/// Adds a text, the bytes of each read, the read that fails, and the one that gives nothing, which is the end.
 pub fn broken<B: Board>(alloc: Global, asked: &str, found: &mut RowText) -> Option<()> {
     let text = unescaped(alloc, column(asked, 0))?;
     let step = column(asked, 1).parse::<usize>().ok()?;
@@ -97,7 +97,7 @@ fn add_game<B: Board>(game: &Game<B>, found: &mut RowText) {
 /// No tree of a row has more ends and beginnings of moves.
 const MOST_STEPS: usize = 1_000;
 
-/// The tree of a movetext, or its first fault. The text stands in quotes.
+/// Adds the tree of a movetext, or its first fault. The text stands in quotes.
 pub fn movetext<B: Board>(alloc: Global, asked: &str, found: &mut RowText) -> Option<()> {
     let text = column(asked, 1).strip_prefix('"')?.strip_suffix('"')?;
     add_read::<B>(
@@ -108,7 +108,7 @@ pub fn movetext<B: Board>(alloc: Global, asked: &str, found: &mut RowText) -> Op
     )
 }
 
-/// The same of a text that stands there so many times, one after another.
+/// Adds the same of a text that is repeated.
 pub fn repeated<B: Board>(alloc: Global, asked: &str, found: &mut RowText) -> Option<()> {
     let part = column(asked, 1).strip_prefix('"')?.strip_suffix('"')?;
     let mut text = Vec::<u8>::new(alloc);
@@ -127,7 +127,7 @@ fn add_read<B: Board>(alloc: Global, fen: &str, text: &[u8], found: &mut RowText
     Some(())
 }
 
-/// The moves of a written line by their ends, or the number of its first fault and the fault. The text stands in
+/// Adds the moves of a written line by their ends, or the number of its first fault and the fault. The text stands in
 /// quotes.
 pub fn written_line<B: Board>(alloc: Global, asked: &str, found: &mut RowText) -> Option<()> {
     let quoted = column(asked, 1).strip_prefix('"')?.strip_suffix('"')?;

@@ -13,7 +13,7 @@ use dw_tests_common::tally::RowText;
 use dw_tests_common::texts::{add_step, read_legal, read_position};
 use std::alloc::Global;
 
-/// The position after the move that a text names, or why there is none. The text stands in quotes.
+/// Adds the position after the move that a text names, or why there is none. The text stands in quotes.
 pub fn named<B: Board>(alloc: Global, asked: &str, found: &mut RowText) -> Option<()> {
     let position = read_position::<B>(column(asked, 0))?;
     let text = column(asked, 1).strip_prefix('"')?.strip_suffix('"')?;
@@ -27,8 +27,8 @@ pub fn named<B: Board>(alloc: Global, asked: &str, found: &mut RowText) -> Optio
     Some(())
 }
 
-/// The move that a text names. Where it wants memory that is refused it says so, if it may take memory at all, and then
-/// it can be asked again.
+/// Adds the move that a text names. Where it wants memory that is refused it says so, if it may take memory at all, and
+/// then it can be asked again.
 pub fn refused<B: Board>(alloc: Global, asked: &str, found: &mut RowText) -> Option<()> {
     let position = read_position::<B>(column(asked, 0))?;
     let text = column(asked, 1).as_bytes();
@@ -43,7 +43,7 @@ pub fn refused<B: Board>(alloc: Global, asked: &str, found: &mut RowText) -> Opt
     Some(())
 }
 
-/// The texts of all moves in order.
+/// Adds the texts of all moves in order.
 pub fn texts<B: Board>(alloc: Global, asked: &str, found: &mut RowText) -> Option<()> {
     if asked == "refused memory" {
         found.say(&MoveFault::Memory);
@@ -58,7 +58,7 @@ pub fn texts<B: Board>(alloc: Global, asked: &str, found: &mut RowText) -> Optio
     Some(())
 }
 
-/// The text of a line of three moves, of one or of none, of which each move is given by its text.
+/// Adds the text of a line of three moves, of one or of none, whose moves are given by their texts.
 pub fn line<B: Board>(alloc: Global, asked: &str, found: &mut RowText) -> Option<()> {
     let position = read_position::<B>(column(asked, 0))?;
     let words = column(asked, 1);
@@ -73,7 +73,7 @@ pub fn line<B: Board>(alloc: Global, asked: &str, found: &mut RowText) -> Option
     Some(())
 }
 
-/// Whether the text of a line of no move is empty.
+/// Adds whether the text of a line of no move is empty.
 fn none<B: Board>(alloc: Global, position: &Position<B>, found: &mut RowText) -> Option<()> {
     let none = Vec::new(alloc);
     let text = line_text(alloc, position, none.as_slice()).ok()?;
@@ -85,7 +85,7 @@ fn none<B: Board>(alloc: Global, position: &Position<B>, found: &mut RowText) ->
     Some(())
 }
 
-/// The text of a line of three moves.
+/// Adds the text of a line of three moves.
 fn three<B: Board>(
     alloc: Global,
     position: &Position<B>,

@@ -42,7 +42,7 @@ fn ask_section(alloc: Global, section: &Section) -> Result<Tally, AllocError> {
     Ok(tally)
 }
 
-/// Asks all rows of a section, on the board with so many rows.
+/// Asks all rows of a section, on the board with this number of rows.
 fn ask_rows(alloc: Global, section: &Section, board: &str, tally: &mut Tally) {
     let kind = RowKind::named(word(section.head.as_str(), 0));
     for row in section.rows.as_slice() {

@@ -15,8 +15,8 @@ use dw_tests_common::tally::RowText;
 use dw_tests_common::texts::{add_set, read_position, square_of, step_of};
 use std::alloc::Global;
 
-/// The squares to which pieces of the other side could go one square, and whether it is seen at a glance that it has a
-/// reply to every move.
+/// Adds the squares to which pieces of the other side could go one square, and whether it is seen at a glance that it
+/// has a reply to every move.
 pub fn glance<B: Board>(asked: &str, found: &mut RowText) -> Option<()> {
     let position = read_position::<B>(asked)?;
     add_set(other_steps(&position), found);
@@ -25,8 +25,8 @@ pub fn glance<B: Board>(asked: &str, found: &mut RowText) -> Option<()> {
     Some(())
 }
 
-/// How many pieces each move takes, whether any does, and where those end; how many quiet moves there are, also if one
-/// must capture, and if nothing can be taken; how many legal moves, and whether there is any.
+/// Adds how many pieces each move takes, whether any does, and where those end; how many quiet moves there are, also if
+/// one must capture, and if nothing can be taken; how many legal moves, and whether there is any.
 pub fn count<B: Board>(alloc: Global, asked: &str, found: &mut RowText) -> Option<()> {
     let position = read_position::<B>(asked)?;
     found.add("takes ");
@@ -49,7 +49,7 @@ pub fn count<B: Board>(alloc: Global, asked: &str, found: &mut RowText) -> Optio
     Some(())
 }
 
-/// The position after a move, if it is legal; just then it is in the list of legal moves.
+/// Adds the position after a move, if it is legal; just then it is in the list of legal moves.
 pub fn played<B: Board>(alloc: Global, asked: &str, found: &mut RowText) -> Option<()> {
     let position = read_position::<B>(column(asked, 0))?;
     let step = step_of(column(asked, 1))?;
@@ -67,7 +67,7 @@ pub fn played<B: Board>(alloc: Global, asked: &str, found: &mut RowText) -> Opti
     Some(())
 }
 
-/// Whether two moves are the same, asked in two ways; the first may be the default.
+/// Adds whether two moves are the same, asked in two ways; the first may be the default.
 pub fn same<B: Board>(asked: &str, found: &mut RowText) -> Option<()> {
     let left = match column(asked, 0) {
         "default" => Move::<B>::default(),
@@ -82,7 +82,7 @@ pub fn same<B: Board>(asked: &str, found: &mut RowText) -> Option<()> {
     Some(())
 }
 
-/// The squares of these numbers in order, with blanks between them.
+/// Returns the squares of these numbers in order, with blanks between them.
 fn squares_of<B: Board>(alloc: Global, text: &str) -> Option<Vec<Square<B>>> {
     let mut squares = Vec::new(alloc);
     for number in text.split_whitespace() {
@@ -91,7 +91,7 @@ fn squares_of<B: Board>(alloc: Global, text: &str) -> Option<Vec<Square<B>>> {
     Some(squares)
 }
 
-/// What the move takes that has these squares as its path.
+/// Adds what the move takes that has these squares as its path.
 pub fn path<B: Board>(alloc: Global, asked: &str, found: &mut RowText) -> Option<()> {
     let position = read_position::<B>(column(asked, 0))?;
     let squares = squares_of(alloc, column(asked, 1))?;

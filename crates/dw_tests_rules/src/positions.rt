@@ -27,7 +27,7 @@ fn piece_of(text: &str) -> Option<Piece> {
     Some(Piece { side, kind })
 }
 
-/// A position, of which the text tells the side to move, and then pieces with the squares where each is put.
+/// Returns a position, whose text has the side to move, and then pieces with their squares.
 fn placed<B: Board>(text: &str) -> Option<Position<B>> {
     let mut words = text.split_whitespace();
     let mut position = Position::empty(side_of(words.next()?)?);
@@ -41,7 +41,7 @@ fn placed<B: Board>(text: &str) -> Option<Position<B>> {
     Some(position)
 }
 
-/// The position after a piece was put, or why it is refused; a refusal changes nothing.
+/// Adds the position after a piece was put, or why it is refused; a refusal changes nothing.
 pub fn put<B: Board>(asked: &str, found: &mut RowText) -> Option<()> {
     let start = placed::<B>(column(asked, 0))?;
     let piece = piece_of(word(column(asked, 1), 0))?;
@@ -55,7 +55,7 @@ pub fn put<B: Board>(asked: &str, found: &mut RowText) -> Option<()> {
     Some(())
 }
 
-/// Where the pieces stand, and how many there are.
+/// Adds where the pieces stand, and how many there are.
 pub fn pieces<B: Board>(asked: &str, found: &mut RowText) -> Option<()> {
     let position = placed::<B>(asked)?;
     for side in [Side::White, Side::Black] {
@@ -69,7 +69,7 @@ pub fn pieces<B: Board>(asked: &str, found: &mut RowText) -> Option<()> {
     Some(())
 }
 
-/// What stood on a square that is cleared, and the position after it.
+/// Adds what stood on a square that is cleared, and the position after it.
 pub fn clear<B: Board>(asked: &str, found: &mut RowText) -> Option<()> {
     let mut position = placed::<B>(column(asked, 0))?;
     let square = square_of(column(asked, 1))?;
@@ -83,8 +83,8 @@ pub fn clear<B: Board>(asked: &str, found: &mut RowText) -> Option<()> {
     Some(())
 }
 
-/// The position when it is that side's turn, how the one before compares with it, whether they are the same, and whose
-/// turn it is not.
+/// Adds the position when it is that side's turn, how the one before compares with it, whether they are the same, and
+/// whose turn it is not.
 pub fn turn<B: Board>(asked: &str, found: &mut RowText) -> Option<()> {
     let before = placed::<B>(column(asked, 0))?;
     let mut position = before;
@@ -99,7 +99,7 @@ pub fn turn<B: Board>(asked: &str, found: &mut RowText) -> Option<()> {
     Some(())
 }
 
-/// The written FEN and the diagram.
+/// Adds the written FEN and the diagram.
 pub fn drawn<B: Board>(asked: &str, found: &mut RowText) -> Option<()> {
     let position = placed::<B>(asked)?;
     found.add(fen_text(&position).as_str());
@@ -108,7 +108,7 @@ pub fn drawn<B: Board>(asked: &str, found: &mut RowText) -> Option<()> {
     Some(())
 }
 
-/// The written FEN of what is read, or the fault. A second column tells how many blanks follow the text.
+/// Adds the written FEN of what is read, or the fault. A second column tells how many blanks follow the text.
 pub fn fen<B: Board>(alloc: Global, asked: &str, found: &mut RowText) -> Option<()> {
     let mut text = unescaped(alloc, column(asked, 0))?;
     for _ in 0..column(asked, 1).parse::<u16>().unwrap_or(0) {

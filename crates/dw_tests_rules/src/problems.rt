@@ -51,7 +51,7 @@ fn add_said<B: Board, R: io::Read + Drop>(
     Some(())
 }
 
-/// A text: a front, and if there are more columns a byte, how many times it follows, and a back.
+/// Returns a text: a front, and if there are more columns a byte, how many times it follows, and a back.
 pub fn whole_text(alloc: Global, asked: &str) -> Option<Vec<u8>> {
     let mut text = unescaped(alloc, column(asked, 0))?;
     let repeated = unescaped(alloc, column(asked, 1))?;
@@ -63,7 +63,7 @@ pub fn whole_text(alloc: Global, asked: &str) -> Option<Vec<u8>> {
     Some(text)
 }
 
-/// Whatever the pieces in which a text is read, it has the same problems.
+/// Adds the problems of a text, which are the same for all pieces in which it is read.
 pub fn pieces<B: Board>(alloc: Global, form: Form, asked: &str, found: &mut RowText) -> Option<()> {
     let text = whole_text(alloc, asked)?;
     add_said::<B, _>(text.as_slice(), form, found)?;
@@ -81,8 +81,8 @@ pub fn pieces<B: Board>(alloc: Global, form: Form, asked: &str, found: &mut RowT
     Some(())
 }
 
-/// A text, the bytes of each read, the read that fails, and the one that gives nothing, which is the end, since the
-/// reader is not asked again.
+/// Adds a text, the bytes of each read, the read that fails, and the one that gives nothing, which is the end, since
+/// the reader is not asked again.
 pub fn broken<B: Board>(alloc: Global, form: Form, asked: &str, found: &mut RowText) -> Option<()> {
     let text = unescaped(alloc, column(asked, 0))?;
     let step = column(asked, 1).parse::<usize>().ok()?;
@@ -92,8 +92,8 @@ pub fn broken<B: Board>(alloc: Global, form: Form, asked: &str, found: &mut RowT
     add_said::<B, _>(reader, form, found)
 }
 
-/// A text of so many lines, each of one letter that names no position: it has a problem a line, numbered from 1, up to
-/// one that says that there are too many, and then it ends. What is said of that one.
+/// Adds a text of many lines, each of one letter that names no position: it has a problem a line, numbered from 1, up
+/// to one that says that there are too many, and then it ends. Adds the refusal of that one.
 pub fn many<B: Board>(asked: &str, found: &mut RowText) -> Option<()> {
     let lines = asked.parse::<u32>().ok()?;
     let mut source = Reading::new(Repeated::new(b"a\n", lines));

@@ -23,7 +23,7 @@ fn add_square<B: Board>(square: Option<Square<B>>, found: &mut RowText) {
     }
 }
 
-/// The square of a number, or the square that stands for none.
+/// Adds the square of a number, or the square that stands for none.
 pub fn square<B: Board>(asked: &str, found: &mut RowText) -> Option<()> {
     let square = match asked {
         "default" => Some(Square::<B>::default()),
@@ -33,7 +33,7 @@ pub fn square<B: Board>(asked: &str, found: &mut RowText) -> Option<()> {
     Some(())
 }
 
-/// The padded word of a set, how many squares it has, and the first of them.
+/// Adds the padded word of a set, how many squares it has, and the first of them.
 pub fn set<B: Board>(asked: &str, found: &mut RowText) -> Option<()> {
     let squares = match asked {
         "default" => Squares::<B>::default(),
@@ -47,7 +47,7 @@ pub fn set<B: Board>(asked: &str, found: &mut RowText) -> Option<()> {
     Some(())
 }
 
-/// Two sets joined.
+/// Returns two sets joined.
 fn joined<B: Board>(left: Squares<B>, how: &str, right: Squares<B>) -> Option<Squares<B>> {
     match how {
         "or" => Some(left.or(right)),
@@ -57,7 +57,7 @@ fn joined<B: Board>(left: Squares<B>, how: &str, right: Squares<B>) -> Option<Sq
     }
 }
 
-/// A set shifted one step, or slid over an empty board.
+/// Returns a set shifted one step, or slid over an empty board.
 fn moved<B: Board>(squares: Squares<B>, how: &str, direction: Dir) -> Option<Squares<B>> {
     match how {
         "shifted" => Some(squares.shifted(direction)),
@@ -67,7 +67,7 @@ fn moved<B: Board>(squares: Squares<B>, how: &str, direction: Dir) -> Option<Squ
     }
 }
 
-/// Two sets joined, or a set shifted one step, or slid over an empty board.
+/// Adds two sets joined, or a set shifted one step, or slid over an empty board.
 pub fn sets<B: Board>(asked: &str, found: &mut RowText) -> Option<()> {
     let left = set_of::<B>(column(asked, 0))?;
     let (how, right) = (column(asked, 1), column(asked, 2));
@@ -79,7 +79,7 @@ pub fn sets<B: Board>(asked: &str, found: &mut RowText) -> Option<()> {
     Some(())
 }
 
-/// A set with and without a square, and whether it has it.
+/// Adds a set with and without a square, and whether it has it.
 pub fn one<B: Board>(asked: &str, found: &mut RowText) -> Option<()> {
     let squares = set_of::<B>(column(asked, 0))?;
     let square = square_of(column(asked, 1))?;
@@ -91,7 +91,7 @@ pub fn one<B: Board>(asked: &str, found: &mut RowText) -> Option<()> {
     Some(())
 }
 
-/// Whether two sets are the same, asked in two ways.
+/// Adds whether two sets are the same, asked in two ways.
 pub fn same<B: Board>(asked: &str, found: &mut RowText) -> Option<()> {
     let left = set_of::<B>(column(asked, 0))?;
     let right = set_of::<B>(column(asked, 1))?;
@@ -101,7 +101,7 @@ pub fn same<B: Board>(asked: &str, found: &mut RowText) -> Option<()> {
     Some(())
 }
 
-/// The square one step further, and whether the direction leads down and to the right.
+/// Adds the square one step further, and whether the direction leads down and to the right.
 pub fn one_step<B: Board>(asked: &str, found: &mut RowText) -> Option<()> {
     let from = square_of::<B>(word(asked, 0))?;
     let direction = direction(word(asked, 1))?;

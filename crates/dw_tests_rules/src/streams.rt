@@ -14,7 +14,7 @@ fn said(answer: Result<(), WriteFault>) -> &'static str {
     }
 }
 
-/// The bytes that a write takes, and the write that fails. What is answered to nothing, to `hello` and to `you`,
+/// Adds the bytes that a write takes, and the write that fails. What is answered to nothing, to `hello` and to `you`,
 /// whether the sink has failed, and what it took.
 pub fn write(alloc: Global, asked: &str, found: &mut RowText) -> Option<()> {
     let step = word(asked, 0).parse::<usize>().ok()?;

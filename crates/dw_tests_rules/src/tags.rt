@@ -15,7 +15,7 @@ const MOST_GAMES: u32 = 8;
 /// The most bytes of tags that are shown, and not counted.
 const SHOWN: usize = 100;
 
-/// The games of a text: of each all bytes of its tags in angles, or how many they are, and then each of its tags.
+/// Adds the games of a text: of each all bytes of its tags in angles, or how many they are, and then each of its tags.
 pub fn of_games<B: Board>(alloc: Global, asked: &str, found: &mut RowText) -> Option<()> {
     let text = whole_text(alloc, asked)?;
     let mut source = Reading::new(text.as_slice());
@@ -39,7 +39,7 @@ pub fn of_games<B: Board>(alloc: Global, asked: &str, found: &mut RowText) -> Op
     None
 }
 
-/// The tags of a text, which stands in angles.
+/// Adds the tags of a text, which stands in angles.
 pub fn of_text(alloc: Global, asked: &str, found: &mut RowText) -> Option<()> {
     let text = asked.strip_prefix('<')?.strip_suffix('>')?;
     add_tags(alloc, unescaped(alloc, text)?.as_slice(), found)?;
@@ -47,7 +47,7 @@ pub fn of_text(alloc: Global, asked: &str, found: &mut RowText) -> Option<()> {
     Some(())
 }
 
-/// The value of the first tag of a name in a text.
+/// Adds the value of the first tag of a name in a text.
 pub fn named_value(alloc: Global, asked: &str, found: &mut RowText) -> Option<()> {
     let text = unescaped(alloc, column(asked, 1))?;
     let tags = read_tags(alloc, text.as_slice()).ok()?;

@@ -74,7 +74,7 @@ fn ask_memo<B: Board>(
     ask_kind(alloc, kind, memo, spare, guide, rows, tally)
 }
 
-/// A new memo, `none`, `lru:SIZE`, `slots:SIZE` or `deep:SIZE`.
+/// Returns a new memo, `none`, `lru:SIZE`, `slots:SIZE` or `deep:SIZE`.
 fn new_memo<B: Board>(alloc: Global, text: &str) -> Option<AnyMemo<B>>
     ensures { IfSome result (λ m. content_of m ≡ []) }
 {
@@ -89,7 +89,7 @@ fn new_memo<B: Board>(alloc: Global, text: &str) -> Option<AnyMemo<B>>
     }
 }
 
-/// A new memo of the positions used latest; it is made again if memory is refused once.
+/// Returns a new memo of the positions used latest; it is made again if memory is refused once.
 fn latest<B: Board>(alloc: Global, size: usize) -> Option<LruMemo<B>>
     requires some { 1 ≤ size }
     requires most { size ≤ 4_000_000 }
@@ -101,7 +101,7 @@ fn latest<B: Board>(alloc: Global, size: usize) -> Option<LruMemo<B>>
     }
 }
 
-/// A new memo of slots; it is made again if memory is refused once.
+/// Returns a new memo of slots; it is made again if memory is refused once.
 fn slots<B: Board>(alloc: Global, size: usize) -> Option<SlotMemo<B>>
     requires some { 1 ≤ size }
     requires most { size ≤ 4_000_000 }
@@ -113,7 +113,7 @@ fn slots<B: Board>(alloc: Global, size: usize) -> Option<SlotMemo<B>>
     }
 }
 
-/// A new memo of pairs of places; it is made again if memory is refused once.
+/// Returns a new memo of pairs of places; it is made again if memory is refused once.
 fn pairs<B: Board>(alloc: Global, size: usize) -> Option<DeepMemo<B>>
     requires some { 1 ≤ size }
     requires most { size ≤ 4_000_000 }

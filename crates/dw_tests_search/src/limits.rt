@@ -28,8 +28,8 @@ fn ask_both<B: Board, M: Memo<B>, G: Guide<B>>(
     (before, answer, solver.expanded())
 }
 
-/// With one expansion too few there is no answer. What was answered by then is still known, and with a higher limit the
-/// rest is found, and is known from then on. The first solver has an ample limit, the other has expanded nothing.
+/// Checks that one expansion too few gives no answer. Answers up to then stay known, and a higher limit finds the rest,
+/// which is known from then on. The first solver has an ample limit, the other has expanded nothing.
 pub fn limited<B: Board, M: Memo<B>, G: Guide<B>>(
     alloc: Global,
     whole: &mut Solver<B, M, G>,
@@ -57,7 +57,7 @@ pub fn limited<B: Board, M: Memo<B>, G: Guide<B>>(
     Some(())
 }
 
-/// Whether the search stops with one expansion too few, and stops there again.
+/// Returns whether the search stops with one expansion too few, and stops there again.
 fn stops<B: Board, M: Memo<B>, G: Guide<B>>(
     alloc: Global,
     solver: &mut Solver<B, M, G>,
@@ -75,7 +75,7 @@ fn stops<B: Board, M: Memo<B>, G: Guide<B>>(
     first == stopped && again == stopped
 }
 
-/// Whether the search goes on under a high limit to these answers, which are known from then on.
+/// Returns whether the search goes on under a high limit to these answers, which are known from then on.
 fn goes_on<B: Board, M: Memo<B>, G: Guide<B>>(
     alloc: Global,
     solver: &mut Solver<B, M, G>,
@@ -92,7 +92,7 @@ fn goes_on<B: Board, M: Memo<B>, G: Guide<B>>(
     is_found && known == last && solver.dropped() == 0
 }
 
-/// The answer under a limit, and whether as many positions were expanded.
+/// Adds the answer under a limit, and whether as many positions were expanded.
 pub fn limit<B: Board, M: Memo<B>, G: Guide<B>>(
     alloc: Global,
     solver: &mut Solver<B, M, G>,
@@ -111,7 +111,7 @@ pub fn limit<B: Board, M: Memo<B>, G: Guide<B>>(
     Some(())
 }
 
-/// What the memo decides is not searched again, not even at the limit.
+/// Checks that decided questions are not searched again, not even at the limit.
 pub fn known<B: Board, M: Memo<B>, G: Guide<B>>(
     alloc: Global,
     solver: &mut Solver<B, M, G>,

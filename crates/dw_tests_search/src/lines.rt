@@ -20,7 +20,7 @@ use std::slice;
 /// How many positions may be expanded where nothing else is asked.
 const AMPLE: u64 = 1_000_000_000;
 
-/// The list that is asked for: a position and a number of moves, 1 to 20.
+/// Returns the list that is asked for: a position and a number of moves, 1 to 20.
 fn list_asked<B: Board>(text: &str) -> Option<(Position<B>, u8)>
     ensures some { IfSome result (λ read. 1 ≤ read.1) }
     ensures few { IfSome result (λ read. read.1 ≤ 20) }
@@ -32,7 +32,7 @@ fn list_asked<B: Board>(text: &str) -> Option<(Position<B>, u8)>
     Some((position, moves))
 }
 
-/// A lister of the lines at a position within a number of moves, which a text names.
+/// Returns a lister of the lines at a position within a number of moves, which a text names.
 fn lister_of<'s, B: Board, M: Memo<B>>(
     solver: &'s mut Solver<B, M, ByTrial>,
     text: &str,
@@ -41,7 +41,7 @@ fn lister_of<'s, B: Board, M: Memo<B>>(
     Some(Lister::start(solver, &position, moves))
 }
 
-/// All rows are asked of one solver.
+/// Asks all rows of one solver.
 pub fn list_rows<B: Board, M: Memo<B> + Drop>(
     alloc: Global,
     kind: RowKind,
@@ -70,7 +70,7 @@ pub fn list_rows<B: Board, M: Memo<B> + Drop>(
     Some(())
 }
 
-/// All lines within so many moves.
+/// Adds all lines of a row.
 fn lines<B: Board, M: Memo<B>>(
     alloc: Global,
     solver: &mut Solver<B, M, ByTrial>,
@@ -86,7 +86,7 @@ fn lines<B: Board, M: Memo<B>>(
     Some(())
 }
 
-/// The least number of moves from 1 to 3 within which there are lines, or 0.
+/// Adds the least number of moves from 1 to 3 within which there are lines, or 0.
 fn lists<B: Board, M: Memo<B>>(
     alloc: Global,
     solver: &mut Solver<B, M, ByTrial>,
@@ -105,7 +105,7 @@ fn lists<B: Board, M: Memo<B>>(
     Some(())
 }
 
-/// Why the lister can not go on after a list of moves; the lines still to come stay.
+/// Adds the reason why the lister cannot go on after a list of moves; the lines still to come stay.
 fn place<B: Board, M: Memo<B>>(
     alloc: Global,
     solver: &mut Solver<B, M, ByTrial>,
@@ -119,7 +119,7 @@ fn place<B: Board, M: Memo<B>>(
     gives(alloc, &mut lister, whole.as_slice())
 }
 
-/// Why a lister can not go on after a list of moves.
+/// Returns the reason why a lister cannot go on after a list of moves.
 fn fault_after<B: Board, M: Memo<B>>(
     alloc: Global,
     lister: &mut Lister<'_, B, M, ByTrial>,
@@ -129,7 +129,7 @@ fn fault_after<B: Board, M: Memo<B>>(
     lister.after(alloc, line.as_slice()).err()
 }
 
-/// The lines under some limits, how often there was a stop or an end, and whether there was each of them.
+/// Adds the lines under some limits, how often there was a stop or an end, and whether there was each of them.
 fn portions<B: Board, M: Memo<B>>(
     alloc: Global,
     solver: &mut Solver<B, M, ByTrial>,
@@ -165,7 +165,7 @@ fn add_portions<B: Board>(portions: &Portions<B>, found: &mut RowText) {
     });
 }
 
-/// How many lines come after a given one: under so many expansions to find it, and so many more.
+/// Adds how many lines come after a given one: under a limit of expansions to find it, and one for the rest.
 fn behind<B: Board, M: Memo<B>>(
     alloc: Global,
     solver: &mut Solver<B, M, ByTrial>,
@@ -178,7 +178,7 @@ fn behind<B: Board, M: Memo<B>>(
     Some(())
 }
 
-/// How many lines come after a given one, with a limit that is ample for them.
+/// Returns how many lines come after a given one, with a limit that is ample for them.
 fn count_after<B: Board, M: Memo<B>>(
     alloc: Global,
     lister: &mut Lister<'_, B, M, ByTrial>,
@@ -190,7 +190,7 @@ fn count_after<B: Board, M: Memo<B>>(
     count(alloc, lister)
 }
 
-/// Sets the limit of a lister to so many expansions, but to one at least, and not to fewer than there were.
+/// Sets the limit of a lister to a number of expansions, at least one, and at least as many as there were.
 fn limit_to<B: Board, M: Memo<B>>(lister: &mut Lister<'_, B, M, ByTrial>, limit: u64) {
     let limit = lister.expanded().max(limit).max(1);
     lister.set_limit(limit);
@@ -209,7 +209,7 @@ fn go_after<B: Board, M: Memo<B>>(
     }
 }
 
-/// How many lines are still to come; a lister that has come to its end is asked again. There are at most 10.
+/// Returns how many lines are still to come; a lister that has come to its end is asked again. There are at most 10.
 fn count<B: Board, M: Memo<B>>(
     alloc: Global,
     lister: &mut Lister<'_, B, M, ByTrial>,
@@ -223,7 +223,7 @@ fn count<B: Board, M: Memo<B>>(
     Some(count)
 }
 
-/// The last line but one and the last of a list of so many lines, which is walked to its end.
+/// Returns the last line but one and the last of a list, which is walked to its end.
 fn last_two<B: Board, M: Memo<B>>(
     alloc: Global,
     lister: &mut Lister<'_, B, M, ByTrial>,
@@ -238,7 +238,7 @@ fn last_two<B: Board, M: Memo<B>>(
     Some((last_but_one, last))
 }
 
-/// The next line, in a list of its own.
+/// Returns the next line, in a list of its own.
 fn given<B: Board, M: Memo<B>>(
     alloc: Global,
     lister: &mut Lister<'_, B, M, ByTrial>,
@@ -246,7 +246,7 @@ fn given<B: Board, M: Memo<B>>(
     lister.next(alloc).ok()??.to_vec(alloc).ok()
 }
 
-/// A list of so many lines is walked to its end. Of its last two lines the last comes alone after the other.
+/// Walks a list to its end. Of its last two lines the last comes alone after the other.
 fn long<B: Board, M: Memo<B>>(
     alloc: Global,
     solver: &mut Solver<B, M, ByTrial>,
@@ -263,8 +263,8 @@ fn long<B: Board, M: Memo<B>>(
     Some(())
 }
 
-/// Nothing, unless a new lister that goes on after the last line but one gives the last, and expands few positions for
-/// that.
+/// Returns `None` unless a new lister that goes on after the last line but one gives the last, and expands few
+/// positions for that.
 fn comes_alone<B: Board>(
     alloc: Global,
     position: &Position<B>,
@@ -283,7 +283,7 @@ fn comes_alone<B: Board>(
     gives(alloc, &mut lister, slice::from_ref(last))
 }
 
-/// All lines under limits that rise by one: the search is stopped again and again, and no line is lost.
+/// Adds all lines under limits that rise by one: the search is stopped again and again, and no line is lost.
 fn stopped<B: Board, M: Memo<B>>(
     alloc: Global,
     solver: &mut Solver<B, M, ByTrial>,
@@ -350,7 +350,7 @@ fn add_rest<B: Board, M: Memo<B>>(
     Some(())
 }
 
-/// All lines, and then what follows each line that is given in a column. Only the lister takes memory.
+/// Adds all lines, and then what follows each line that is given in a column. Only the lister takes memory.
 fn refused<B: Board, M: Memo<B>>(
     alloc: Global,
     solver: &mut Solver<B, M, ByTrial>,

@@ -1,4 +1,4 @@
-//! Listers: that they give just the lines that are there, and after each line those behind it.
+//! Listers: they give exactly the lines, and after each line those that follow.
 ghost use Rattle.std.specs.Prelude.{◌≤◌};
 
 use arrayvec::ArrayVec;
@@ -12,10 +12,10 @@ use dw_tests_common::tally::RowText;
 use dw_tests_common::texts::{add_step, step_of};
 use std::alloc::Global;
 
-/// Of lists of so many lines the whole rest is compared after each line, and of longer ones the next line.
+/// The longest list of which the whole rest is compared after each line. For longer ones the next line is compared.
 const COMPARED: usize = 200;
 
-/// A list of moves with a comma between them; they need not be legal.
+/// Returns a list of moves with a comma between them; they need not be legal.
 pub fn moves_in<B: Board>(text: &str) -> Option<ArrayVec<Move<B>, 39>> {
     let mut line = ArrayVec::new();
     if text.is_empty() {
@@ -38,7 +38,7 @@ pub fn add_line<B: Board>(line: &[Move<B>], found: &mut RowText) {
     found.add("\n");
 }
 
-/// Nothing, unless the lister gives these lines and no other.
+/// Returns `None` unless the lister gives these lines and no other.
 pub fn gives<B: Board, M: Memo<B>>(
     alloc: Global,
     lister: &mut Lister<'_, B, M, ByTrial>,
@@ -50,7 +50,7 @@ pub fn gives<B: Board, M: Memo<B>>(
     ended(alloc, lister)
 }
 
-/// Nothing, unless no line is still to come.
+/// Returns `None` unless no line is still to come.
 pub fn ended<B: Board, M: Memo<B>>(
     alloc: Global,
     lister: &mut Lister<'_, B, M, ByTrial>,
@@ -61,7 +61,7 @@ pub fn ended<B: Board, M: Memo<B>>(
     }
 }
 
-/// Nothing, unless the lister gives this line next.
+/// Returns `None` unless the lister gives this line next.
 fn gives_next<B: Board, M: Memo<B>>(
     alloc: Global,
     lister: &mut Lister<'_, B, M, ByTrial>,
@@ -73,8 +73,8 @@ fn gives_next<B: Board, M: Memo<B>>(
     }
 }
 
-/// Nothing, unless the lister gives these lines, which are all of a position, and no other, and after each of them
-/// those after it and no other.
+/// Returns `None` unless the lister gives these lines, which are all of a position, and no other, and after each of
+/// them those after it and no other.
 fn gives_all<B: Board, M: Memo<B>>(
     alloc: Global,
     lister: &mut Lister<'_, B, M, ByTrial>,
@@ -92,7 +92,7 @@ fn gives_all<B: Board, M: Memo<B>>(
     Some(())
 }
 
-/// All lines of a position. The lister gives just these, and after each of them those after it.
+/// Returns all lines of a position. The lister gives just these, and after each of them those after it.
 pub fn lines_of<B: Board, M: Memo<B>>(
     alloc: Global,
     solver: &mut Solver<B, M, ByTrial>,

@@ -7,7 +7,7 @@ use dw_tests_common::tally::{RowText, Tally};
 use dw_tests_common::texts::read_position;
 use std::alloc::Global;
 
-/// Bounds: the greatest number of moves that fails and the least that wins, `-` for none.
+/// Adds bounds: the greatest number of moves that fails and the least that wins, `-` for none.
 pub fn bounds_of(fails: &str, wins: &str) -> Bounds {
     Bounds {
         fails: fails.parse::<u8>().ok(),
@@ -15,7 +15,7 @@ pub fn bounds_of(fails: &str, wins: &str) -> Bounds {
     }
 }
 
-/// What a memo answers when it notes bounds, what it finds of a position, and how many entries were lost.
+/// Adds what a memo answers when it notes bounds, what it finds of a position, and how many entries were lost.
 fn note<B: Board, M: Memo<B>>(memo: &mut M, asked: &str, found: &mut RowText) -> Option<()> {
     if asked == "lost" {
         found.say(&memo.dropped());
@@ -36,7 +36,7 @@ fn note<B: Board, M: Memo<B>>(memo: &mut M, asked: &str, found: &mut RowText) ->
     Some(())
 }
 
-/// Whether bounds are held just if their note is kept, and else they alone are counted as lost.
+/// Adds whether bounds are kept exactly if their note says so, and else they alone are counted as lost.
 fn keep<B: Board, M: Memo<B>>(
     memo: &mut M,
     position: &Position<B>,
@@ -55,7 +55,7 @@ fn keep<B: Board, M: Memo<B>>(
     });
 }
 
-/// All rows are asked of one memo.
+/// Asks all rows of one memo.
 pub fn notes<B: Board, M: Memo<B> + Drop>(
     mut memo: M,
     rows: &[Row],
@@ -68,15 +68,15 @@ pub fn notes<B: Board, M: Memo<B> + Drop>(
     Some(())
 }
 
-/// The position of a row, and its number.
+/// Returns the position of a row, and its number.
 fn numbered<B: Board>(row: &Row) -> Option<(Position<B>, u8)> {
     let position = read_position(word(row.asked.as_str(), 0))?;
     let number = word(row.asked.as_str(), 1).parse::<u8>().ok()?;
     Some((position, number))
 }
 
-/// Whether the entry of a row is held after that of this number was noted. Nothing else is found again than what was
-/// held, and the entry itself is.
+/// Returns whether the entry of a row is held after that of this number was noted. Nothing else is found again than
+/// what was held, and the entry itself is.
 fn held_after<B: Board, M: Memo<B>>(
     memo: &mut M,
     row: &Row,
@@ -93,7 +93,7 @@ fn held_after<B: Board, M: Memo<B>>(
     Some(is_held)
 }
 
-/// How many of the entries held before are lost after that of this number was noted.
+/// Returns how many of the entries held before are lost after that of this number was noted.
 fn lost_after<B: Board, M: Memo<B>>(
     memo: &mut M,
     rows: &[Row],
@@ -109,8 +109,8 @@ fn lost_after<B: Board, M: Memo<B>>(
     Some(lost)
 }
 
-/// All rows are noted in one memo, which is too small for them: a note loses at most one of the entries that were
-/// held, and that is counted. There is room for seven.
+/// Notes all rows in one memo, which is too small for them: a note loses at most one of the entries that
+/// were held, and that is counted. There is room for seven.
 pub fn crowded<B: Board, M: Memo<B> + Drop>(
     alloc: Global,
     mut memo: M,
@@ -130,7 +130,7 @@ pub fn crowded<B: Board, M: Memo<B> + Drop>(
     Some(())
 }
 
-/// Whether the note of a position with its number is kept and loses one entry at most, and that is counted.
+/// Returns whether the note of a position with its number is kept and loses one entry at most, and that is counted.
 fn note_loses_one<B: Board, M: Memo<B>>(
     memo: &mut M,
     rows: &[Row],

@@ -33,7 +33,7 @@ pub fn ask_plain<B: Board>(alloc: Global, kind: &str, rows: &[Row], tally: &mut 
     }
 }
 
-/// What bounds decide, after wins and failures were added to them.
+/// Adds what bounds decide, after wins and failures were added to them.
 fn bounds(asked: &str, found: &mut RowText) -> Option<()> {
     let (first, added) = (column(asked, 0), column(asked, 1));
     let mut bounds = bounds_of(word(first, 0), word(first, 1));
@@ -49,7 +49,7 @@ fn bounds(asked: &str, found: &mut RowText) -> Option<()> {
     Some(())
 }
 
-/// The trial of a legal move.
+/// Adds the trial of a legal move.
 fn tried<B: Board>(asked: &str, found: &mut RowText) -> Option<()> {
     let position = read_position::<B>(column(asked, 0))?;
     let step = step_of(column(asked, 1))?;

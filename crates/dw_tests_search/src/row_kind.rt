@@ -25,7 +25,7 @@ pub enum RowKind {
 }
 
 impl RowKind {
-    /// The kind that a word names.
+    /// Returns the kind that a word names.
     pub fn named(word: &str) -> Option<RowKind> {
         match word {
             "notes" | "refused-notes" => Some(RowKind::Notes),
@@ -48,7 +48,7 @@ impl RowKind {
         }
     }
 
-    /// Whether one memo is asked about all rows of a section, and not a new one about each.
+    /// Returns whether one memo is asked about all rows of a section, and not a new one about each.
     pub fn keeps(self) -> bool {
         match self {
             RowKind::Notes | RowKind::Crowded | RowKind::Ask | RowKind::Least => true,
@@ -57,7 +57,7 @@ impl RowKind {
         }
     }
 
-    /// Whether a lister is asked, which is done in one order of moves alone.
+    /// Returns whether a lister is asked, which is done in one order of moves alone.
     pub fn lists(self) -> bool {
         match self {
             RowKind::Lines | RowKind::Lists | RowKind::Place | RowKind::Portions => true,

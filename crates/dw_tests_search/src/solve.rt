@@ -26,7 +26,7 @@ impl<B: Board> Guide<B> for ByEnd {
     }
 }
 
-/// A number of moves, at most 20.
+/// Returns a number of moves, at most 20.
 fn moves_of(text: &str) -> Option<u8>
     ensures { IfSome result (λ moves. moves ≤ 20) }
 {
@@ -36,7 +36,7 @@ fn moves_of(text: &str) -> Option<u8>
     }
 }
 
-/// A position and a number of moves, at most 20.
+/// Returns a position and a number of moves, at most 20.
 pub fn question<B: Board>(text: &str) -> Option<(Position<B>, u8)>
     ensures { IfSome result (λ read. read.1 ≤ 20) }
 {
@@ -44,7 +44,7 @@ pub fn question<B: Board>(text: &str) -> Option<(Position<B>, u8)>
     Some((position, moves_of(word(text, 1))?))
 }
 
-/// All rows are asked of one solver.
+/// Asks all rows of one solver.
 pub fn ask_rows<B: Board, M: Memo<B> + Drop, G: Guide<B> + Copy>(
     alloc: Global,
     kind: RowKind,
@@ -72,7 +72,7 @@ pub fn ask_rows<B: Board, M: Memo<B> + Drop, G: Guide<B> + Copy>(
     }
 }
 
-/// A row is asked of the first solver, or where a limit is asked for of the other.
+/// Asks a row of the first solver, or of the other one if it has a limit.
 fn ask_row<B: Board, M: Memo<B>, G: Guide<B>>(
     alloc: Global,
     kind: RowKind,
@@ -92,7 +92,7 @@ fn ask_row<B: Board, M: Memo<B>, G: Guide<B>>(
     }
 }
 
-/// One question and its answer.
+/// Asks one question, and adds its answer.
 fn ask<B: Board, M: Memo<B>, G: Guide<B>>(
     alloc: Global,
     solver: &mut Solver<B, M, G>,
@@ -110,7 +110,8 @@ fn ask<B: Board, M: Memo<B>, G: Guide<B>>(
     Some(())
 }
 
-/// The least number of moves from 1 to 3 within which the side to move wins, or 0. It wins within each greater one.
+/// Adds the least number of moves from 1 to 3 within which the side to move wins, or 0. It wins within each greater
+/// one.
 fn least<B: Board, M: Memo<B>, G: Guide<B>>(
     alloc: Global,
     solver: &mut Solver<B, M, G>,
@@ -132,7 +133,7 @@ fn least<B: Board, M: Memo<B>, G: Guide<B>>(
     Some(())
 }
 
-/// A question to a new solver. Where it is refused memory it says so, and then it can be asked again.
+/// Adds a question to a new solver. Where it is refused memory it says so, and then it can be asked again.
 fn refused<B: Board, M: Memo<B>, G: Guide<B>>(
     alloc: Global,
     solver: &mut Solver<B, M, G>,

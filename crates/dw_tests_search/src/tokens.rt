@@ -12,7 +12,7 @@ use dw_tests_common::tally::RowText;
 use std::alloc::Global;
 use std::str;
 
-/// The line of a token, or why the text is none. A second column tells how often the text is repeated.
+/// Adds the line of a token, or why the text is none. A second column tells how often the text is repeated.
 pub fn token<B: Board>(alloc: Global, asked: &str, found: &mut RowText) -> Option<()> {
     let mut text = Vec::new(alloc);
     for _ in 0..column(asked, 1).parse::<u16>().unwrap_or(1) {
@@ -25,7 +25,7 @@ pub fn token<B: Board>(alloc: Global, asked: &str, found: &mut RowText) -> Optio
     Some(())
 }
 
-/// The token of a line, written to a sink that takes so many bytes a write and fails at this write.
+/// Adds the token of a line, written to a sink that takes a fixed number of bytes a write and fails at this write.
 pub fn written<B: Board>(alloc: Global, asked: &str, found: &mut RowText) -> Option<()>
     requires { (B.geometry.rows ≡ 10) ⊎ (B.geometry.rows ≡ 8) }
 {
@@ -50,7 +50,7 @@ fn add_written<B: Board>(line: &[Move<B>], sink: Narrow, found: &mut RowText) ->
     Some(())
 }
 
-/// A sink that takes so many bytes a write and fails at this write: two numbers.
+/// Returns a sink that takes a fixed number of bytes a write and fails at this write: two numbers.
 fn narrow(alloc: Global, text: &str) -> Option<Narrow> {
     let step = word(text, 0).parse::<usize>().ok()?;
     let fails_at = word(text, 1).parse::<u64>().ok()?;

@@ -37,7 +37,7 @@ pub record IsShortest (g : Geometry) (p : Placement) (n : ℕ) : Type 0 where
   pub wins : Win g p n
   pub none_less : (k : ℕ) → k < n → Win g p k → ⊥
 
--- unsolvable, cooked, dual or sound, with what each tells
+-- unsolvable, cooked, dual or sound, each with its moves
 pub data Verdict : Type 0 where
   unsolvable : Verdict
   cooked : (shortest : ℕ) (keys : List Move) → Verdict
@@ -48,7 +48,7 @@ pub data Verdict : Type 0 where
 abbrev pub HasOneKey : Geometry → Placement → ℕ → Move → Type 0
 HasOneKey g p n m = Keys g p n (m ∷ []) × (Win g p (n - 1) → ⊥)
 
--- no key; several keys or a shorter win; one key and choices later, of which the first are told; one key, no choice
+-- no key; several keys or a shorter win; one key and choices later, the first of which is given; one key, no choice
 abbrev pub IsVerdict : Geometry → Placement → ℕ → Verdict → Type 0
 IsVerdict g p n unsolvable = Keys g p n []
 IsVerdict g p n (cooked shortest keys) =

@@ -24,8 +24,8 @@ pub(crate) struct Dual<B: Board> {
     pub(crate) choices: Vec<Move<B>>,
 }
 
-/// The first choice after one of the keys of a position, in the order of lines, where what begins a line comes before
-/// it. The keys are all of those within so many moves.
+/// Returns the first choice after one of the keys of a position, in the order of lines, where a beginning comes before
+/// its continuations. The keys are all keys for `moves` moves.
 #[cycle(first_choice)]
 pub(crate) fn first_choice<B: Board, M: Memo<B>, G: Guide<B>>(
     alloc: Global,
@@ -54,7 +54,7 @@ pub(crate) fn first_choice<B: Board, M: Memo<B>, G: Guide<B>>(
     Ok(None)
 }
 
-/// The first choice after a reply.
+/// Returns the first choice after a reply.
 #[cycle(first_choice)]
 fn choice_after_reply<B: Board, M: Memo<B>, G: Guide<B>>(
     alloc: Global,
@@ -82,7 +82,7 @@ fn choice_after_reply<B: Board, M: Memo<B>, G: Guide<B>>(
     Ok(None)
 }
 
-/// The choice at a position, or else the first one after it.
+/// Returns the choice at a position, or else the first one after it.
 #[cycle(first_choice)]
 fn choice_from<B: Board, M: Memo<B>, G: Guide<B>>(
     alloc: Global,
@@ -106,7 +106,7 @@ fn choice_from<B: Board, M: Memo<B>, G: Guide<B>>(
     first_choice(alloc, solver, position, left, choices.as_slice())
 }
 
-/// The choice, with one more move before it.
+/// Returns the choice, with one more move before it.
 fn with_first<B: Board>(mv: Move<B>, dual: Dual<B>) -> Dual<B>
     requires { length dual.at.items < 38 }
     ensures at { result.at.items ≡ mv ∷ dual.at.items }

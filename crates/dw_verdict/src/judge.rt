@@ -20,9 +20,8 @@ use dw_moves::Move;
 use dw_solve::{Guide, Solver, Stop};
 use std::alloc::Global;
 
-/// The verdict on a position and its tries, for a win within so many moves of the side to move, 1 to 20.
-/// After a stop all bounds in the memo are right, and the call can be made again.
-/// Example: at `W:W27,45:B16`, within 2 moves, it is sound by `45-40`; the tries are `27-21` and `27-22`.
+/// Returns the verdict on a position and its tries, for a win within `moves` moves of the side to move, 1 to 20. After
+/// a stop all bounds in the memo are right, and the call can be repeated.
 pub fn judge<B: Board, M: Memo<B>, G: Guide<B>>(
     alloc: Global,
     solver: &mut Solver<B, M, G>,
@@ -46,7 +45,7 @@ pub fn judge<B: Board, M: Memo<B>, G: Guide<B>>(
     judged
 }
 
-/// The verdict and the tries, one after the other.
+/// Returns the verdict and the tries, one after the other.
 fn judged<B: Board, M: Memo<B>, G: Guide<B>>(
     alloc: Global,
     solver: &mut Solver<B, M, G>,
@@ -65,9 +64,8 @@ fn judged<B: Board, M: Memo<B>, G: Guide<B>>(
     Ok(Judged { verdict, tries })
 }
 
-/// The verdict on a position for a win within so many moves of the side to move, 1 to 20, without its tries.
-/// After a stop all bounds in the memo are right, and the call can be made again.
-/// Example: at `W:W27,45:B16`, within 2 moves, it is sound by `45-40`.
+/// Returns the verdict on a position without its tries, for a win within `moves` moves of the side to move, 1 to 20.
+/// After a stop all bounds in the memo are right, and the call can be repeated.
 pub fn verdict<B: Board, M: Memo<B>, G: Guide<B>>(
     alloc: Global,
     solver: &mut Solver<B, M, G>,
@@ -90,7 +88,7 @@ pub fn verdict<B: Board, M: Memo<B>, G: Guide<B>>(
     verdict
 }
 
-/// The verdict, by how many first moves win.
+/// Returns the verdict, by how many first moves win.
 fn decided<B: Board, M: Memo<B>, G: Guide<B>>(
     alloc: Global,
     solver: &mut Solver<B, M, G>,
@@ -113,7 +111,7 @@ fn decided<B: Board, M: Memo<B>, G: Guide<B>>(
     }
 }
 
-/// The verdict if one first move wins.
+/// Returns the verdict if one first move wins.
 fn with_one_key<B: Board, M: Memo<B>, G: Guide<B>>(
     alloc: Global,
     solver: &mut Solver<B, M, G>,
@@ -143,7 +141,7 @@ fn with_one_key<B: Board, M: Memo<B>, G: Guide<B>>(
     }
 }
 
-/// The verdict if several first moves win, or if there is a win in fewer moves.
+/// Returns the verdict if several first moves win, or if there is a win in fewer moves.
 fn cooked<B: Board, M: Memo<B>, G: Guide<B>>(
     alloc: Global,
     solver: &mut Solver<B, M, G>,

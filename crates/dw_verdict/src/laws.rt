@@ -2,7 +2,6 @@
 ghost use Rattle.dw_verdict.specs.VerdictLaws.{OneVerdict, TriesAreListed};
 
 /// Each problem has a verdict, and only one.
-/// Example: within 2 moves `W:W27,45:B16` is sound, and neither cooked nor a dual.
 pub fn one_verdict()
     ensures { OneVerdict }
 {
@@ -15,7 +14,6 @@ pub fn one_verdict()
 }
 
 /// Each problem has a list of its tries, and only one.
-/// Example: within 2 moves `W:W27,45:B16` has the tries `27-21` and `27-22`.
 pub fn tries_are_listed()
     ensures { TriesAreListed }
 {

@@ -1,9 +1,7 @@
-//! Verdicts: whether a position is won within a number of moves, and how well; and its tries.
+//! Verdicts and tries: whether a position is won within a number of moves, and whether the win is unique.
 //!
-//! Begin with `judge::verdict`, which answers the `Verdict` on a position, or with `judge::judge`, which answers its
+//! Begin with `judge::verdict`, which returns the `Verdict` on a position, or with `judge::judge`, which returns its
 //! tries too.
-//!
-//! An example tells a position by its FEN text, on the board of ten rows if it names no other.
 #![tactic(auto)]
 
 mod dual;

@@ -12,8 +12,8 @@ use dw_moves::play::play;
 use dw_solve::{Guide, Lineup, Solver, Stop};
 use std::alloc::Global;
 
-/// The tries of a position within so many moves, 1 to 20, in order: each legal move that fails to one reply only, and
-/// that reply.
+/// Returns the tries of a position for `moves` moves, 1 to 20, in order: each legal move that exactly one reply
+/// refutes, and that reply.
 pub(crate) fn tries<B: Board, M: Memo<B>, G: Guide<B>>(
     alloc: Global,
     solver: &mut Solver<B, M, G>,
@@ -39,9 +39,8 @@ pub(crate) fn tries<B: Board, M: Memo<B>, G: Guide<B>>(
     Ok(tries)
 }
 
-/// The only reply after which the attacker has no win within so many moves, 0 to 20, if there is just one. Replies are
-/// asked in the solver's order, since most of those that refute come early in it.
-/// Example: at `B:W22,45:B16`, within 1 move, it is `16-21`; at `B:W27,40:B16` there is none.
+/// Returns the only reply after which the attacker has no win within `left` moves, 0 to 20, if there is exactly one.
+/// Replies come in the solver's order, because most refutations come early in it.
 pub fn refutation<B: Board, M: Memo<B>, G: Guide<B>>(
     alloc: Global,
     solver: &mut Solver<B, M, G>,

@@ -4,11 +4,9 @@ use dw_board::Board;
 use dw_moves::Move;
 
 /// The most moves before a choice: all of the longest line but the last.
-/// Example: after 38 moves of a win in 20 the attacker has one move left.
 pub const MAX_BEFORE: usize = 2 * 19;
 
 /// Whether the side to move wins within a number of its moves, and how well.
-/// Example: within 2 moves `W:W27,45:B16` has the verdict `Sound`, and its key is `45-40`.
 #[derive(Drop)]
 pub enum Verdict<B: Board> {
     /// It does not.
@@ -35,7 +33,6 @@ pub enum Verdict<B: Board> {
 }
 
 /// A verdict, with the tries.
-/// See [`judge`] for an example.
 #[derive(Drop)]
 pub struct Judged<B: Board> {
     pub verdict: Verdict<B>,

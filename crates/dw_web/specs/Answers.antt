@@ -1,5 +1,5 @@
--- What a program writes and how it ends, by its arguments and its input. `before` is what stood in the report before
--- it, `after` what stands there after it; `full` says that there was no room for more.
+-- The output and the end of a program, by its arguments and its input. `before` is the report's slice before, `after`
+-- the slice after; `full` means that there was no room for more.
 use Rattle.std.specs.Prelude.{◌≡◌, ◌⊎◌, ℕ, Bool, true, false, List, Option, Some, None, Result, Ok, Err}
 use Rattle.std.specs.Borrow.{Bor}
 use Rattle.std.specs.Option.{option_copied}
@@ -82,14 +82,14 @@ DoesDesk input before after full ending = (matches : ArgMatches) × (args : Desk
 abbrev pub Refuses : (before after : Option (List ℕ)) → (full : Bool) → Ending (Bor (List ℕ)) → Type 0
 Refuses before after full ending = (error : CliError) × EndsUnread before after full error ending
 
--- what the program that was asked for does; with no program nothing is done
+-- the effect of the named program; without a program nothing is done
 abbrev pub DoesIt : Option Program → (input : List ℕ) → (before after : Option (List ℕ)) → (full : Bool)
     → Ending (Bor (List ℕ)) → Type 0
 DoesIt (Some Report) input before after full ending = DoesReport input before after full ending
 DoesIt (Some Desk) input before after full ending = DoesDesk input before after full ending
 DoesIt None input before after full ending = ⊥
 
--- the arguments are not obeyed, or the program does what they ask for
+-- the arguments are refused, or the program does what they request
 abbrev pub Answers : Option Program → (input : List ℕ) → (before after : Option (List ℕ)) → (full : Bool)
     → Ending (Bor (List ℕ)) → Type 0
 Answers program input before after full ending =

@@ -12,9 +12,9 @@ use std::marker::Brand;
 
 /// Runs a program.
 ///
-/// The arguments are separated by line feeds; the first is `dw` or `dw-desk`. The input stands for standard input, the
-/// report for standard output and the message for standard error, of which as much is written as there is room for. A
-/// FILE cannot be opened. A report for which there is no room is a failed write.
+/// The arguments are separated by line feeds; the first is `dw` or `dw-desk`. The input replaces standard input, the
+/// report standard output and the message standard error. A message is cut to the room for it. A FILE cannot be opened.
+/// A report without room is a failed write.
 #[unsafe(no_mangle)]
 pub extern "C" fn dw_web_run(
     alloc: Global,

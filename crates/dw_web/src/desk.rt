@@ -17,10 +17,10 @@ use dw_notation::Reading;
 use dw_study::{Slices, Watcher};
 use std::alloc::Global;
 
-/// The program's name, in what it says of itself.
+/// The program's name in its messages.
 const PROGRAM: &str = "dw-desk";
 
-/// Is told how far a search is, and shows it to nobody.
+/// A watcher that shows nothing.
 #[derive(Drop)]
 struct Nobody;
 
@@ -58,7 +58,7 @@ pub(crate) fn run_words<L: Limit>(
     }
 }
 
-/// Does what the arguments ask for, on the board that they name.
+/// Runs the command on its board.
 fn run<'a, L: Limit>(
     alloc: Global,
     args: &DeskArgs<'a>,
@@ -75,7 +75,7 @@ fn run<'a, L: Limit>(
     }
 }
 
-/// Does what was asked for, with the problems of the input. There are no files here.
+/// Runs the command with the problems of the input. There are no files here.
 fn run_from<'a, B: Board, L: Limit>(
     alloc: Global,
     args: &DeskArgs<'a>,

@@ -1,4 +1,4 @@
-//! How a program ended, as the page is told.
+//! The end of a program, for the page.
 
 /// How a program ended, and how much it wrote.
 #[repr(C)]

@@ -1,7 +1,6 @@
 //! Both programs as one call over bytes, for a page in a browser.
 //!
-//! `dw_web_run` takes what a program is started with, its arguments and its standard input, and answers what it writes
-//! and how it ends. The programs do the same over an operating system's files and streams.
+//! `dw_web_run` takes the arguments and the standard input of a program, and returns its output and its exit status.
 #![tactic(auto)]
 
 pub mod call;

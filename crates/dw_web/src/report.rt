@@ -15,7 +15,7 @@ use dw_commands::{Ending, Job};
 use dw_notation::Reading;
 use std::alloc::Global;
 
-/// The program's name, in what it says of itself.
+/// The program's name in its messages.
 const PROGRAM: &str = "dw";
 
 /// Runs `dw` with the words of a command line.

@@ -6,7 +6,7 @@ use dw_notation::Sink;
 use std::alloc::{AllocError, Global};
 use std::marker::{Brand, PhantomData};
 
-/// How many bytes a report may have. Only the proof knows: it stands for the number that a call is given.
+/// The greatest size of a report, for the proof only: the number that a call is given.
 pub(crate) trait Limit {
     ghost limit: { ℕ };
 }
@@ -15,8 +15,8 @@ impl Limit for Brand {
     ghost limit = { 0 };
 }
 
-/// What a report is written to: bytes up to a limit, for which memory is taken at once. Of a piece that does not fit it
-/// takes what fits, and then it fails.
+/// A sink for a report: bytes up to a limit, allocated at once. It takes the part of a piece that fits, and then it
+/// fails.
 #[derive(Drop)]
 pub(crate) struct Room<L: Limit> {
     pub(crate) bytes: Vec<u8>,
@@ -30,7 +30,7 @@ pub(crate) struct Room<L: Limit> {
 }
 
 impl<L: Limit> Room<L> {
-    /// Nothing is written; there is room for so many bytes.
+    /// Returns an empty sink with room for `limit` bytes.
     pub(crate) fn new(alloc: Global, limit: usize) -> Result<Room<L>, AllocError>
         requires { limit ≡ L.limit }
         ensures written { IfOk result (λ room. room.bytes.items ≡ []) }
@@ -44,7 +44,7 @@ impl<L: Limit> Room<L> {
         })
     }
 
-    /// Copies what is written to the front of a slice, and tells how many bytes it is.
+    /// Copies the report to the front of a slice, and returns its size in bytes.
     pub(crate) fn copy_to(&self, to: &mut [u8]) -> usize
         requires { length to.old ≡ L.limit }
         ensures count { result ≡ length (self.now.bytes.items) }

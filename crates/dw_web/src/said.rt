@@ -19,7 +19,7 @@ pub(crate) struct Told {
 }
 
 impl Told {
-    /// The same, with a report of so many bytes.
+    /// Returns the same end with a report of `report` bytes.
     pub(crate) fn with(self, report: usize) -> Ended
         ensures { result ≡ record { status = self.status; report = report; message = self.message } }
     {
@@ -47,7 +47,7 @@ pub(crate) fn refuse<L: Limit>(
     tell(program, &end_unread(error, room), message)
 }
 
-/// Writes the message of an ending, as much as there is room for, and tells its exit status.
+/// Writes the message of an ending, cut to the room for it, and returns the exit status.
 pub(crate) fn tell(program: &str, ending: &Ending<&str>, message: &mut [u8]) -> Told
     ensures told { IsTold ending.now result.status result.message }
     ensures fits { result.message ≤ length message.old }
@@ -65,7 +65,7 @@ pub(crate) fn tell(program: &str, ending: &Ending<&str>, message: &mut [u8]) -> 
     }
 }
 
-/// Writes a message into a slice, as much as there is room for, and tells how many bytes it is.
+/// Writes a message into a slice, cut to its size, and returns its size in bytes.
 fn write_message(said: Message<'_, &str>, message: &mut [u8]) -> usize
     ensures { result ≤ length message.old }
 {

@@ -18,7 +18,7 @@ pub enum Program {
     Desk,
 }
 
-/// The program that the first word names.
+/// Returns the program that the first word names.
 pub(crate) fn program_of(arguments: &[u8]) -> Option<Program>
     ensures { result ≡ program_in arguments.now }
 {
@@ -32,7 +32,7 @@ pub(crate) fn program_of(arguments: &[u8]) -> Option<Program>
     }
 }
 
-/// The name that the program has in what it says of itself.
+/// Returns the name of the program in its messages.
 pub(crate) fn name_of(arguments: &[u8]) -> &'static str {
     match program_of(arguments) {
         Some(Program::Desk) => "dw-desk",
@@ -40,7 +40,7 @@ pub(crate) fn name_of(arguments: &[u8]) -> &'static str {
     }
 }
 
-/// The bytes up to the first line feed.
+/// Returns the bytes up to the first line feed.
 fn first_word(arguments: &[u8]) -> &[u8]
     ensures { result.now ≡ of.first_word arguments.now }
 {
@@ -50,14 +50,14 @@ fn first_word(arguments: &[u8]) -> &[u8]
     }
 }
 
-/// Where the first line feed stands.
+/// Returns the place of the first line feed.
 fn line_feed_in(bytes: &[u8]) -> Option<usize>
     ensures { result ≡ position (λ byte. byte == 10) bytes.now }
 {
     bytes.iter().position(|byte| *byte == LINE_FEED)
 }
 
-/// The words, as the arguments of this program.
+/// Returns the words, as the arguments of this program.
 pub(crate) fn words_of(
     alloc: Global,
     program: &str,
@@ -69,7 +69,7 @@ pub(crate) fn words_of(
     }
 }
 
-/// The parts of a text between line feeds.
+/// Returns the parts of a text between line feeds.
 fn split(alloc: Global, text: &str) -> Result<Vec<String>, AllocError> {
     let mut words = Vec::new(alloc);
     for word in text.split('\n') {

@@ -4,7 +4,6 @@ use std::fmt;
 use thiserror::Error;
 
 /// What is wrong with a text that is no FEN text. Its number is that of the variant, from 1 on.
-/// Example: in `W:27:B16` the letter of a side is missing: `FenFaultKind::Colour`, whose number is 3.
 #[derive(Clone, Copy, Debug, PartialEq, Eq)]
 pub enum FenFaultKind {
     Turn,
@@ -21,7 +20,7 @@ pub enum FenFaultKind {
 }
 
 impl FenFaultKind {
-    /// Its name in texts.
+    /// Returns its name in texts.
     fn name(self) -> &'static str {
         match self {
             FenFaultKind::Turn => "turn",
@@ -45,9 +44,8 @@ impl fmt::Display for FenFaultKind {
     }
 }
 
-/// The earliest fault of a text, and the place of the token where it is found: the number, from 1 on, of
-/// that token's first byte; one more than the length at the text's end.
-/// Example: that of `W:W27,51:B16` is `FenFault { what: FenFaultKind::Number, place: 7 }`, or `number at 7`.
+/// The earliest fault of a text, and the place of the token where it is found: the number, from 1 on, of that token's
+/// first byte; one more than the length at the text's end.
 #[derive(Clone, Copy, Debug, PartialEq, Eq, Error)]
 #[error("{what} at {place}")]
 pub struct FenFault {

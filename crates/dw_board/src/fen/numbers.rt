@@ -5,8 +5,7 @@ ghost use Rattle.dw_board.specs.FenTokens.{AreDigits, begins_with_digit, number_
 use crate::board::Board;
 use crate::square::Square;
 
-/// How many digits stand at the front.
-/// Example: of `07,31` it is 2, and of `x` it is 0.
+/// Returns how many digits stand at the front.
 pub fn digits_at(text: &[u8]) -> usize
     ensures within { result ≤ length text.now }
     ensures digits { AreDigits (take result text.now) }
@@ -19,8 +18,7 @@ pub fn digits_at(text: &[u8]) -> usize
     count
 }
 
-/// The square that one or two digits number, and `None` for any other bytes.
-/// Example: of `07` it is square 7, and of `007` it is `None`.
+/// Returns the square that one or two digits number, and `None` for any other bytes.
 pub fn square_named<B: Board>(digits: &[u8]) -> Option<Square<B>>
     ensures { result ≡ number_named B.geometry digits.now }
 {

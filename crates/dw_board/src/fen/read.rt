@@ -21,11 +21,9 @@ use crate::position::Position;
 use crate::square::Square;
 
 /// The most bytes of a FEN text.
-/// Example: 1,025 blanks are refused as `too long at 1025`.
 pub const MAX_FEN: usize = 1024;
 
 /// Reads a position: exactly if the text is a FEN text of one, and else its earliest fault.
-/// Example: `read_fen::<Ten>(b"W:W31.")` is the position `W:W31:B`; `b"W:W27 32:B16"` has the fault `rest at 7`.
 pub fn read_fen<B: Board>(text: &[u8]) -> Result<Position<B>, FenFault>
     ensures exact { result ≡ fen B.geometry text.now }
     ensures grammar { (p : Placement) → (result ≡ Ok p) ↔ Fen B.geometry text.now p }
@@ -55,7 +53,7 @@ fn read_short_fen<B: Board>(text: &[u8]) -> Result<Position<B>, FenFault>
     read_first(&mut tokens, Position::empty(turn))
 }
 
-/// Reads the first list, after its colon, and what follows it.
+/// Reads the first list after its colon, and the rest of the text.
 fn read_first<B: Board>(
     tokens: &mut Tokens<'_>,
     mut position: Position<B>,
@@ -72,7 +70,7 @@ fn read_first<B: Board>(
     read_end(tokens, position)
 }
 
-/// Reads the second list, after its colon, and what follows it.
+/// Reads the second list after its colon, and the rest of the text.
 fn read_second<B: Board>(
     tokens: &mut Tokens<'_>,
     first: Side,
@@ -144,7 +142,7 @@ fn read_list<B: Board>(
     read_items(tokens, side, position)
 }
 
-/// Whether no item can follow: at the end, at a colon and at a stop.
+/// Returns whether no item can follow: at the end, at a colon and at a stop.
 fn ends_list(tokens: &Tokens<'_>) -> bool
     ensures { result ≡ no_item (tokens_of tokens.now) }
 {

@@ -12,7 +12,6 @@ use crate::piece::Side;
 use crate::square::Square;
 
 /// A text and the place in it up to which it is read. It never stands at a blank.
-/// Example: `W:W27` has the tokens `W`, `:`, `W` and `27`.
 #[derive(Drop)]
 pub(super) struct Tokens<'a> {
     text: &'a [u8],
@@ -26,8 +25,7 @@ impl<'a> Tokens<'a> {
     ghost use Rattle.dw_board.specs.inner.FenReader.{tokens_of, end_of, left_of};
     ghost use Rattle.dw_board.specs.FenTokens.{place_of, first_is, first_named, is_empty};
 
-    /// The first token of a text of at most `MAX_FEN` bytes.
-    /// Example: of ` W` it is `W`, at place 2.
+    /// Returns the first token of a text of at most `MAX_FEN` bytes.
     pub(super) fn new(text: &'a [u8]) -> Tokens<'a>
         requires { length text.now ≤ MAX_FEN }
         ensures tokens { tokens_of result ≡ tokens_from 1 text.entry.now }
@@ -39,16 +37,14 @@ impl<'a> Tokens<'a> {
         }
     }
 
-    /// The place of the next token, or the one after the text.
-    /// Example: at the start of ` W` it is 2.
+    /// Returns the place of the next token, or the one after the text.
     pub(super) fn place(&self) -> u16
         ensures { result ≡ place_of (tokens_of self.now) (end_of self.now) }
     {
         self.at as u16 + 1
     }
 
-    /// The fault at the place of the next token.
-    /// Example: at the start of `x` that of `FenFaultKind::Turn` is `turn at 1`.
+    /// Returns the fault at the place of the next token.
     pub(super) fn fault(&self, what: FenFaultKind) -> FenFault
         ensures { result ≡ (record { what = what; place = place_of (tokens_of self.now) (end_of self.now) }) }
     {
@@ -58,22 +54,21 @@ impl<'a> Tokens<'a> {
         }
     }
 
-    /// Whether no token is left.
-    /// Example: of a text of blanks it is `true` at the start.
+    /// Returns whether no token is left.
     pub(super) fn is_at_end(&self) -> bool
         ensures { result ≡ is_empty (tokens_of self.now) }
     {
         self.at == self.text.len()
     }
 
-    /// The next byte, if there is one.
+    /// Returns the next byte, if there is one.
     fn byte(&self) -> Option<u8>
         ensures { result ≡ slice_get self.now.text.now self.now.at }
     {
         self.text.get(self.at).copied()
     }
 
-    /// Goes past so many bytes, and past the blanks after them.
+    /// Skips a number of bytes, and the blanks after them.
     fn pass(&mut self, count: usize)
         requires { self.old.at + count ≤ length self.old.text.now }
         ensures tokens { tokens_of self.new ≡ tokens_from (self.old.at + count + 1)
@@ -83,8 +78,7 @@ impl<'a> Tokens<'a> {
         self.at = past_blanks(self.text, self.at + count);
     }
 
-    /// Whether this sign is the next token.
-    /// Example: at the start of `:B` it is `true` for `b':'`.
+    /// Returns whether this sign is the next token.
     pub(super) fn stands(&self, sign: u8) -> bool
         requires { IsSignByte sign }
         ensures { result ≡ first_is (is_sign sign) (tokens_of self.now) }
@@ -93,7 +87,6 @@ impl<'a> Tokens<'a> {
     }
 
     /// Takes the next token if it is this sign.
-    /// Example: at the start of `:B` it takes `b':'`, and `B` is the next token.
     pub(super) fn take(&mut self, sign: u8) -> bool
         requires { IsSignByte sign }
         ensures taken { result ≡ first_is (is_sign sign) (tokens_of self.old) }
@@ -123,7 +116,6 @@ impl<'a> Tokens<'a> {
     }
 
     /// Takes the next token if it is a K.
-    /// Example: at the start of `k7` it is `true`, and `7` is the next token.
     #[tactic(auto, using(crate::proofs::FenTokenLemmas::first_is_king))]
     pub(super) fn take_king(&mut self) -> bool
         ensures taken { result ≡ first_is is_king_letter (tokens_of self.old) }
@@ -134,7 +126,6 @@ impl<'a> Tokens<'a> {
     }
 
     /// Takes the next token if it names a side.
-    /// Example: at the start of `b:` it is `Some(Side::Black)`.
     pub(super) fn take_side(&mut self) -> Option<Side>
         ensures taken { result ≡ first_named side_named (tokens_of self.old) }
         ensures left { tokens_of self.new ≡ left_of (is_some result) (tokens_of self.old) }
@@ -150,7 +141,6 @@ impl<'a> Tokens<'a> {
     }
 
     /// Takes the next token if it gives the number of a square.
-    /// Example: at the start of `07,31` it is square 7, and of `007` it is `None`.
     pub(super) fn take_square<B: Board>(&mut self) -> Option<Square<B>>
         ensures taken { result ≡ first_named (number_named B.geometry) (tokens_of self.old) }
         ensures left { tokens_of self.new ≡ left_of (is_some result) (tokens_of self.old) }
@@ -163,7 +153,7 @@ impl<'a> Tokens<'a> {
     }
 }
 
-/// The first place from this one on where no blank stands.
+/// Returns the first place from this one on where no blank stands.
 fn past_blanks(text: &[u8], from: usize) -> usize
     requires { from ≤ length text.now }
     ensures low { from ≤ result }

@@ -12,12 +12,10 @@ use arrayvec::ArrayString;
 use std::fmt;
 
 /// The bytes that suffice for each written text.
-/// Example: `W:WK7,31:B` takes 10 of them.
 pub const FEN_ROOM: usize = 192;
 
-/// The FEN text of a position, as `W:WK7,31:B`: the turn, White's pieces and Black's, the squares of each
+/// Returns the FEN text of a position, as `W:WK7,31:B`: the turn, White's pieces and Black's, the squares of each
 /// ascending, and a `K` before a king.
-/// Example: with White to move, a white king on 7 and a white man on 31 it is `W:WK7,31:B`.
 #[tactic(auto, unfolding(crate::specs::FenText::written))]
 pub fn fen_text<B: Board>(position: &Position<B>) -> ArrayString<FEN_ROOM>
     ensures { result.bytes ≡ written B.geometry position.now }

@@ -27,7 +27,7 @@ pub record AreAfter (g : Geometry) (p : Placement) (list : List Placement) : Typ
   pub all : (m : Move) → Legal g p m → Member (play g p m) list
   pub only : (q : Placement) → Member q list → IsAfter g p q
 
--- rows with others behind them, of these positions and of 1 to so many moves
+-- rows with others after them, of these positions and of 1 to so many moves
 pub record IsGrown (Of : Placement → Type 0) (moves : ℕ) (old new : List Row) : Type 0 where
   pub more : List Row
   pub is : new ≡ old ++ more

@@ -52,7 +52,7 @@ Comes Old New None = Old []
 Comes Old New (Some game) =
     ((all : List NumberedGame) → New all → Old (numbered_game game ∷ all)) × ((all : List NumberedGame) × New all)
 
--- the next game of a text, and what is still to be read behind it
+-- the next game of a text, and what is still to be read after it
 abbrev pub ComesNext : {B S : Type 0} → Geometry → (S → Option (List ℕ)) → (S → Bool) → (old new : Text B S)
     → Option (Game B) → Type 0
 ComesNext g coming has_ended old new found =
@@ -110,7 +110,7 @@ pub record IsFresh {B S : Type 0} (g : Geometry) (coming : S → Option (List �
   pub portion : chosen.portion ≡ asked
   pub runs : Runs chosen.text
 
--- of the games that are to come the first is handed out, and those behind it stay to come; or none comes
+-- of the games that are to come the first is handed out, and those after it stay to come; or none comes
 abbrev pub HandsOut : (Old New : List NumberedGame → Type 0) → Option NumberedGame → Type 0
 HandsOut Old New None = Old []
 HandsOut Old New (Some game) = (more : List NumberedGame) → New more → Old (game ∷ more)

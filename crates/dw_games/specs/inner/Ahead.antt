@@ -12,7 +12,7 @@ bytes_ahead t = drop t.at t.text.now
 abbrev pub AreAhead : Tokens → List of.Token → List ℕ → Type 0
 AreAhead t tokens rest = of.AreTokens (t.at + 1) t.fresh (bytes_ahead t) tokens rest
 
--- the place behind the text
+-- the place after the text
 abbrev pub end_of : Tokens → ℕ
 end_of t = length t.text.now + 1
 

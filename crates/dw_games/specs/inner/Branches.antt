@@ -57,7 +57,7 @@ abbrev pub IsPlace : List BranchStep → Option ℕ → Type 0
 IsPlace steps None = Unit {0}
 IsPlace steps (Some n) = n < length steps
 
--- each step stands once, behind that of its parent, and the links lead to the first child and to the next sibling
+-- each step stands once, after that of its parent, and the links lead to the first child and to the next sibling
 pub record AreLinked (steps : List BranchStep) (firsts nexts : List (Option ℕ)) : Type 0 where
   pub many : length firsts ≡ length steps
   pub many_too : length nexts ≡ length steps
@@ -71,7 +71,7 @@ pub record AreLinked (steps : List BranchStep) (firsts nexts : List (Option ℕ)
 abbrev pub Hang : {B : Type 0} → List (Branch B) → Type 0
 Hang branches = AreLinked (steps_of branches) (firsts_of branches) (nexts_of branches)
 
--- the first children and the next siblings with a new node linked: behind the last child of its parent, if there is one
+-- the first children and the next siblings with a new node linked: after the last child of its parent, if there is one
 abbrev pub first_linked : List (Option ℕ) → (last parent : Option ℕ) → ℕ → List (Option ℕ)
 first_linked firsts (Some last) parent n = firsts
 first_linked firsts None None n = firsts
@@ -87,7 +87,7 @@ IsChildOrLast steps parent m (Child n) = slice_get steps n.0 ≡ Some (record { 
 IsChildOrLast steps parent m (Last last) = ((n : ℕ) → slice_get steps n ≡ Some (record { parent = parent; mv = m }) → ⊥)
     × IsLastChild steps parent (place_of last)
 
--- the place behind a node, or the first one of all
+-- the place after a node, or the first one of all
 abbrev pub behind : Option ℕ → ℕ
 behind None = 0
 behind (Some n) = n + 1

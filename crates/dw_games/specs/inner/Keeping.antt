@@ -16,12 +16,12 @@ abbrev pub IsKeptFor : Found → List ℕ → BoundedBuf → Type 0
 IsKeptFor (Ok position) text kept = IsKept (MAX_MOVETEXT + 1) text kept
 IsKeptFor (Err fault) text kept = IsKept 0 text kept
 
--- what is told of a section's tags, by what it says and by the bytes that are kept of it and of the spaces behind
+-- what is told of a section's tags, by what it says and by the bytes that are kept of it and of the spaces after
 abbrev pub IsTold : Found → (kept tags : List ℕ) → Type 0
 IsTold (Ok position) kept tags = IsTrimAsciiEnd kept tags
 IsTold (Err fault) kept tags = tags ≡ []
 
--- the spaces at the end of a text, behind those that stand before it
+-- the spaces at the end of a text, after those that stand before it
 abbrev pub spaces_on : List ℕ → List ℕ → List ℕ
 spaces_on spaces [] = spaces
 spaces_on spaces (byte ∷ text) = spaces_on (if is_space byte then spaces ++ byte ∷ [] else []) text

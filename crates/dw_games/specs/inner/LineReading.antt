@@ -24,7 +24,7 @@ abbrev pub NoneOpens : List Token → Type 0
 NoneOpens [] = Unit {0}
 NoneOpens (t ∷ ts) = (t.what ≢ Opens) × NoneOpens ts
 
--- some moves, and each beginning of others behind them
+-- some moves, and each beginning of others after them
 abbrev pub beginnings_after : List Move → List Move → List (List Move)
 beginnings_after before [] = []
 beginnings_after before (m ∷ moves) = (before ++ m ∷ []) ∷ beginnings_after (before ++ m ∷ []) moves
@@ -48,7 +48,7 @@ LineHasEnded g p old now reader (Err (text.Refused what place)) = (ts : List Tok
     × AreAhead old (ts ++ t ∷ []) rest × LineFaultAt g p ts t what × (place ≡ t.place)
 LineHasEnded g p old now reader (Err text.Memory) = Unit {0}
 
--- the fault behind so many bytes of moves that are not odd in number
+-- the fault after so many bytes of moves that are not odd in number
 abbrev pub IsNoOddNumber : List Move → ℕ → LineFault → Type 0
 IsNoOddNumber moves bytes why = ((moves ≡ []) × (why ≡ Refused (Movetext Empty) (bytes + 1)))
     ⊎ ((0 < length moves) × (length moves % 2 ≡ 0) × (why ≡ Refused Even (bytes + 1)))

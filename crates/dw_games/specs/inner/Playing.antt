@@ -31,13 +31,13 @@ abbrev pub HasGamesFrom : Bool → Geometry → (text front : List ℕ) → List
 HasGamesFrom true g text front games = InComment g text front games
 HasGamesFrom false g text front games = HasGames g text front games
 
--- the text behind bytes without a section, and its games
+-- the text after bytes without a section, and its games
 abbrev pub Follows : Geometry → PlayEnd → List ℕ → List Said → Type 0
 Follows g Section text games = HasGames g text [] games
 Follows g Text text games = (text ≡ []) × (games ≡ [])
 Follows g Open text games = (text ≡ []) × (games ≡ unclosed ∷ [])
 
--- what stands behind the bytes where the text ends
+-- what stands after the bytes where the text ends
 abbrev pub end_of_text : SectionFinder → PlayEnd
 end_of_text finder = if in_comment finder then Open else Text
 

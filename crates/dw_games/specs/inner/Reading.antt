@@ -21,7 +21,7 @@ use Rattle.dw_games.specs.declared.reader.Cursor.{Cursor}
 use Rattle.dw_games.specs.declared.reader.OpenLine.{OpenLine}
 use Rattle.dw_games.specs.declared.reader.Reader.{Reader}
 
--- a cursor is behind this path of a tree
+-- a cursor is after this path of a tree
 pub record IsCursor {B : Type 0} (g : Geometry) (p : Placement) (tree : List (List Move)) (cursor : Cursor B)
     (path : List Move) : Type 0 where
   pub there : beginning_at tree (place_of cursor.node) ≡ Some path
@@ -63,7 +63,7 @@ pub record HasRead {B : Type 0} (g : Geometry) (p : Placement) (ts : List Token)
   pub opened : Opened g p reader.tree room ts reader.line reader.outer.items before moves paths
   pub distinct : AreDistinct paths reader.tree
 
--- a fault is that of a token behind those before it
+-- a fault is that of a token after those before it
 abbrev pub IsFaultOf : Geometry → Placement → List Token → Token → MovetextFault → Type 0
 IsFaultOf g p ts t (Refused what place) = FaultAt g p ts t what × (place ≡ t.place)
 IsFaultOf g p ts t Memory = Unit {0}
@@ -85,7 +85,7 @@ IsMoveOf g p ts t reader (Err why) = IsFaultOf g p ts t why
 abbrev pub IsReading : {B : Type 0} → Geometry → Reader B → Type 0
 IsReading g reader = (p : Placement) × (ts : List Token) × HasRead g p ts reader
 
--- some tokens were read: what is ahead now was ahead behind them
+-- some tokens were read: what is ahead now was ahead after them
 abbrev pub ReadOn : Tokens → List Token → Tokens → Type 0
 ReadOn old ts now = (more : List Token) (rest : List ℕ) → AreAhead now more rest → AreAhead old (ts ++ more) rest
 
@@ -107,13 +107,13 @@ HasEnded g p old now reader (Err why) = IsStopped g p old why
 abbrev pub HasGoneOn : {B : Type 0} → Geometry → Placement → Tokens → Tokens → Reader B → Type 0
 HasGoneOn g p old now reader = (ts : List Token) × HasRead g p ts reader × ReadOn old ts now
 
--- a token is none that may stand behind a result
+-- a token is none that may stand after a result
 abbrev pub IsOdd : Token → MovetextFault → Type 0
 IsOdd t (Refused what place) = (((what ≡ NoToken) × (t.what ≡ CutOff))
     ⊎ ((what ≡ Rest) × (t.what ≢ Comment) × (t.what ≢ CutOff))) × (place ≡ t.place)
 IsOdd t Memory = ⊥
 
--- comments alone are ahead, or another token behind some comments
+-- comments alone are ahead, or another token after some comments
 abbrev pub AreLast : {A : Type 0} → Tokens → Result A MovetextFault → Type 0
 AreLast old (Ok done) = (cs : List Token) × AreComments cs × AreAhead old cs []
 AreLast old (Err why) = (cs : List Token) × (t : Token) × (rest : List ℕ) × AreComments cs

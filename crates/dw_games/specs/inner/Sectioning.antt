@@ -16,7 +16,7 @@ use Rattle.dw_games.specs.inner.Keeping.{IsKept, spaces_on, row_of}
 use Rattle.dw_games.specs.declared.games.GameFault.{GameFault}
 use Rattle.dw_games.specs.declared.bounded_buf.BoundedBuf.{BoundedBuf}
 
--- bytes that are a section and the gap behind it, which this byte ends
+-- bytes that are a section and the gap after it, which this byte ends
 pub record IsCut (g : Geometry) (seen : List ℕ) (byte : ℕ) (found : Found) : Type 0 where
   pub tags : List Tag
   pub some : Bool
@@ -29,7 +29,7 @@ pub record IsCut (g : Geometry) (seen : List ℕ) (byte : ℕ) (found : Found) :
   pub says : SectionSays g (length text) some tags found
   pub joined : seen ≡ text ++ gap
 
--- bytes that are a section and the gap behind it, where the text ends
+-- bytes that are a section and the gap after it, where the text ends
 pub record IsLast (g : Geometry) (seen : List ℕ) (found : Found) : Type 0 where
   pub tags : List Tag
   pub some : Bool
@@ -41,7 +41,7 @@ pub record IsLast (g : Geometry) (seen : List ℕ) (found : Found) : Type 0 wher
   pub says : SectionSays g (length text) some tags found
   pub joined : seen ≡ text ++ gap
 
--- bytes up to a bracket, few enough to be kept, and the spaces behind it
+-- bytes up to a bracket, few enough to be kept, and the spaces after it
 pub record IsRow (seen : List ℕ) : Type 0 where
   pub front : List ℕ
   pub gap : List ℕ
@@ -64,7 +64,7 @@ pub record ReadsOn {B S : Type 0} (g : Geometry) (coming : S → Option (List �
   pub said : (over : Bool) (more : List ℕ) → SectionsSay g over (passed ++ more) (ahead_of reader g over more)
   pub unsaid : ahead_of reader g false [] ≡ []
 
--- a section is passed, with the games of a text that goes on behind it
+-- a section is passed, with the games of a text that goes on after it
 pub record ReadsSection {S : Type 0} (g : Geometry) (coming : S → Option (List ℕ)) (has_ended is_failed : S → Bool)
     (pulls : S → ℕ) (old new : Input S) (begun row before after : BoundedBuf)
     (result : Result (Option Found) GameFault) : Type 0 where

@@ -5,7 +5,7 @@ use Rattle.dw_board.specs.Lists.{Member}
 use Rattle.dw_memo.specs.Content.{Entry, Content, IsMap}
 use Rattle.dw_memo.specs.inner.Buckets.{bucket_of}
 
--- so many empty buckets stand behind the old ones
+-- so many empty buckets stand after the old ones
 pub record IsWidened {X : Type 0} (entries : X → Content) (count : ℕ) (old new : List X) : Type 0 where
   pub more : List X
   pub is : new ≡ old ++ more

@@ -51,17 +51,17 @@ abbrev pub JumpsTo : Geometry → Squares → Squares → ℕ → Dir → ℕ �
 JumpsTo g enemies occupied s d t =
     (c : ℕ) × (step g s d ≡ Some c) × In c enemies × (step g c d ≡ Some t) × (In t occupied → ⊥)
 
--- behind an enemy that a man meets in this direction t is empty
+-- after an enemy that a man meets in this direction t is empty
 abbrev pub MenTake : Geometry → Squares → Squares → Squares → Dir → ℕ → Type 0
 MenTake g men enemies occupied d t =
     (c : ℕ) × MenMeet g men enemies occupied d c × (step g c d ≡ Some t) × (In t occupied → ⊥)
 
--- behind one that a king meets
+-- after one that a king meets
 abbrev pub KingsTake : Geometry → Squares → Squares → Squares → Dir → ℕ → Type 0
 KingsTake g kings enemies occupied d t =
     (c : ℕ) × KingsMeet g kings enemies occupied d c × (step g c d ≡ Some t) × (In t occupied → ⊥)
 
--- in this direction an enemy is met, and the square behind it is empty
+-- in this direction an enemy is met, and the square after it is empty
 abbrev pub Takes : Geometry → Squares → Squares → Squares → Squares → Dir → Type 0
 Takes g men kings enemies occupied d =
     (c : ℕ) × (t : ℕ) × (MenMeet g men enemies occupied d c ⊎ KingsMeet g kings enemies occupied d c)

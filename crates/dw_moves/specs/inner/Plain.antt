@@ -60,7 +60,7 @@ abbrev pub takes_for : Kind → Placement → Side → List ℕ → List (ℕ ×
 takes_for Man = man_takes
 takes_for King = king_takes
 
--- what a piece on s can take in a direction is c, and it lands behind that
+-- what a piece on s can take in a direction is c, and it lands after that
 abbrev pub TakesOver : Kind → Geometry → Placement → Side → ℕ → Dir → ℕ → Type 0
 TakesOver k g p side s d c = takes_for k p side (ray g s d) ≡ map (λ t. (c, t)) (landings_for k p (ray g c d))
 

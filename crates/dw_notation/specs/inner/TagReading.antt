@@ -9,7 +9,7 @@ use Rattle.dw_notation.specs.declared.problems.pdn.automaton.Action.TheVariants.
 use Rattle.dw_notation.specs.declared.problems.pdn.automaton.Action.TheVariants.{AddValue, AddBoth, Close, Break}
 use Rattle.dw_notation.specs.declared.problems.pdn.automaton.Action.TheVariants.{EndLine, NextTag, End}
 
--- what is read of a tag, and what stands behind it
+-- what is read of a tag, and what stands after it
 pub record TagRead : Type 0 where
   pub name : List ℕ
   pub value : List ℕ
@@ -40,7 +40,7 @@ tag_from state s (byte ∷ bytes) =
 abbrev pub begun : Section
 begun = record bare { read = 1 }
 
--- so far these bytes of a tag were read, behind its bracket: so many of its name, and this value
+-- so far these bytes of a tag were read, after its bracket: so many of its name, and this value
 pub record ReadsTag (inside : List ℕ) (i : ℕ) (state : State) (named : ℕ) (value : List ℕ) : Type 0 where
   pub section : Section
   pub is_named : length section.name ≡ named

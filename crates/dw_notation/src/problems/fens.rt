@@ -1,5 +1,4 @@
-//! FEN texts, one a line: what a line says, what is held of it, the ends of lines, and the byte-order mark at the
-//! text's front.
+//! FEN texts, one a line: the content of a line, line ends, and the byte-order mark.
 ghost use Rattle.std.specs.Prelude.{◌≡◌, ℕ, ◌+◌, ◌<◌, ◌≤◌, Bool, true, false, IfSome, IfNone};
 ghost use Rattle.std.specs.Prelude.{List, [], ◌∷◌, ◌++◌, length, drop, option_to_list};
 ghost use Rattle.std.specs.List.{list_all, position};
@@ -25,14 +24,14 @@ fn is_blank_text(text: &[u8]) -> bool
     text.iter().all(|byte| is_blank(*byte))
 }
 
-/// The text without a byte-order mark at its front.
+/// Returns the text without a byte-order mark at its front.
 fn without_mark(text: &[u8]) -> &[u8]
     ensures { result.now ≡ without_mark text.now }
 {
     text.strip_prefix(BYTE_ORDER_MARK).unwrap_or(text)
 }
 
-/// The line without one carriage return at its end.
+/// Returns the line without one carriage return at its end.
 fn without_return(line: &[u8]) -> &[u8]
     ensures { result.now ≡ without_return line.now }
 {
@@ -44,7 +43,7 @@ fn without_return(line: &[u8]) -> &[u8]
     }
 }
 
-/// What a line says, if it is no blank one.
+/// Returns the problem of a line, if the line is not blank.
 #[tactic(auto, unfolding(crate::specs::inner::TextLines::line_found))]
 fn read_line<B: Board>(line: &[u8]) -> Option<Result<Position<B>, ProblemFault>>
     ensures { result ≡ line_found B.geometry line.now }
@@ -62,7 +61,7 @@ fn read_line<B: Board>(line: &[u8]) -> Option<Result<Position<B>, ProblemFault>>
     }
 }
 
-/// The place of the first line feed.
+/// Returns the place of the first line feed.
 fn line_feed_at(bytes: &[u8]) -> Option<usize>
     ensures { result ≡ position is_line_feed bytes.now }
 {
@@ -122,7 +121,7 @@ impl TextLines {
         }
     }
 
-    /// What the line says, if it is no blank one.
+    /// Returns the problem of the line, if the line is not blank.
     pub(super) fn found<B: Board>(&self) -> Option<Result<Position<B>, ProblemFault>>
         ensures { result ≡ lines_cut B.geometry self.now }
     {

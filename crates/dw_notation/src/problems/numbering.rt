@@ -6,7 +6,6 @@ use super::{MAX_PROBLEMS, Problem, ProblemFault};
 use dw_board::{Board, Position};
 
 /// Numbers the problems of a text from 1 on. One more than there may be is `TooManyProblems`, and it is the last.
-/// Example: a new one gives the first problem the number 1.
 #[derive(Clone, Copy)]
 pub struct Numbering {
     handed: u32,
@@ -15,24 +14,21 @@ pub struct Numbering {
 impl Numbering {
     ghost use Rattle.dw_notation.specs.Numbering.{handed_out};
 
-    /// Of no problem yet.
-    /// See [`Numbering`] for an example.
+    /// Makes a numbering before the first problem.
     pub fn new() -> Numbering
         ensures { handed_out result ≡ 0 }
     {
         Numbering { handed: 0 }
     }
 
-    /// Whether the last problem was numbered that there may be.
-    /// Example: of a new one it is `false`.
+    /// Returns whether the last problem was numbered that there may be.
     pub fn is_over(self) -> bool
         ensures { MatchBool result (MAX_PROBLEMS < handed_out self) (handed_out self ≤ MAX_PROBLEMS) }
     {
         self.handed > MAX_PROBLEMS
     }
 
-    /// The next problem, which says this, or that it is one too many. After the last one it is that one again.
-    /// Example: of a new one it has the number 1, and says what is given.
+    /// Returns the next problem, which says this, or that it is one too many. After the last one it is that one again.
     pub fn hand_out<B: Board>(&mut self, found: Result<Position<B>, ProblemFault>) -> Problem<B>
         ensures more { handed_out self.old ≤ MAX_PROBLEMS → handed_out self.new ≡ handed_out self.old + 1 }
         ensures last { MAX_PROBLEMS < handed_out self.old → handed_out self.new ≡ handed_out self.old }

@@ -20,7 +20,7 @@ enum Cut {
     Comment,
 }
 
-/// How far a text of tags was read, and what was cut off last.
+/// The reading state of a text of tags, and the section that ended last.
 #[derive(Drop)]
 pub(super) struct Sections {
     state: State,
@@ -76,7 +76,7 @@ impl Sections {
         None
     }
 
-    /// Cuts off what the text's end ends.
+    /// Ends the section that the end of the text ends.
     pub(super) fn finish(&mut self)
         ensures found { (g : Geometry) → sections_ahead true g self.old [] ≡ option_to_list (sections_cut g self.new) }
         ensures over { (g : Geometry) → sections_ahead true g self.new [] ≡ [] }
@@ -93,7 +93,7 @@ impl Sections {
         self.state = State::Outside;
     }
 
-    /// What was cut off says.
+    /// Returns the problem of the section that ended last.
     pub(super) fn found<B: Board>(&self) -> Option<Result<Position<B>, ProblemFault>>
         ensures { result ≡ sections_cut B.geometry self.now }
     {

@@ -1,4 +1,4 @@
-//! The reader of problems over a source: what was read and not yet handed out, in pieces that are lines or sections.
+//! The reader of problems over a source: it cuts the input into lines or sections.
 ghost use Rattle.std.specs.Prelude.{◌≡◌, ℕ, ◌+◌, ◌<◌, ◌≤◌, ◌⊎◌, ◌||◌, Bool, true, false, MatchBool};
 ghost use Rattle.std.specs.Prelude.{List, [], ◌∷◌, ◌++◌, length, take, drop, option_to_list};
 ghost use Rattle.std.specs.Prelude.{IfSome, IfNone, IfOk, IsErr, is_err, OnOk};
@@ -22,7 +22,7 @@ impl Pieces {
     ghost use Rattle.dw_notation.specs.inner.Problems.{found_of};
     ghost use Rattle.dw_notation.specs.inner.Pieces.{pieces_ahead, pieces_behind, pieces_cut};
 
-    /// Nothing was read.
+    /// Returns a reader before its first read.
     fn new(form: Form) -> Pieces
         ensures { (over : Bool) (g : Geometry) (bytes : List ℕ)
             → pieces_ahead over g result bytes ≡ found_of over g form bytes }
@@ -59,7 +59,7 @@ impl Pieces {
         }
     }
 
-    /// What the piece that was cut off says.
+    /// Returns the problem of the piece that was cut off.
     fn found<B: Board>(&self) -> Option<Result<Position<B>, ProblemFault>>
         ensures { result ≡ pieces_cut B.geometry self.now }
     {
@@ -83,7 +83,6 @@ impl Pieces {
 
 /// The problems of a source, each cut out of the bytes as they are read. It takes no memory. Of its input it holds one
 /// read and one line at most.
-/// See [`Problems::next`] for an example.
 #[derive(Drop)]
 pub struct Problems<'a, B: Board, S> {
     source: &'a mut S,
@@ -105,8 +104,7 @@ impl<'a, B: Board, S: Source> Problems<'a, B, S> {
     ghost use Rattle.dw_notation.specs.inner.Cutting.{IsStarved, ReadsPiece};
     ghost use Rattle.dw_notation.specs.inner.Readers.{reader_of};
 
-    /// A reader of all problems that the source has still to give.
-    /// See [`Problems::next`] for an example.
+    /// Returns a reader of all problems that the source has still to give.
     #[tactic(auto, unfolding(crate::specs::inner::Readers::reader_of))]
     pub fn new(source: &'a mut S, form: Form) -> Problems<'a, B, S>
         requires { S.is_failed source.old ≡ false }
@@ -127,7 +125,7 @@ impl<'a, B: Board, S: Source> Problems<'a, B, S> {
         }
     }
 
-    /// Cuts off a piece that ends in what was read, and says whether there is one.
+    /// Cuts off a piece that ends in the buffer, and returns whether there is one.
     fn cut(&mut self) -> bool
         ensures source { self.new.source ≡ self.old.source }
         ensures met_end { met_end_in self.new.buffer ≡ met_end_in self.old.buffer }
@@ -183,7 +181,7 @@ impl<'a, B: Board, S: Source> Problems<'a, B, S> {
         }
     }
 
-    /// Hands out what the piece that was cut off says, if it is a problem, and forgets it.
+    /// Returns the problem of the piece that was cut off, if it has one, and forgets the piece.
     fn hand_out(&mut self) -> Option<Problem<B>>
         requires { handed_out self.old.numbers ≤ MAX_PROBLEMS }
         ensures source { self.new.source ≡ self.old.source }
@@ -202,9 +200,8 @@ impl<'a, B: Board, S: Source> Problems<'a, B, S> {
         Some(self.numbers.hand_out(found?))
     }
 
-    /// The next problem, or `None` if the text has no more. `Failed` is the source's fault: no problem
-    /// that was read whole is lost by it, and each later call answers `Failed` too.
-    /// Example: of the lines `W:W32:B28` and `x` it gives a position, then a problem that was refused, and then `None`.
+    /// Returns the next problem, or `None` if the text has no more. `Failed` is the source's fault: no problem that was
+    /// read whole is lost by it, and each later call answers `Failed` too.
     #[tactic(auto, unfolding(crate::specs::inner::Readers::reader_of))]
     pub fn next(&mut self) -> Result<Option<Problem<B>>, ReadFault>
         ensures lender { lender self.new ≡ lender self.old }

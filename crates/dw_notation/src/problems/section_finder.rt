@@ -1,4 +1,4 @@
-//! Where the next section of a PDN text begins.
+//! A finder of the next section of a PDN text.
 ghost use Rattle.std.specs.Prelude.{◌≡◌, ◌+◌, ◌<◌, [], ◌∷◌, false, length, take, drop, IfSome, IfNone, if◌then◌else◌};
 ghost use Rattle.dw_notation.specs.Between.{IsBetween};
 ghost use Rattle.dw_notation.specs.declared.problems.pdn.automaton.State.TheVariants as state;
@@ -7,7 +7,6 @@ use super::pdn::automaton::{Action, State};
 
 /// Finds where the next section of a text begins, whatever pieces the text comes in. It passes over movetext, and over
 /// comments in braces, in which no section begins.
-/// See [`SectionFinder::find`] for an example.
 #[derive(Clone, Copy)]
 pub struct SectionFinder {
     is_comment: bool,
@@ -16,16 +15,14 @@ pub struct SectionFinder {
 impl SectionFinder {
     ghost use Rattle.dw_notation.specs.Between.{in_comment};
 
-    /// The text begins outside a comment.
-    /// See [`SectionFinder::find`] for an example.
+    /// Returns the text begins outside a comment.
     pub fn new() -> SectionFinder
         ensures { in_comment result ≡ false }
     {
         SectionFinder { is_comment: false }
     }
 
-    /// Whether the text stands in a comment.
-    /// Example: after `1. 32-28 {the` it does.
+    /// Returns whether the text stands in a comment.
     pub fn is_in_comment(self) -> bool
         ensures { result ≡ in_comment self }
     {
@@ -33,7 +30,6 @@ impl SectionFinder {
     }
 
     /// Returns the place of the bracket that begins the next section. It passes over all bytes if there is none.
-    /// Example: in `{[} [FEN "x"]` the place is 4.
     pub fn find(&mut self, bytes: &[u8]) -> Option<usize>
         ensures some { IfSome result (λ k. (k < length bytes.now) × (in_comment self.new ≡ false)
             × IsBetween (in_comment self.old) false (take k bytes.now)
@@ -53,7 +49,7 @@ impl SectionFinder {
         None
     }
 
-    /// Where the text stands.
+    /// Returns where the text stands.
     fn state(self) -> State
         ensures { result ≡ (if self.is_comment then state.Comment else state.Outside) }
     {

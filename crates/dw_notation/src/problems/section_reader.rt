@@ -10,9 +10,8 @@ use super::pdn::Sections;
 use dw_board::{Board, Position};
 use std::marker::PhantomData;
 
-/// A reader of a text of tags that is given its bytes in pieces, for callers that keep them: it says at which byte a
-/// section has ended. It takes no memory, and holds what [`Problems`](super::Problems) holds of a section.
-/// See [`SectionReader::cut`] for an example.
+/// A reader of a text of tags in pieces, for callers that keep the bytes: it finds the byte at which a section ends. It
+/// allocates nothing, and keeps the same parts of a section as [`Problems`](super::Problems).
 #[derive(Drop)]
 pub struct SectionReader<B: Board> {
     sections: Sections,
@@ -20,8 +19,7 @@ pub struct SectionReader<B: Board> {
 }
 
 impl<B: Board> SectionReader<B> {
-    /// A reader that was given nothing.
-    /// See [`SectionReader::cut`] for an example.
+    /// Returns a reader that was given nothing.
     #[tactic(auto, unfolding(crate::specs::inner::Readers::ahead_of))]
     pub fn new() -> SectionReader<B>
         ensures said { (over : Bool) (bytes : List ℕ)
@@ -37,7 +35,6 @@ impl<B: Board> SectionReader<B> {
 
     /// Reads up to the byte that ends a section, and returns its place. That byte is no part of the section. It reads
     /// all bytes if none ends it.
-    /// Example: in `[FEN "W:W32:B28"] 1. 32x23` the section is ended by the `1`, whose place is 18.
     #[tactic(auto, unfolding(crate::specs::inner::Readers::ahead_of))]
     pub fn cut(&mut self, bytes: &[u8]) -> Option<usize>
         ensures some { IfSome result (λ k. (found : Found) × (k < length bytes.now)
@@ -52,8 +49,7 @@ impl<B: Board> SectionReader<B> {
         self.sections.cut(bytes)
     }
 
-    /// Returns what was cut off last says, if anything was.
-    /// Example: after `[FEN "W:W32:B28"] 1` was cut it is the position.
+    /// Returns the problem of the section that ended last, if there is one.
     #[tactic(auto, unfolding(crate::specs::inner::Readers::cut_of))]
     pub fn found(&self) -> Option<Result<Position<B>, ProblemFault>>
         ensures { result ≡ cut_of self.now B.geometry }
@@ -61,8 +57,7 @@ impl<B: Board> SectionReader<B> {
         self.sections.found()
     }
 
-    /// Returns what is said by that which the end of the text ends here, if it ends anything.
-    /// Example: after `[FEN "W:W32:B28"]` it is the position.
+    /// Returns the problem that the end of the text ends, if there is one.
     #[tactic(auto, unfolding(crate::specs::inner::Readers::ahead_of))]
     pub fn finish(&mut self) -> Option<Result<Position<B>, ProblemFault>>
         ensures { ahead_of self.old B.geometry true [] ≡ option_to_list result }

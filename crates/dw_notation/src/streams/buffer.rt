@@ -5,7 +5,6 @@ use super::Source;
 use crate::problems::{MAX_READ, ReadFault};
 
 /// The bytes that were read of a source and not yet consumed, 2,048 at most, and whether its end was met.
-/// Example: of a source of 5,000 bytes the first `fill` reads at most 2,048.
 #[derive(Drop)]
 pub struct Buffer {
     bytes: [u8; MAX_READ],
@@ -19,8 +18,7 @@ pub struct Buffer {
 impl Buffer {
     ghost use Rattle.dw_notation.specs.Buffering.{unread_in, met_end_in, input_of, Passes};
 
-    /// Nothing was read.
-    /// See [`Buffer`] for an example.
+    /// Returns an empty buffer.
     pub fn new() -> Buffer
         ensures unread { unread_in result ≡ [] }
         ensures met_end { met_end_in result ≡ false }
@@ -33,8 +31,7 @@ impl Buffer {
         }
     }
 
-    /// The bytes that were read and not yet consumed.
-    /// Example: after a `fill` there is none only at the source's end.
+    /// Returns the bytes that were read and not yet consumed.
     pub fn unread(&self) -> &[u8]
         ensures { result.now ≡ unread_in self.now }
     {
@@ -46,7 +43,6 @@ impl Buffer {
     /// # Errors
     ///
     /// `Failed` if the source fails.
-    /// Example: of the empty source it reads nothing, and meets the end.
     pub fn fill<S: Source>(&mut self, source: &mut S) -> Result<(), ReadFault>
         ensures passes { Passes S.coming S.has_ended S.is_failed S.pulls_left (input_of source.old self.old)
             (input_of source.new self.new) [] (is_err result) }
@@ -72,8 +68,7 @@ impl Buffer {
         }
     }
 
-    /// Passes over so many of the bytes that were read, or over all of them if there are fewer.
-    /// Example: after `consume(1)` the second of them is the first.
+    /// Skips at most `count` of the bytes in the buffer.
     pub fn consume(&mut self, count: usize)
         ensures met_end { met_end_in self.new ≡ met_end_in self.old }
         ensures unread { unread_in self.new ≡ drop count (unread_in self.old) }

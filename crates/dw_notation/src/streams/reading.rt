@@ -5,11 +5,9 @@ use super::Source;
 use std::io;
 
 /// The most reads that one `Reading` makes.
-/// Example: after so many reads each further pull is `None`.
 pub const MAX_READS: u64 = 1_000_000_000_000;
 
 /// A reader of std as a source. It makes at most `MAX_READS` reads, and none after one that failed.
-/// Example: `Reading::new(b"W:W32:B28".as_slice())` gives the bytes of one FEN text.
 #[derive(Drop)]
 pub struct Reading<R> {
     reader: R,
@@ -21,8 +19,7 @@ pub struct Reading<R> {
 impl<R: io::Read> Reading<R> {
     ghost use Rattle.dw_notation.specs.Endpoints.{read_from, has_read_all, has_read_failed, reads_left};
 
-    /// A source of the bytes that the reader has still to give.
-    /// See [`Reading`] for an example.
+    /// Returns a source of the bytes that the reader has still to give.
     pub fn new(reader: R) -> Reading<R>
         ensures reader { read_from result ≡ reader }
         ensures unended { has_read_all result ≡ false }

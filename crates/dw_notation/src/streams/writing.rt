@@ -5,7 +5,6 @@ use super::Sink;
 use std::io;
 
 /// A writer of std as a sink. It makes no write after one that failed or took nothing.
-/// Example: `Writing::new(rt.stdout())` writes to standard output.
 #[derive(Drop)]
 pub struct Writing<W> {
     writer: W,
@@ -15,8 +14,7 @@ pub struct Writing<W> {
 impl<W> Writing<W> {
     ghost use Rattle.dw_notation.specs.Endpoints.{written_to, has_write_failed};
 
-    /// A sink that writes on to what the writer has taken.
-    /// See [`Writing`] for an example.
+    /// Returns a sink that appends to the writer.
     pub fn new(writer: W) -> Writing<W>
         ensures writer { written_to result ≡ writer }
         ensures sound { has_write_failed result ≡ false }
@@ -27,8 +25,7 @@ impl<W> Writing<W> {
         }
     }
 
-    /// The writer, with what was written.
-    /// Example: `Writing::new(writer).into_inner()` is the writer again.
+    /// Returns the writer, with everything that was written.
     pub fn into_inner(self) -> W
         ensures { result ≡ written_to self }
     {

@@ -1,4 +1,4 @@
--- Pieces of a text, one behind another.
+-- Pieces of a text, one after another.
 use Rattle.std.proofs.Common.{◌≡◌, ℕ, List, [], ◌++◌, append_assoc, append-nil}
 
 pub joined_3 : (a b c : List ℕ) → a ++ (b ++ (c ++ [])) ≡ a ++ b ++ c

@@ -7,8 +7,7 @@ use Rattle.dw_solution.specs.declared.movetext.TheConstants.{MAX_WRITTEN}
 
 -- the text of so many first lines
 abbrev pub IsDraftOf : {B : Type 0} → Geometry → Draft B → ℕ → List ℕ → Type 0
-IsDraftOf g draft many text =
-    IsTextOfFirst g draft.position.now draft.heading draft.first.now.tree draft.first.now.more many text
+IsDraftOf g draft many text = IsTextOfFirst g draft.heading draft.first.now many text
 
 -- the text of so many first lines is too large
 abbrev pub IsPassed : {B : Type 0} → Geometry → Draft B → ℕ → Type 0

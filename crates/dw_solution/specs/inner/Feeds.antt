@@ -9,7 +9,7 @@ use Rattle.dw_notation.specs.Text.{IsMoveText}
 use Rattle.dw_solution.specs.Words.{move_words, number_word}
 use Rattle.dw_solution.specs.Movetext.{filled}
 
--- each word with a line feed behind it
+-- each word with a line feed after it
 abbrev pub fed : List (List ℕ) → List ℕ
 fed [] = []
 fed (w ∷ words) = w ++ 10 ∷ fed words
@@ -27,13 +27,13 @@ abbrev pub AreUnbroken : List (List ℕ) → Type 0
 AreUnbroken [] = Unit {0}
 AreUnbroken (w ∷ words) = IsUnbroken w × AreUnbroken words
 
--- words that are such were put behind a text, each with a line feed behind it
+-- words that are such were put after a text, each with a line feed after it
 pub record IsAdded (Are : List (List ℕ) → Type 0) (old new : List ℕ) : Type 0 where
   pub words : List (List ℕ)
   pub are : Are words
   pub added : new ≡ old ++ fed words
 
--- a move was put behind a text, with its number where it has one
+-- a move was put after a text, with its number where it has one
 pub record IsMoveAdded (g : Geometry) (p : Placement) (m : Move) (half : ℕ) (due : Bool) (old new : List ℕ) : Type 0
   where
     pub text : List ℕ
@@ -48,7 +48,7 @@ number_words half due =
     else []
 
 -- a text in which the blanks up to a line feed are put, where the last line begins at some place: it goes on as words
--- behind the bytes of that line do
+-- after the bytes of that line do
 pub record IsFilledTo (text whole : List ℕ) (line feed : ℕ) : Type 0 where
   pub done : List ℕ
   pub words : List (List ℕ)

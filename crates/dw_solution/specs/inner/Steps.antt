@@ -2,12 +2,14 @@
 use Rattle.std.specs.Prelude.{◌≡◌, ℕ, ◌==◌, ◌+◌, ◌<◌, ◌≤◌, nat_lt, if◌then◌else◌, List, [], ◌∷◌, ◌++◌, length, take}
 use Rattle.std.specs.Prelude.{slice_get, Some, Option, MatchOption}
 use Rattle.dw_board.specs.Geometry.{Geometry}
+use Rattle.dw_board.specs.Lists.{Member}
 use Rattle.dw_board.specs.Placement.{Placement}
 use Rattle.dw_moves.specs.Moves.{Move, Legal, play}
+use Rattle.dw_notation.specs.Text.{ArePlayable}
 use Rattle.dw_solution.specs.Tree.{Tree, over, branch, lines_of, AreApart, IsTreeOf}
 use Rattle.dw_solution.specs.declared.step.TreeStep.{TreeStep}
 
--- Sealed: the moves at a depth that come before any move less deep, with what stands behind each. The clauses of a tree
+-- Sealed: the moves at a depth that come before any move less deep, with what stands after each. The clauses of a tree
 -- of lines say all that is to be known of it.
 abbrev pub tree_at : {B : Type 0} → List (TreeStep B) → ℕ → Tree
 tree_at [] depth = over
@@ -55,7 +57,7 @@ pub record Parts (a b : List Move) : Type 0 where
   pub other : b ≡ common ++ instead ∷ others
   pub differ : move ≡ instead → ⊥
 
--- a line can stand behind some lines: it has a move, and parts from the last of them
+-- a line can stand after some lines: it has a move, and parts from the last of them
 abbrev pub MayFollow : List (List Move) → List Move → Type 0
 MayFollow [] line = (m : Move) × (rest : List Move) × (line ≡ m ∷ rest)
 MayFollow (l ∷ lines) line = Parts (last_line (l ∷ lines)) line
@@ -66,8 +68,12 @@ IsPlayable g p over = Unit {0}
 IsPlayable g p (branch m behind others) =
     Legal g p m × IsPlayable g (play g p m) behind × IsPlayable g p others
 
--- the first of the moves at a depth, and the steps behind it; or there is none
+-- the first of the moves at a depth, and the steps after it; or there is none
 abbrev pub IsFirstAt : {B : Type 0} → List (TreeStep B) → ℕ → Option (Move × List (TreeStep B)) → Type 0
 IsFirstAt steps depth found = MatchOption found (tree_at steps depth ≡ over)
     (λ f. (tree_at steps depth ≡ branch f.0 (tree_at f.1 (depth + 1)) (tree_at f.1 depth))
     × (length f.1 < length steps))
+
+-- Sealed: all of these lines can be played. The clauses of first lines say all that is to be known of it.
+abbrev pub AreAllPlayable : Geometry → Placement → List (List Move) → Type 0
+AreAllPlayable g p lines = (l : List Move) → Member l lines → ArePlayable g p l

@@ -1,4 +1,4 @@
--- A beginning with the position behind it and its text.
+-- A beginning with the position after it and its text.
 use Rattle.std.specs.Prelude.{◌≡◌, ℕ, List}
 use Rattle.std.specs.String.{string_bytes}
 use Rattle.dw_board.specs.Geometry.{Geometry}

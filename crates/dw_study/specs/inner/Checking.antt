@@ -17,7 +17,7 @@ use Rattle.dw_study.specs.Remarks.{Remark, GoesOnBy, StandsBefore, IsFirstRefuta
 use Rattle.dw_study.specs.Remarks.{AfterKey, AreRemarks}
 use Rattle.dw_study.specs.Telling.{Say}
 
--- the nodes behind a beginning by moves that are legal there, in the tree's order
+-- the nodes after a beginning by moves that are legal there, in the tree's order
 pub record AreChildren {B : Type 0} (g : Geometry) (p : Placement) (tree : List (List Move)) (b : List Move)
     (children : List (Child B)) : Type 0 where
   pub in_order : IsListOf (StandsBefore tree b) (GoesOnBy g p tree b) (map (λ c. c.mv) children)
@@ -46,7 +46,7 @@ abbrev pub FindsFirst : Geometry → Placement → ℕ → Option Move → Type 
 FindsFirst g q n None = Lost g q n
 FindsFirst g q n (Some reply) = IsFirstRefutation g q n reply
 
--- what is remarked where the attacker (true) or the defender (false) is to move, and the moves behind which more is
+-- what is remarked where the attacker (true) or the defender (false) is to move, and the moves after which more is
 -- looked at
 abbrev pub At : Geometry → List (List Move) → Bool → ℕ → Placement → List Move → List Remark → List Move → Type 0
 At g tree true n p b here moves = AtAttacker g p n tree b here moves

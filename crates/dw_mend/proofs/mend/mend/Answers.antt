@@ -2,10 +2,11 @@ use Rattle.std.proofs.Common.{◌∙◌, [], ◌++◌, Err, length, map, refl, s
 use Rattle.std.proofs.lemmas.List.{length-map}
 use Rattle.std.specs.Io.KnownBytes.{Appends}
 use Rattle.std.proofs.KnownBytes.{Appends-nil, Appends-trans}
-use Rattle.dw_mend.specs.Mending.{AreMended, IsMendStop, part_of}
+use Rattle.dw_mend.specs.Mending.{AreMended, IsMendStop}
 use Rattle.dw_mend.specs.MendText.{last_line}
 use Rattle.dw_mend.specs.Telling.{told_by}
 use Rattle.dw_mend.specs.declared.mend.MendFault.TheVariants as because
+use Rattle.dw_parts.specs.Parts.{part_of}
 use Rattle.dw_mend.proofs.MendLemmas.{part_told, same_fault, stop_at_end, stop_at_once}
 use Rattle.dw_mend.proofs.mend.mend.Goals as goal
 

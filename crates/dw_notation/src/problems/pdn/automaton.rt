@@ -1,11 +1,10 @@
-//! The automaton that reads a PDN text: where the text stands, and what its next byte does.
+//! The automaton that reads a PDN text: its states, and the effect of the next byte.
 //!
-//! Outside a section bytes are passed over up to a bracket that opens a tag. A brace opens a comment, and
-//! the first closing brace ends it. A section is a row of tags with blanks and line ends alone between
-//! them. A tag stands in one line: a name of letters, digits and underscores and then a value in quotation
-//! marks, with blanks around them. What breaks this leaves the tag unclosed, and it reaches to the end of
-//! its line. In a value a backslash stands before a quotation mark or a backslash; before any other byte
-//! it stands for itself.
+//! Outside a section bytes are skipped up to a bracket that opens a tag. A brace opens a comment, and the next closing
+//! brace ends it. A section is a row of tags with only blanks and line ends between them. A tag stands in one line: a
+//! name of letters, digits and underscores, then a value in quotation marks, with blanks around them. Any other tag is
+//! unclosed and takes the rest of its line. In a value a backslash escapes a quotation mark or a backslash; before any
+//! other byte it stands for itself.
 ghost use Rattle.std.specs.Prelude.{◌≡◌, ◌≤◌, length, take, true};
 ghost use Rattle.std.specs.List.{list_all, position};
 ghost use Rattle.dw_notation.specs.inner.Sections.{transition, broken_by};
@@ -13,7 +12,7 @@ ghost use Rattle.dw_notation.specs.inner.Tags.{opens, closes, passes};
 
 use crate::bytes::{ends_line, is_blank, is_name_byte, is_space};
 
-/// Where a text of tags stands.
+/// A state of the automaton: a place in a text of tags.
 #[derive(Clone, Copy)]
 pub(crate) enum State {
     Outside,
@@ -57,7 +56,7 @@ pub(crate) enum Action {
     End,
 }
 
-/// Where a byte leads, and what it does.
+/// The next state, and the effect of a byte.
 #[derive(Clone, Copy)]
 pub(crate) struct Transition {
     pub(crate) state: State,
@@ -70,7 +69,7 @@ fn at(state: State, action: Action) -> Transition
     Transition { state, action }
 }
 
-/// The step by a byte that has no place in a tag.
+/// Returns the step by a byte that has no place in a tag.
 fn broken_by(byte: u8) -> Transition
     ensures { result ≡ broken_by byte }
 {
@@ -201,14 +200,14 @@ fn step_rest(byte: u8) -> Transition
     }
 }
 
-/// The place of the first byte that opens a tag or a comment.
+/// Returns the place of the first byte that opens a tag or a comment.
 fn opening_at(bytes: &[u8]) -> Option<usize>
     ensures { result ≡ position opens bytes.now }
 {
     bytes.iter().position(|byte| *byte == b'[' || *byte == b'{')
 }
 
-/// The place of the first byte that closes a comment.
+/// Returns the place of the first byte that closes a comment.
 fn closing_at(bytes: &[u8]) -> Option<usize>
     ensures { result ≡ position closes bytes.now }
 {
@@ -216,7 +215,7 @@ fn closing_at(bytes: &[u8]) -> Option<usize>
 }
 
 impl State {
-    /// How many bytes change nothing here, and may be passed over at once.
+    /// Returns how many bytes change nothing here, and may be passed over at once.
     pub(crate) fn passed(self, bytes: &[u8]) -> usize
         ensures within { result ≤ length bytes.now }
         ensures passed { list_all (passes self) (take result bytes.now) ≡ true }
@@ -228,7 +227,7 @@ impl State {
         }
     }
 
-    /// Where the next byte leads, and what it does.
+    /// Returns the next state, and the effect of the byte.
     #[inline(always)]
     pub(crate) fn transition(self, byte: u8) -> Transition
         ensures { result ≡ transition self byte }

@@ -1,4 +1,4 @@
-//! What is held of a section of a PDN text, and what the section says.
+//! The parts of a PDN section that decide its problem.
 ghost use Rattle.std.specs.Prelude.{◌≡◌};
 ghost use Rattle.dw_notation.specs.inner.Sections.{kind_of};
 ghost use Rattle.dw_notation.specs.Tags.{same_name};
@@ -60,7 +60,7 @@ enum Game {
 }
 
 impl Game {
-    /// The game with one more byte of the value.
+    /// Returns the game with one more byte of the value.
     fn with(self, byte: u8) -> Game
         ensures { result ≡ game_on self byte }
     {
@@ -71,7 +71,7 @@ impl Game {
         }
     }
 
-    /// Its number, if the value ends here.
+    /// Returns its number, if the value ends here.
     fn number(self) -> u8
         ensures { result ≡ number_held self }
     {
@@ -105,14 +105,14 @@ fn next_of_game(number: u8, byte: u8) -> Game
     }
 }
 
-/// One more, as far as it is counted.
+/// Adds one, up to the greatest number that is counted.
 fn counted(most: usize, count: usize) -> usize
     ensures { result ≡ counted most count }
 {
     if count < most { count + 1 } else { count }
 }
 
-/// What is held of a section, which decides what it says.
+/// The parts of a section that decide its problem.
 #[derive(Drop)]
 pub(super) struct HeldSection {
     /// The bytes read from its first bracket on, as far as they are counted.
@@ -152,7 +152,7 @@ impl HeldSection {
         }
     }
 
-    /// A new section, of which the first bracket was read.
+    /// Returns a new section after its first bracket.
     fn open(&mut self)
         ensures { held_of self.new ≡ record held_bare { read = 1 } }
     {
@@ -241,7 +241,7 @@ impl HeldSection {
         self.count();
     }
 
-    /// Does what a byte does to a section.
+    /// Applies the effect of a byte to a section.
     pub(super) fn add(&mut self, action: Action)
         ensures { held_of self.new ≡ held_after action (held_of self.old) }
     {
@@ -283,7 +283,7 @@ impl HeldSection {
         }
     }
 
-    /// What its FEN tags say.
+    /// Returns the position of its FEN tags, or the fault.
     fn fens_found<B: Board>(&self) -> Result<Position<B>, ProblemFault>
         ensures { result ≡ fens_held B.geometry self.now.fens self.now.fen_text.items }
     {
@@ -299,7 +299,7 @@ impl HeldSection {
         }
     }
 
-    /// What the section says.
+    /// Returns the problem of the section.
     pub(super) fn found<B: Board>(&self) -> Result<Position<B>, ProblemFault>
         ensures { result ≡ held_found B.geometry (held_of self.now) }
     {

@@ -10,16 +10,14 @@ cuts-init g c =
     let low = c.keeps_its_range.ensures in
     record {
       is = c.in_ok-text.ensures;
-      short = none_is_short geo draft.position.now draft.heading draft.first.now.tree draft.first.now.more
-          c.in_ok-text.text.items low c.in_ok-text.ensures;
+      short = none_is_short geo draft.heading draft.first.now c.in_ok-text.text.items low c.in_ok-text.ensures;
       low = omega (
         arith,
         c.len-too_many.ensures,
-        passed_some geo draft.position.now draft.heading draft.first.now.tree
-            draft.first.now.more c.requires.passed.0 low c.requires.passed.1 c.requires.passed.2,
+        passed_some geo draft.heading draft.first.now c.requires.0 low c.requires.1 c.requires.2,
       );
       within = omega (arith, c.len-too_many.ensures);
-      passed = subst (IsPassed geo draft) (sym c.len-too_many.ensures) c.requires.passed;
+      passed = subst (IsPassed geo draft) (sym c.len-too_many.ensures) c.requires;
     }
 
 pub cuts-preserved : goal.cuts-preserved
@@ -39,6 +37,5 @@ pub returns : goal.returns
 returns g c =
     let draft = c.args.self.now in
     let i = c.cuts.invariant in
-    movetext_cut g.B.Board.geometry draft.position.now draft.heading draft.first.now.tree draft.first.now.more
-    c.cuts.many c.cuts.too_many c.cuts.text.items i.passed.0 i.low i.within c.cuts-test.false i.is i.short i.passed.1
-    i.passed.2
+    movetext_cut g.B.Board.geometry draft.heading draft.first.now c.cuts.many c.cuts.too_many c.cuts.text.items
+    i.passed.0 i.low i.within c.cuts-test.false i.is i.short i.passed.1 i.passed.2

@@ -7,7 +7,7 @@ invariant-cuts g l = record {
   is : IsDraftOf g.B.Board.geometry l.self l.many l.text.items;
   short : length l.text.items ≤ 1000000;
   low : l.many < l.too_many;
-  within : l.too_many ≤ length l.self.first.now.tree;
+  within : l.too_many ≤ length l.self.first.now.lines;
   passed : IsPassed g.B.Board.geometry l.self l.too_many;
 }
 

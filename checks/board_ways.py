@@ -1,0 +1,403 @@
+#!/usr/bin/env python3
+"""board_ways.py: goes ten ways of a composer through board.html, with the mouse, a finger or the keyboard alone.
+
+    checks/board_ways.py [--page FILE] [--browser NAME] [--printed docs/printed.png]
+
+Each way begins with the page as a new reader finds it, in Chromium and in Firefox, and takes nothing but what one sees:
+pieces are placed by clicks, texts are typed, files are opened. A dual is mended; a FEN text has a fault; a telephone;
+no mouse; a file of contributed problems becomes a printed page; a printed solution is compared; a long search is
+stopped and asked for less; a link is shared; Black plays; the board has 8 rows. With --printed the first page of the
+printed problems becomes a picture.
+"""
+import argparse
+import base64
+import json
+import pathlib
+import re
+import subprocess
+import tempfile
+
+from board_page import PHONE, browsers_asked, made_page, middles, open_page
+
+LONG = "W:W26,28,32,33,34,37,38,39,40,43,48:B8,9,12,13,14,16,18,19,20,24,25"
+HEIGHT = 740  # pixels of a telephone
+SMALL = 150_000  # bytes of a picture in the documents
+# Problems that are contributed. One has a man on the last row.
+CONTRIBUTED = """W:W27,45:B16 W:W27,32:B18 W:W27,32,38:B18 B:W43:B24,29 W:W10,16,48:B13 W:WK46:B28 W:W32:B28
+W:W3:B20 W:W28,33:B23 W:W38,43:B32""".split()
+# Where the page says how far a question is.
+SOLVED = "document.querySelector('#state').dataset.state === 'done'"
+
+
+def begin(browser, page, address=""):
+    """The page as a new reader finds it."""
+    browser.resize(1200, 900)
+    open_page(browser, page)
+    browser.run("localStorage.clear()")
+    open_page(browser, page, address)
+
+
+def text(browser, selector):
+    """What one reads there."""
+    return browser.run(f"document.querySelector({json.dumps(selector)}).innerText.trim()")
+
+
+def value(browser, selector):
+    return browser.run(f"document.querySelector({json.dumps(selector)}).value")
+
+
+def texts(browser, selector):
+    said = browser.run(f"[...document.querySelectorAll({json.dumps(selector)})].map((e) => e.innerText)")
+    return [" ".join(one.split()) for one in said]
+
+
+def is_seen(browser, selector):
+    """Whether all of it is within the window."""
+    return browser.run(f"""(() => {{
+        const box = document.querySelector({json.dumps(selector)}).getBoundingClientRect();
+        return box.height > 0 && box.top >= -1 && box.bottom <= innerHeight + 1 && box.left >= 0
+            && box.right <= innerWidth + 1;
+    }})()""")
+
+
+def fen_is(browser, fen):
+    browser.wait(f"document.querySelector('#fen').value === {json.dumps(fen)}", 20)
+
+
+def place(browser, pieces, press="click"):
+    """Places pieces: of each kind its squares."""
+    for piece, squares in pieces.items():
+        getattr(browser, press)(f'[data-piece-choice="{piece}"]')
+        for square in squares:
+            getattr(browser, press)(f'[data-square="{square}"]')
+
+
+def solve(browser, most, press="click"):
+    browser.replace("#most", str(most))
+    getattr(browser, press)("#solve")
+    browser.wait(SOLVED, 60)
+    return text(browser, "#verdict")
+
+
+def way_dual(browser, page):
+    """A position with a dual is set up, and mended."""
+    begin(browser, page)
+    browser.click("#clear")
+    place(browser, {"w": (27, 32), "b": (18,)})
+    fen_is(browser, "W:W27,32:B18")
+    assert solve(browser, 2) == "≈ Dual: White to play and win in 2 by 32-28, but later there is a choice."
+    browser.click("#dual .move:last-child")
+    fen_is(browser, "B:W17,27:B")
+    assert text(browser, "#looked span") == "This is a later position."
+    browser.click("#tab-improve")
+    assert value(browser, "#mend-n") == "2"
+    browser.click("#mend-go")
+    browser.wait("document.querySelector('#mend').dataset.state === 'done'", 60)
+    # It is the problem that was mended, not the position that was looked at.
+    fen_is(browser, "W:W27,32:B18")
+    assert text(browser, "#mend-state") == "44 sound of 310 tried", text(browser, "#mend-state")
+    browser.click("#mend .card")
+    fen_is(browser, "W:W32:B18")
+    browser.click("#tab-solve")
+    assert solve(browser, 2) == "✓ Sound: White to play and win in 2. The only key is 32-28."
+    browser.click("#undo")
+    fen_is(browser, "W:W27,32:B18")
+
+
+def way_fault(browser, page):
+    """A FEN text with a fault is typed, and mended where the page marks it."""
+    begin(browser, page)
+    browser.replace("#fen", "W:W27,K51:B18")
+    browser.wait("!document.querySelector('#fault').hidden", 20)
+    assert texts(browser, "#fault > *") == ["4 number at 8", "W:W27,K51:B18",
+                                            "A square from 1 to 50 has to stand here."]
+    assert text(browser, "#fault mark") == "5"
+    # No answer is given on the position that stood there before.
+    browser.click("#solve")
+    browser.wait("document.querySelector('#state').dataset.state === 'stopped'", 20)
+    assert text(browser, "#state") == "Mend the fault of the position first."
+    assert browser.run("document.querySelector('#answer').hidden") and value(browser, "#fen") == "W:W27,K51:B18"
+    browser.replace("#fen", "W:W27,45:B16")
+    browser.click("#solve")
+    browser.wait(SOLVED, 60)
+    assert text(browser, "#verdict") == "✓ Sound: White to play and win in 2. The only key is 45-40."
+    browser.click('[data-piece-choice="w"]')
+    browser.click('[data-square="3"]')
+    browser.wait("!document.querySelector('#fault').hidden", 20)
+    assert "A man cannot stand on the last row: make it a king." in text(browser, "#fault")
+
+
+def way_phone(browser, page):
+    """A telephone: one taps, drags by a finger, and the board stays in sight."""
+    begin(browser, page)
+    browser.resize(PHONE, HEIGHT, True)
+    browser.tap("#clear")
+    place(browser, {"w": (27, 31), "b": (18, 13)}, "tap")
+    fen_is(browser, "W:W27,31:B13,18")
+    browser.finger(*middles(browser, 31, 37, 32))
+    fen_is(browser, "W:W27,32:B13,18")
+    (x, y), = middles(browser, 13)
+    below = browser.run("document.querySelector('#board').getBoundingClientRect().bottom + 20")
+    browser.finger((x, y), (x, (y + below) // 2), (x, below))
+    fen_is(browser, "W:W27,32:B18")
+    browser.tap("#solve")
+    browser.wait(SOLVED, 60)
+    assert text(browser, "#verdict").startswith("≈ Dual")
+    for number, fen in ((1, "B:W27,28:B18"), (2, "W:W27,28:B22")):
+        browser.tap(f"#solution .move:nth-of-type({number})")
+        fen_is(browser, fen)
+        assert is_seen(browser, "#board") and is_seen(browser, "#solution .here"), number
+    # Not one control is wider than the window, or too small for a finger.
+    small = browser.run("""[...document.querySelectorAll('button, select, input')].map((e) => [e.id || e.className,
+        e.getBoundingClientRect()]).filter(([, box]) => box.width > 1 && (box.height < 20 || box.right > innerWidth))
+        .map(([name]) => name)""")
+    assert not small, small
+    browser.resize(1200, 900)
+
+
+def way_keys(browser, page):
+    """No mouse: a position is set up, solved, gone through, and taken to the collection."""
+    begin(browser, page)
+
+    def tab_to(test, step=lambda: browser.press("Tab")):
+        for _ in range(60):
+            step()
+            if browser.run(f"document.activeElement.matches({json.dumps(test)})"):
+                return
+        raise AssertionError(test)
+
+    def go_to(square):
+        for _ in range(60):
+            here = int(browser.run("document.activeElement.dataset.square"))
+            if here == square:
+                return
+            (row, column), (below, beside) = divmod(here - 1, 5), divmod(square - 1, 5)
+            browser.press("ArrowDown" if row < below else "ArrowUp" if row > below
+                          else "ArrowRight" if column < beside else "ArrowLeft")
+        raise AssertionError(square)
+    tab_to(".skip")
+    browser.press("Enter")
+    tab_to("[data-square]")
+    for square, key in ((38, "Delete"), (18, "B"), (45, "w"), (45, "Backspace"), (18, "b")):
+        go_to(square)
+        browser.press(key)
+    fen_is(browser, "W:W27,32:B18")
+    tab_to("[role=tab]")
+    browser.press("ArrowRight", "ArrowRight", "ArrowRight")
+    assert not browser.run("document.querySelector('#panel-collection').hidden")
+    tab_to("summary")
+    browser.press("Enter")
+    browser.wait("document.querySelector('#add').open", 10)
+    tab_to("#add-title")
+    browser.type("No mouse")
+    browser.press("Enter")
+    browser.wait("document.querySelectorAll('#list .card').length === 1", 20)
+    assert texts(browser, "#list .card-title") == ["1. No mouse"]
+    tab_to("#list .card")
+    assert browser.run("document.activeElement.getAttribute('aria-current')") == "true"
+    tab_to("[role=tab]", browser.tab_back)
+    browser.press("ArrowLeft", "ArrowLeft", "ArrowLeft")
+    tab_to("#solve")
+    browser.press("Enter")
+    browser.wait(SOLVED, 60)
+    tab_to("#solution .move")
+    browser.press("Enter", "ArrowRight")
+    fen_is(browser, "W:W27,28:B22")
+    browser.press("Home")
+    fen_is(browser, "W:W27,32:B18")
+
+
+def way_page(browser, page, folder, printed):
+    """A file of 30 contributed problems becomes a page to be printed."""
+    begin(browser, page)
+    fens = [CONTRIBUTED[i % len(CONTRIBUTED)] for i in range(30)]
+    file = folder / "contributed.pdn"
+    file.write_text("".join(f'[Event "Contest, no. {i}"]\n[White "Composer {i % 7}"]\n[FEN "{fen}"]\n\n*\n\n'
+                            for i, fen in enumerate(fens, 1)))
+    browser.click("#tab-collection")
+    browser.upload("#file", file)
+    browser.wait("document.querySelectorAll('#list .card').length === 30", 30)
+    # Nobody has to know that the problems have to be judged before they are printed.
+    browser.click("#save-page")
+    browser.wait("document.querySelector('#list').dataset.saved === 'problems.html'", 120)
+    assert text(browser, "#list-state") == "Written: problems.html. Not decided and left out: 3; 30 problems, " \
+        "30 judged", text(browser, "#list-state")
+    states = browser.run("[...document.querySelectorAll('#list .card')].map((e) => e.dataset.state)")
+    assert states.count("refused") == 3 and "open" not in states, states
+    saved = browser.saved("problems.html").read_text()
+    assert saved.count("<svg") - saved.count("<symbol") >= 27 and "Contest, no. 30" in saved, saved[:400]
+    plain = " ".join(re.sub(r"<[^>]*>", " ", saved).split())
+    assert "White to play and win in 2 Sound: 45-40" in plain and "No win in" not in plain, plain[-3000:]
+    browser.choose("#sort", "verdict")
+    browser.wait("document.querySelector('#list .card').dataset.state === 'sound'", 20)
+    if printed:
+        take_printed(browser, browser.saved("problems.html"), folder, printed)
+
+
+def take_printed(browser, file, folder, picture):
+    """The first page of what is printed, as a small picture."""
+    browser.goto(file.as_uri())
+    browser.wait("document.readyState === 'complete'", 30)
+    said = browser.ask("Page.printToPDF", browser.session, preferCSSPageSize=True, printBackground=True)
+    (folder / "printed.pdf").write_bytes(base64.b64decode(said["data"]))
+    subprocess.run(["pdftoppm", "-r", "96", "-gray", "-l", "1", "-singlefile", folder / "printed.pdf",
+                    folder / "printed"], check=True)
+    small = subprocess.run(["pnmquant", "16", folder / "printed.pgm"], capture_output=True, check=True).stdout
+    png = subprocess.run(["pnmtopng", "-compression", "9"], input=small, capture_output=True, check=True).stdout
+    picture.write_bytes(png)
+    assert 5000 < len(png) < SMALL, len(png)
+
+
+def way_compare(browser, page):
+    """A printed solution is compared, also one with a slip."""
+    begin(browser, page, "#fen=W:W27,32:B18&n=2")
+    browser.click("#tab-compare")
+    browser.click("#movetext")
+    browser.type("1. 32-28 18-22 2. 27x18")
+    browser.click("#compare")
+    browser.wait("document.querySelectorAll('.remark').length === 2", 30)
+    assert text(browser, "#compared") == "The solution holds, but leaves something out: win in 2."
+    assert texts(browser, ".remark") == ["! After 1. 32-28 no answer is given to 18-23",
+                                         "! After 1. 32-28 18-22 this wins too: 28x17"], texts(browser, ".remark")
+    browser.click("#remarks li:nth-child(2) .remark")
+    fen_is(browser, "W:W27,28:B22")
+    # The solution is that of the problem, whatever is looked at.
+    browser.replace("#movetext", "1. 32-28 18-23 (1... 18-22 2. 28x17 (2. 27x18)) 2. 28x19")
+    browser.click("#compare")
+    browser.wait("document.querySelector('#compared').innerText.includes('nothing is left out')", 30)
+    fen_is(browser, "W:W27,32:B18")
+    browser.replace("#movetext", "1. 32-28 18-22 2. 27-18")
+    browser.click("#compare")
+    browser.wait("!document.querySelector('#compared-fault').hidden", 30)
+    assert text(browser, "#compared") == "The solution cannot be read."
+    assert text(browser, "#compared-fault mark") == "27-18"
+    assert texts(browser, "#compared-fault > *")[1] == "This move is not legal here."
+    browser.click('[data-square="18"]', "right")
+    fen_is(browser, "W:W27,32:B")
+    assert not text(browser, "#compared"), "what is said of another position"
+
+
+def way_stop(browser, page):
+    """A long search is stopped, and asked again with fewer moves."""
+    begin(browser, page)
+    browser.replace("#fen", LONG)
+    browser.replace("#most", "20")
+    browser.click("#solve")
+    browser.wait("/no win in 1\\d/.test(document.querySelector('#state').innerText)", 120)
+    assert re.match(r"Searching, no win in 1\d, [\d,]+ positions, \d+\.\d s$", text(browser, "#state")), \
+        text(browser, "#state")
+    browser.click("#stop")
+    browser.wait("document.querySelector('#state').dataset.state === 'stopped'", 10)
+    assert re.match(r"Stopped: no win in 1\d\.$", text(browser, "#state")), text(browser, "#state")
+    assert solve(browser, 10) == "∅ No win: White to play cannot win in 10."
+    browser.click("#exact")
+    browser.replace("#most", "20")
+    browser.click("#solve")
+    browser.wait("/[\\d,]+ positions/.test(document.querySelector('#state').innerText)", 120)
+    browser.click("#stop")
+    browser.wait("document.querySelector('#state').dataset.state === 'stopped'", 10)
+    browser.click("#exact")
+    browser.replace("#fen", "W:W27,45:B16")
+    assert solve(browser, 5).startswith("✓ Sound")
+
+
+def way_share(browser, page):
+    """The link of a problem is copied, and opened in another tab."""
+    begin(browser, page)
+    browser.replace("#fen", "W:W27,32:B18")
+    solve(browser, 3)
+    browser.click("#solution .move")
+    fen_is(browser, "B:W27,28:B18")
+    browser.click("#share")
+    browser.wait("!document.querySelector('#shared').hidden", 20)
+    said, address = text(browser, "#shared"), browser.run("location.href")
+    assert said in ("The link to this problem is copied.", address), said
+    assert address.endswith("#fen=W:W27,32:B18&n=3"), address
+    browser.tab()
+    open_page(browser, page, address[address.index("#"):])
+    assert (value(browser, "#fen"), value(browser, "#most")) == ("W:W27,32:B18", "3")
+    browser.click("#solve")
+    browser.wait(SOLVED, 60)
+    assert text(browser, "#verdict").startswith("≈ Dual")
+
+
+def way_black(browser, page):
+    """Black is to play, and sits below."""
+    begin(browser, page)
+    browser.click("#clear")
+    browser.click("#flip")
+    browser.choose("#turn", "B")
+    place(browser, {"w": (43,), "b": (24, 29)})
+    fen_is(browser, "B:W43:B24,29")
+    assert solve(browser, 8) == "✓ Sound: Black to play and win in 2. The only key is 29-33."
+    assert texts(browser, "#solution .move")[0] == "1... 29-33", texts(browser, "#solution .move")
+    browser.click("#mode-play")
+    browser.wait("document.querySelectorAll('.dark.source').length", 20)
+    for start, end in ((29, 33), (43, 39), (33, 44)):
+        browser.wait(f"document.querySelector('[data-square=\"{start}\"]').matches('.source')", 20)
+        browser.click(f'[data-square="{start}"]')
+        browser.click(f'[data-square="{end}"]')
+    browser.wait("document.querySelector('#played').innerText.includes('no move left')", 20)
+    assert text(browser, "#played") == "1... 29-33 2. 43-39 33x44 White has no move left and has lost.", \
+        text(browser, "#played")
+    browser.click("#take-back")
+    fen_is(browser, "B:W39:B24,33")
+    assert solve(browser, 8) == "✓ Sound: Black to play and win in 1. The only key is 33x44."
+    browser.click("#mode-setup")
+    browser.click("#flip")
+
+
+def way_eight(browser, page):
+    """The board has 8 rows."""
+    begin(browser, page)
+    browser.choose("#rows", "8")
+    browser.click("#opening")
+    fen_is(browser, "W:W21,22,23,24,25,26,27,28,29,30,31,32:B1,2,3,4,5,6,7,8,9,10,11,12")
+    browser.click("#clear")
+    place(browser, {"w": (22, 30), "b": (14,)})
+    fen_is(browser, "W:W22,30:B14")
+    said = solve(browser, 8)
+    assert "White to play" in said, said
+    assert browser.run("location.hash") == "#fen=W:W22,30:B14&n=8&rows=8", browser.run("location.hash")
+    browser.click("#tab-collection")
+    assert text(browser, "#drop-rows") == "8 × 8"
+    browser.click("summary")
+    browser.click("#add-go")
+    browser.wait("document.querySelector('#list').dataset.count === '1'", 20)
+    browser.click("#save-page")
+    browser.wait("document.querySelector('#list').dataset.saved === 'problems.html'", 60)
+    browser.choose("#rows", "10")
+    browser.click("#list .card")
+    browser.wait("document.querySelector('#rows').value === '8'", 20)
+    browser.replace("#fen", "W:W33:B1")
+    browser.wait("!document.querySelector('#fault').hidden", 20)
+    assert "A square from 1 to 32 has to stand here." in text(browser, "#fault")
+
+
+WAYS = [way_dual, way_fault, way_phone, way_keys, way_page, way_compare, way_stop, way_share, way_black, way_eight]
+
+
+def main():
+    words = argparse.ArgumentParser()
+    words.add_argument("--page", help="a page that is there; without it one is made")
+    words.add_argument("--browser", choices=("chromium", "firefox"))
+    words.add_argument("--printed", type=pathlib.Path, help="the file for the picture of a printed page")
+    given = words.parse_args()
+    with tempfile.TemporaryDirectory() as name:
+        folder = pathlib.Path(name)
+        page = made_page(given.page, folder)
+        for kind in browsers_asked(given.browser):
+            with kind() as browser:
+                for way in WAYS:
+                    if way is way_page:
+                        printed = given.printed or folder / "printed.png"
+                        way(browser, page, folder, printed if browser.name == "chromium" else None)
+                    else:
+                        way(browser, page)
+                    print(f"{browser.name}: {' '.join(way.__doc__.split())}", flush=True)
+                assert not browser.fetched(), browser.fetched()
+                assert not browser.errors, browser.errors
+
+
+if __name__ == "__main__":
+    main()

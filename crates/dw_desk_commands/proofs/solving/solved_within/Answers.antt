@@ -1,0 +1,23 @@
+use Rattle.std.proofs.Common.{ℕ, ap}
+use Rattle.dw_verdict.specs.Judging.{said_by}
+use Rattle.dw_solution.specs.declared.heading.Heading.{Heading}
+use Rattle.dw_solution.specs.declared.heading.VerdictKind.{VerdictKind}
+use Rattle.dw_desk_commands.proofs.solving.solved_within.Goals as goal
+
+abbrev headed : VerdictKind → ℕ → Heading
+headed kind moves = record { kind = kind; moves = moves }
+
+pub returns-clause-solved : goal.returns-clause-solved
+returns-clause-solved g c =
+    let geo = g.B.Board.geometry in
+    let n = c.args.moves in
+    let lines = c.lines_exist.ensures.some geo g.met.B.Board.numbers c.args.position.now n in
+    record {
+      verdict = said_by c.args.verdict.now;
+      is_verdict = c.requires.verdict;
+      heads = ap (λ z. headed z n) c.kind_of.ensures;
+      lines = lines.0;
+      are_lines = lines.1;
+      are_first = c.in_ok-first.ensures.lines lines.0 lines.1;
+      is = c.in_ok-movetext.ensures;
+    }

@@ -1,6 +1,0 @@
-use Rattle.std.proofs.Common.{◌≡◌, take}
-use Rattle.dw_mend.specs.Mending.{part_of}
-use Rattle.dw_mend.proofs.part.part_of.Given as goal
-
-abbrev pub invariant-all : goal.invariant-all
-invariant-all g l = l.some.items ≡ part_of l.part.number l.part.parts (take l.place l.all)
