@@ -16,12 +16,14 @@ import pathlib
 import re
 import subprocess
 import tempfile
+import time
 
 from board_page import PHONE, browsers_asked, made_page, middles, open_page
 
 LONG = "W:W26,28,32,33,34,37,38,39,40,43,48:B8,9,12,13,14,16,18,19,20,24,25"
 HEIGHT = 740  # pixels of a telephone
 SMALL = 150_000  # bytes of a picture in the documents
+SOON = 20  # seconds within which a page shows what was asked for
 # Problems that are contributed. One has a man on the last row.
 CONTRIBUTED = """W:W27,45:B16 W:W27,32:B18 W:W27,32,38:B18 B:W43:B24,29 W:W10,16,48:B13 W:WK46:B28 W:W32:B28
 W:W3:B20 W:W28,33:B23 W:W38,43:B32""".split()
@@ -49,6 +51,14 @@ def value(browser, selector):
 def texts(browser, selector):
     said = browser.run(f"[...document.querySelectorAll({json.dumps(selector)})].map((e) => e.innerText)")
     return [" ".join(one.split()) for one in said]
+
+
+def reads(browser, selector, *wanted):
+    """Waits until these are the texts that one reads there, for a page shows some of them a moment later."""
+    until = time.monotonic() + SOON
+    while (said := texts(browser, selector)) != list(wanted):
+        assert time.monotonic() < until, (browser.name, selector, said, wanted)
+        time.sleep(0.05)
 
 
 def is_seen(browser, selector):
@@ -88,14 +98,14 @@ def way_dual(browser, page):
     assert solve(browser, 2) == "≈ Dual: White to play and win in 2 by 32-28, but later there is a choice."
     browser.click("#dual .move:last-child")
     fen_is(browser, "B:W17,27:B")
-    assert text(browser, "#looked span") == "This is a later position."
+    reads(browser, "#looked span", "This is a later position.")
     browser.click("#tab-improve")
     assert value(browser, "#mend-n") == "2"
     browser.click("#mend-go")
     browser.wait("document.querySelector('#mend').dataset.state === 'done'", 60)
     # It is the problem that was mended, not the position that was looked at.
     fen_is(browser, "W:W27,32:B18")
-    assert text(browser, "#mend-state") == "44 sound of 310 tried", text(browser, "#mend-state")
+    reads(browser, "#mend-state", "44 sound of 310 tried")
     browser.click("#mend .card")
     fen_is(browser, "W:W32:B18")
     browser.click("#tab-solve")
@@ -109,18 +119,17 @@ def way_fault(browser, page):
     begin(browser, page)
     browser.replace("#fen", "W:W27,K51:B18")
     browser.wait("!document.querySelector('#fault').hidden", 20)
-    assert texts(browser, "#fault > *") == ["4 number at 8", "W:W27,K51:B18",
-                                            "A square from 1 to 50 has to stand here."]
-    assert text(browser, "#fault mark") == "5"
+    reads(browser, "#fault > *", "4 number at 8", "W:W27,K51:B18", "A square from 1 to 50 has to stand here.")
+    reads(browser, "#fault mark", "5")
     # No answer is given on the position that stood there before.
     browser.click("#solve")
     browser.wait("document.querySelector('#state').dataset.state === 'stopped'", 20)
-    assert text(browser, "#state") == "Mend the fault of the position first."
+    reads(browser, "#state", "Mend the fault of the position first.")
     assert browser.run("document.querySelector('#answer').hidden") and value(browser, "#fen") == "W:W27,K51:B18"
     browser.replace("#fen", "W:W27,45:B16")
     browser.click("#solve")
     browser.wait(SOLVED, 60)
-    assert text(browser, "#verdict") == "✓ Sound: White to play and win in 2. The only key is 45-40."
+    reads(browser, "#verdict", "✓ Sound: White to play and win in 2. The only key is 45-40.")
     browser.click('[data-piece-choice="w"]')
     browser.click('[data-square="3"]')
     browser.wait("!document.querySelector('#fault').hidden", 20)
@@ -192,7 +201,7 @@ def way_keys(browser, page):
     browser.type("No mouse")
     browser.press("Enter")
     browser.wait("document.querySelectorAll('#list .card').length === 1", 20)
-    assert texts(browser, "#list .card-title") == ["1. No mouse"]
+    reads(browser, "#list .card-title", "1. No mouse")
     tab_to("#list .card")
     assert browser.run("document.activeElement.getAttribute('aria-current')") == "true"
     tab_to("[role=tab]", browser.tab_back)
@@ -220,8 +229,7 @@ def way_page(browser, page, folder, printed):
     # Nobody has to know that the problems have to be judged before they are printed.
     browser.click("#save-page")
     browser.wait("document.querySelector('#list').dataset.saved === 'problems.html'", 120)
-    assert text(browser, "#list-state") == "Written: problems.html. Not decided and left out: 3; 30 problems, " \
-        "30 judged", text(browser, "#list-state")
+    reads(browser, "#list-state", "Written: problems.html. Not decided and left out: 3; 30 problems, 30 judged")
     states = browser.run("[...document.querySelectorAll('#list .card')].map((e) => e.dataset.state)")
     assert states.count("refused") == 3 and "open" not in states, states
     saved = browser.saved("problems.html").read_text()
@@ -256,9 +264,9 @@ def way_compare(browser, page):
     browser.type("1. 32-28 18-22 2. 27x18")
     browser.click("#compare")
     browser.wait("document.querySelectorAll('.remark').length === 2", 30)
-    assert text(browser, "#compared") == "The solution holds, but leaves something out: win in 2."
-    assert texts(browser, ".remark") == ["! After 1. 32-28 no answer is given to 18-23",
-                                         "! After 1. 32-28 18-22 this wins too: 28x17"], texts(browser, ".remark")
+    reads(browser, "#compared", "The solution holds, but leaves something out: win in 2.")
+    reads(browser, ".remark", "! After 1. 32-28 no answer is given to 18-23",
+          "! After 1. 32-28 18-22 this wins too: 28x17")
     browser.click("#remarks li:nth-child(2) .remark")
     fen_is(browser, "W:W27,28:B22")
     # The solution is that of the problem, whatever is looked at.
@@ -269,9 +277,9 @@ def way_compare(browser, page):
     browser.replace("#movetext", "1. 32-28 18-22 2. 27-18")
     browser.click("#compare")
     browser.wait("!document.querySelector('#compared-fault').hidden", 30)
-    assert text(browser, "#compared") == "The solution cannot be read."
-    assert text(browser, "#compared-fault mark") == "27-18"
-    assert texts(browser, "#compared-fault > *")[1] == "This move is not legal here."
+    reads(browser, "#compared", "The solution cannot be read.")
+    reads(browser, "#compared-fault mark", "27-18")
+    reads(browser, "#compared-fault > :nth-child(2)", "This move is not legal here.")
     browser.click('[data-square="18"]', "right")
     fen_is(browser, "W:W27,32:B")
     assert not text(browser, "#compared"), "what is said of another position"
@@ -338,8 +346,7 @@ def way_black(browser, page):
         browser.click(f'[data-square="{start}"]')
         browser.click(f'[data-square="{end}"]')
     browser.wait("document.querySelector('#played').innerText.includes('no move left')", 20)
-    assert text(browser, "#played") == "1... 29-33 2. 43-39 33x44 White has no move left and has lost.", \
-        text(browser, "#played")
+    reads(browser, "#played", "1... 29-33 2. 43-39 33x44 White has no move left and has lost.")
     browser.click("#take-back")
     fen_is(browser, "B:W39:B24,33")
     assert solve(browser, 8) == "✓ Sound: Black to play and win in 1. The only key is 33x44."
@@ -360,7 +367,7 @@ def way_eight(browser, page):
     assert "White to play" in said, said
     assert browser.run("location.hash") == "#fen=W:W22,30:B14&n=8&rows=8", browser.run("location.hash")
     browser.click("#tab-collection")
-    assert text(browser, "#drop-rows") == "8 × 8"
+    reads(browser, "#drop-rows", "8 × 8")
     browser.click("summary")
     browser.click("#add-go")
     browser.wait("document.querySelector('#list').dataset.count === '1'", 20)
