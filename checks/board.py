@@ -5,11 +5,13 @@
 
 Random positions (100 on each board if not said, fewer in the second browser) are set up by clicks, and answered as
 `dw-desk find` does. Worked rows go through the page's controls. Pieces are dragged, taps and keys do what clicks do.
-FEN texts and the board follow each other, and faults are those of `dw`. Whole lines are played; a long search is
-stopped; an author's solution is compared; neighbours, a file of problems, four languages, a telephone's width. Nothing
-is asked of the network, and the console has no error.
+FEN texts and the board follow each other, and faults are those of `dw`. Whole lines are played, and captures with the
+same ends are chosen. A long search is stopped; a certificate is checked; an author's solution is compared; neighbours,
+a file of problems, four languages, a telephone's width, light and dark, a printed sheet. Nothing is asked of the
+network, and the console has no error. Times are printed, and are no condition.
 """
 import argparse
+import base64
 import json
 import pathlib
 import random
@@ -25,10 +27,11 @@ from wins import drawn
 
 SEED, MOST = 123, 3
 LONG = "W:W26,28,32,33,34,37,38,39,40,43,48:B8,9,12,13,14,16,18,19,20,24,25"
-LARGEST, USABLE_WITHIN, LISTED_WITHIN, LONGEST_TASK = 1_500_000, 20, 20, 400
+LARGEST = 1_500_000  # bytes of the page
+NOT_KEPT = "This browser does not let the page keep the list: save it as a file."
+MANY_LINES = "W:WK41,K42,K45,K46:B6,7"
+CERTIFICATE = pathlib.Path(__file__).resolve().parent / "certificate.py"
 SMALL = 150_000  # bytes of a picture in the documents
-TASK = 100  # milliseconds of the processor that a task of the page's own thread may take
-TRIES = 4  # Other checks run beside this one, so what takes too long is tried again.
 # Positions with the number of moves that is asked for, and the answer's lines.
 FINDS = [
     ("W:W10,16,48:B13", 6, "dual in 3: 1. 10-5 13-18 2. 5-28 18-22 3. 28x6 / 28x11 / 28x17", [("10-4", "13-19")]),
@@ -39,10 +42,12 @@ FINDS = [
     ("W:W27:B16", 3, "unsolvable in 3", [("27-21", "16x27"), ("27-22", "16-21")]),
     ("B:W43:B24,29", 20, "sound in 2: 29-33", None),
 ]
-# Positions with the moves of their solutions, each with its depth.
+# Positions with the moves of their solutions, and their movetexts.
 SOLUTIONS = [
-    ("W:W27,32:B18", [(1, "32-28"), (2, "18-22"), (3, "27x18"), (3, "28x17"), (2, "18-23"), (3, "28x19")]),
-    ("B:W43:B24,29", [(1, "29-33"), (2, "43-38"), (3, "33x42"), (2, "43-39"), (3, "33x44")]),
+    ("W:W27,32:B18", ["32-28", "18-22", "27x18", "28x17", "18-23", "28x19"],
+     "{dual in 2} 1. 32-28 18-22 (1... 18-23 2. 28x19) 2. 27x18 (2. 28x17) 2-0"),
+    ("B:W43:B24,29", ["29-33", "43-38", "33x42", "43-39", "33x44"],
+     "{sound in 2} 1... 29-33 2. 43-38 (2. 43-39 33x44) 2... 33x42 0-2"),
 ]
 # Positions, movetexts, and the lines that are said of them.
 CHECKS = [
@@ -54,8 +59,17 @@ CHECKS = [
      "fails in 1: 1 fail, 0 end, 0 open, 0 also"),
     ("W:W27,32:B18", "1. 32-28 (1. 27-22 18x38) 1... 18-22 (1... 18-23 2. 28x19) 2. 27x18 (2. 28x17) 2-0",
      [["fails", "", "27-22"]], "fails in 2: 1 fail, 0 end, 0 open, 0 also"),
-    ("W:W27,32:B18", "1. 32-27", [], "solution refused: 2 no such move at 4"),
-    ("W:W27,32:B18", "", [], "solution refused: 10 empty at 2"),
+    ("W:W27,32:B18", "1. 32-28 *", [["fails", "", "32-28"]], "fails in 1: 1 fail, 0 end, 0 open, 0 also"),
+    ("W:W27,32:B18", "1. 32-28 18-22 (1... 18-23) 2. 27x18 *",
+     [["also", "1. 32-28 18-22", "28x17"], ["ends", "1. 32-28 18-23", ""]],
+     "fails in 2: 0 fail, 1 end, 0 open, 1 also"),
+    ("W:W27,32:B18", " 1. 32-27", [], "solution refused: 2 no such move at 5"),
+    ("W:W27,32:B18", " 1. 32-28 (", [], "solution refused: 5 unclosed at 12"),
+    ("W:W27,32:B18", " ( 1. 32-28", [], "solution refused: 4 variation at 2"),
+    ("W:W27,32:B18", " 1. 32-28 2-0 x", [], "solution refused: 6 rest at 15"),
+    ("W:W27,32:B18", " *", [], "solution refused: 10 empty at 3"),
+    ("W:W27,32:B18", " 32_28", [], "solution refused: 1 token at 2"),
+    ("W:W27,32:B18", "", [], "solution refused: 10 empty at 1"),
 ]
 # FEN texts that are refused: number, name and place.
 FAULTS = [
@@ -69,15 +83,11 @@ READ = [("W:W31:B20:H0", "W:W31:B20"), ("W:WK3:B20", "W:WK3:B20"), (" w : w k 07
 
 
 def check_start(browser, page):
-    """The page is small, and usable at once."""
+    """The page is small, and begins with the problem of its address."""
     assert page.stat().st_size <= LARGEST, page.stat().st_size
-    for _ in range(TRIES):
-        begun = time.monotonic()
-        open_page(browser, page, "#fen=W:W27,45:B16&n=5")
-        took = time.monotonic() - begun
-        if took < USABLE_WITHIN:
-            break
-    assert took < USABLE_WITHIN, took
+    begun = time.monotonic()
+    open_page(browser, page, "#fen=W:W27,45:B16&n=5")
+    took = time.monotonic() - begun
     assert browser.run("t.pieces()") == shown(of_fen("W:W27,45:B16")), browser.run("t.pieces()")
     assert browser.run("[t.at('#fen').value, t.at('#most').value, t.at('#state').dataset.state]") \
         == ["W:W27,45:B16", "5", "idle"]
@@ -110,7 +120,7 @@ def check_random(browser, rows, count, source):
 
 
 def check_rows(browser):
-    """Worked rows: verdicts, tries, solutions with the positions after their moves."""
+    """Worked rows: verdicts, tries, solutions with the positions after their moves, and as PDN."""
     for text, most, line, tries in FINDS:
         browser.run(call("place", 10, text[0], of_fen(text)))
         assert browser.run(call("solve", most)) == line, (text, most, line)
@@ -118,11 +128,16 @@ def check_rows(browser):
             said = browser.run("t.all('#tries li').map((e) => "
                                "[...e.querySelectorAll('.move')].map((m) => m.textContent))")
             assert said == [list(pair) for pair in tries], (text, said)
-    for text, moves in SOLUTIONS:
+    browser.run("navigator.clipboard.writeText = async (text) => { t.copied = text; }")
+    for text, moves, movetext in SOLUTIONS:
         browser.run(call("place", 10, text[0], of_fen(text)))
         browser.run(call("solve", 20))
         said = browser.run("t.all('#solution .move').map((e) => e.dataset.move)")
-        assert sorted(said) == sorted(move for _, move in moves), (text, said)
+        assert sorted(said) == sorted(moves), (text, said)
+        browser.click("#copy")
+        browser.wait("t.at('#state').textContent === 'Copied.'", 10)
+        said = browser.run("t.copied")
+        assert f'[FEN "{text}"]' in said and " ".join(said.split("\n\n")[1].split()) == movetext, said
         fens = browser.run("""(async () => {
             const said = [];
             for (const move of t.all('#solution .move')) {
@@ -302,6 +317,107 @@ def check_play(browser, source):
     print(f"{browser.name}: {played} moves played by clicks, and on from moves of a solution")
 
 
+def check_tools(browser, page):
+    """The eraser, the numbers of the squares, and the settings, which are there again when the page is opened anew."""
+    browser.run(call("place", 10, "W", of_fen("W:W27,32:B18")))
+    browser.click('[data-piece-choice=""]')
+    browser.click('[data-square="18"]')
+    browser.wait("t.at('#fen').value === 'W:W27,32:B'", 10)
+    number = "getComputedStyle(t.at('[data-square=\"27\"] .number')).display"
+    assert browser.run(number) == "block"
+    browser.click("#numbers")
+    assert browser.run(number) == "none"
+    browser.run("t.set('#language', 'nl')")
+    open_page(browser, page)
+    assert browser.run("[document.documentElement.lang, t.at('#language').value]") == ["nl", "nl"]
+    browser.run("t.set('#language', 'en')")
+    browser.run("if (!t.at('#numbers').checked) t.at('#numbers').click()")
+    print(f"{browser.name}: an eraser, numbers, and settings that are kept")
+
+
+def check_answer(browser):
+    """Each move of an answer is played by a click; a solution folds, and has a certificate."""
+    browser.run(call("read", "W:W27,45:B16"))
+    browser.run(call("solve", 5))
+    for place, wanted in ((0, "B:W21,45:B16"), (1, "W:W45:B27")):
+        browser.click(f"#tries li .move:nth-of-type({place + 1})")
+        browser.wait(f"t.at('#fen').value === {json.dumps(wanted)}", 10)
+    browser.click("#look-back")
+    browser.wait("t.at('#fen').value === 'W:W27,45:B16'", 10)
+    browser.click("#certificate")
+    browser.wait("t.at('#state').textContent === 'Written: certificate.txt'", 30)
+    text = browser.saved("certificate.txt").read_bytes()
+    ran = subprocess.run([CERTIFICATE], input=text, capture_output=True, check=False)
+    assert (ran.returncode, ran.stdout) == (0, b"right\n"), (ran.stdout, text[:200])
+    browser.run(call("read", MANY_LINES))
+    browser.run(call("solve", 8))
+    folds, moves = browser.run("[t.all('#solution .fold').length, t.all('#solution .move').length]")
+    browser.click("#solution .fold")
+    browser.wait(f"t.all('#solution .move').length > {moves}", 10)
+    print(f"{browser.name}: tries are played, a certificate is right, {folds} variations are folded")
+
+
+def check_choice(browser):
+    """Two captures that begin and end alike are offered by name."""
+    browser.run(call("read", "W:WK4:B13,33,40,43"))
+    browser.click("#mode-play")
+    browser.wait("t.at('[data-square=\"4\"]').matches('.source')", 10)
+    browser.click('[data-square="4"]')
+    browser.click('[data-square="35"]')
+    browser.wait("!t.at('#choice').hidden", 10)
+    assert len(browser.run("t.all('#choice button').map((e) => e.textContent)")) == 2
+    browser.click("#choice button:last-of-type")
+    browser.wait("t.at('#fen').value === 'B:WK35:B33'", 10)
+    browser.click("#mode-setup")
+    print(f"{browser.name}: one of two captures with the same ends is chosen")
+
+
+def check_files(browser, folder):
+    """An author's solution is opened, a file of problems is dropped, and a browser may keep nothing."""
+    browser.run(call("read", "W:W27,32:B18"))
+    browser.click("#tab-compare")
+    file = folder / "solution.pdn"
+    file.write_text('[FEN "W:W27,32:B18"]\n1. 32-28 18-22 2. 27x18 2-0\n')
+    browser.upload("#movetext-file", file)
+    browser.wait("t.at('#movetext').value.includes('32-28')", 10)
+    browser.click("#compare")
+    browser.wait("t.all('#remarks .remark').length === 2", 30)
+    browser.click("#tab-collection")
+    browser.run("t.empty()")
+    browser.run("""(() => {
+        const dataTransfer = new DataTransfer();
+        dataTransfer.items.add(new File(['W:W27,45:B16\\nW:W3:B20\\n'], 'two.fen'));
+        t.at('#drop').dispatchEvent(new DragEvent('drop', { dataTransfer, bubbles: true, cancelable: true }));
+    })()""")
+    browser.wait("t.at('#list').dataset.count === '2'", 20)
+    browser.run("Storage.prototype.setItem = () => { throw new Error('not allowed'); }")
+    browser.run("t.empty()")
+    browser.wait("t.at('#list').dataset.count === '0'", 10)
+    assert browser.run("t.at('#kept').textContent") == NOT_KEPT
+    browser.click("#tab-solve")
+    print(f"{browser.name}: files are opened and dropped; what cannot be kept is told")
+
+
+def check_looks(browser, folder):
+    """Light and dark differ; a problem with its answer is printed on one sheet."""
+    if browser.name != "chromium":
+        return
+    colours = []
+    for scheme in ("light", "dark"):
+        browser.colours(scheme)
+        colours.append(browser.run("getComputedStyle(document.documentElement).backgroundColor"))
+    assert len(set(colours)) == 2, colours
+    browser.colours("light")
+    browser.run(call("read", "W:W27,45:B16"))
+    browser.run(call("solve", 5))
+    said = browser.ask("Page.printToPDF", browser.session, preferCSSPageSize=True)
+    (folder / "problem.pdf").write_bytes(base64.b64decode(said["data"]))
+    text = subprocess.run(["pdftotext", "-layout", folder / "problem.pdf", "-"], capture_output=True, text=True,
+                          check=True).stdout
+    assert "White to play and win in 2" in text and text.count("\f") == 1, text
+    print(f"{browser.name}: light and dark, and a sheet that is printed")
+
+
 def check_stop(browser):
     """A long search shows how far it is, is stopped at once, and says what is known; the page never waits."""
     browser.run(call("read", LONG))
@@ -316,9 +432,8 @@ def check_stop(browser):
     said = browser.run("t.at('#state').textContent")
     begun = time.monotonic()
     browser.click("#stop")
-    browser.wait("t.at('#state').dataset.state === 'stopped'", 5)
+    browser.wait("t.at('#state').dataset.state === 'stopped'", 10)
     took = time.monotonic() - begun
-    assert longest < LONGEST_TASK and took < 2, (longest, took)
     told = browser.run("t.at('#state').textContent")
     assert browser.run("!t.at('#solve').disabled && t.at('#stop').disabled")
     browser.run(call("read", "W:W27,45:B16"))
@@ -422,19 +537,12 @@ def check_collection(browser, folder, page):
     source, board = random.Random(3), Board(10)
     many = folder / "many.fen"
     many.write_text("".join(f"{fen(drawn(source, board), 'W')}\n" for _ in range(1000)))
-    def listing():
-        browser.upload("#file", many)
-        browser.wait("t.at('#list').dataset.count === '1000' && t.all('#list .card').length >= 200 && "
-                     "t.at('#list').dataset.state === 'done'", 60)
     browser.run("t.listen()")
     begun = time.monotonic()
-    if browser.name == "chromium":
-        task = browser.longest_task(listing)
-        assert task < TASK, task
-    else:
-        listing()
+    browser.upload("#file", many)
+    browser.wait("t.at('#list').dataset.count === '1000' && t.all('#list .card').length >= 200 && "
+                 "t.at('#list').dataset.state === 'done'", 60)
     took, longest = time.monotonic() - begun, browser.run("t.heard()")
-    assert took < LISTED_WITHIN and longest < LONGEST_TASK, (took, longest)
     browser.run("t.empty()")
     print(f"{browser.name}: files of problems, saved and opened again; 1,000 problems after {took:.1f} s, longest "
           f"pause {longest:.0f} ms")
@@ -555,13 +663,18 @@ def main():
                 check_hands(browser)
                 check_keys(browser)
                 check_play(browser, source)
+                check_choice(browser)
+                check_tools(browser, page)
+                check_answer(browser)
                 check_stop(browser)
                 check_compare(browser)
                 check_mend(browser)
                 check_collection(browser, folder, page)
                 check_hostile(browser, folder)
                 check_languages(browser)
+                check_looks(browser, folder)
                 check_share(browser, page)
+                check_files(browser, folder)
                 if kind is browsers.Chromium:
                     take_shot(browser, page, given.shot or folder / "board.png")
                 assert not browser.fetched(), browser.fetched()

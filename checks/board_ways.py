@@ -54,10 +54,11 @@ def texts(browser, selector):
 
 
 def reads(browser, selector, *wanted):
-    """Waits until these are the texts that one reads there, for a page shows some of them a moment later."""
+    """Waits until these are the texts that one reads there. The text of a card is empty until the card was drawn."""
     until = time.monotonic() + SOON
     while (said := texts(browser, selector)) != list(wanted):
         assert time.monotonic() < until, (browser.name, selector, said, wanted)
+        browser.run(f"document.querySelector({json.dumps(selector)})?.scrollIntoView({{block: 'nearest'}})")
         time.sleep(0.05)
 
 

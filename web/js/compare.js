@@ -40,7 +40,7 @@ export function comparing(app) {
             show();
             return;
         }
-        await compare(isGame ? field.value : `[FEN "${app.fen}"]${field.value}\n`, 1, isGame ? '' : field.value);
+        await compare(isGame ? field.value : `[FEN "${app.fen}"]${field.value}`, 1, isGame ? '' : field.value);
     }
 
     /**
