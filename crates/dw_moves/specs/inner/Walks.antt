@@ -72,11 +72,11 @@ BeginsTowards g p d l = (from : ℕ) × Begins g p d from l
 abbrev pub Stays : {K : Type 0} → (K → List Listed → K → Type 0) → K → K → Type 0
 Stays {K} holds old new = (first : K) (xs : List Listed) → holds first xs old → holds first xs new
 
--- these captures are added
+-- these captures join those that were offered
 abbrev pub Gains : {K : Type 0} → (K → List Listed → K → Type 0) → List Listed → K → K → Type 0
 Gains {K} holds more old new = (first : K) (xs : List Listed) → holds first xs old → holds first (xs ++ more) new
 
--- just these captures are added, each once or more often
+-- exactly the captures with property E are offered, each once or more often
 pub record Offers {K : Type 0} (holds : K → List Listed → K → Type 0) (E : Listed → Type 0) (old new : K) : Type 0 where
   pub captures : List Listed
   pub exactly : (l : Listed) → Member l captures ↔ E l
@@ -105,7 +105,7 @@ Along path l = l.path ≡ path
 abbrev pub Is : Listed → Listed → Type 0
 Is l x = x ≡ l
 
--- k is the greatest number, and this is kept of the captures that take so many
+-- k is the greatest number of pieces that a capture takes, and Kept holds
 pub record Held (E : Listed → Type 0) (k : ℕ) (Kept : Type 0) : Type 0 where
   pub most : IsMost E k
   pub kept : Kept
