@@ -19,7 +19,7 @@ Content = List Entry
 abbrev pub positions : Content → List Placement
 positions c = map (λ e. e.position) c
 
--- a position stands once
+-- each position has at most one entry
 abbrev pub IsMap : Content → Type 0
 IsMap c = NoRepeat (positions c)
 
