@@ -10,7 +10,7 @@ pub record Solving (M : Type 0) : Type 0 where
   pub expanded : ℕ
   pub limit : ℕ
 
--- the least number of moves from 1 to n within which there is a win, or that there is none
+-- the answer is the least number of moves from 1 to n within which there is a win, or `None` if there is none
 abbrev pub IsLeast : Geometry → Placement → ℕ → Option ℕ → Type 0
 IsLeast g p n None = Win g p n → ⊥
 IsLeast g p n (Some k) = (1 ≤ k) × (k ≤ n) × Win g p k × ((j : ℕ) → j < k → Win g p j → ⊥)
