@@ -7,7 +7,7 @@ use Rattle.dw_list.specs.LineStack.{LineStack}
 use Rattle.dw_list.specs.StackWalk.{GivesFirst, GivesNone}
 use Rattle.dw_list.specs.inner.Steps.{IsStep, IsGiven}
 
--- what one step does
+-- the effect of one step of a walk
 abbrev pub HasStepped : Geometry → Step → LineStack → LineStack → Type 0
 HasStepped g Over old new = (old.levels ≡ []) × (new ≡ old)
 HasStepped g Given old new = IsGiven g old new

@@ -31,7 +31,7 @@ left_after false n = n
 abbrev pub AreWays : Geometry → Bool → Placement → ℕ → List (List Move) → Type 0
 AreWays g attacks p n lists = IsListOf (Before g p) (GoesOn g attacks p n) lists
 
--- those that go on with one of these moves
+-- all ways that begin with one of these moves, in ascending order
 abbrev pub AreWaysAmong : Geometry → Bool → Placement → ℕ → List Move → List (List Move) → Type 0
 AreWaysAmong g attacks p n moves lists = IsListOf (Before g p) (λ l. GoesOn g attacks p n l × BeginsAmong moves l) lists
 
