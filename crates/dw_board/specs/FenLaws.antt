@@ -11,11 +11,11 @@ use Rattle.dw_board.specs.FenText.{written}
 use Rattle.dw_board.specs.declared.piece.Side.{Side}
 use Rattle.dw_board.specs.declared.fen.fault.FenFault.{FenFault}
 
--- a text is read as a position exactly if the grammar gives it that position
+-- reading a text gives a position exactly if the grammar gives it that position
 abbrev pub ReadingIsGrammar : Type 0
 ReadingIsGrammar = (g : Geometry) (text : List ℕ) (p : Placement) → (fen g text ≡ Ok p) ↔ Fen g text p
 
--- a text is read as a fault exactly if this is its earliest one by the grammar
+-- reading a text gives a fault exactly if this is its earliest one by the grammar
 abbrev pub FaultIsGrammar : Type 0
 FaultIsGrammar =
     (g : Geometry) (text : List ℕ) (fault : FenFault) → (fen g text ≡ Err fault) ↔ IsFirstFault g text fault

@@ -1,4 +1,4 @@
--- What stands on a board, as three sets: white's pieces, black's pieces and all kings.
+-- The pieces on a board, as three sets: white's pieces, black's pieces and all kings.
 use Rattle.std.specs.Prelude.{◌≡◌, List, Option}
 use Rattle.std.specs.FinSet as set
 use Rattle.dw_board.specs.declared.piece.Side.{Side}

@@ -38,8 +38,8 @@ pub fn same_squares<B: Board>(one: Squares<B>, other: Squares<B>) -> bool
     one == other
 }
 
-/// A text is read as a position exactly if the grammar of FEN texts gives it that position. It is read as a fault
-/// exactly if this is its earliest fault by the grammar.
+/// Reading a text gives a position exactly if the grammar of FEN texts gives it. It gives a fault exactly if this is
+/// the text's earliest one by the grammar.
 pub fn reading_is_grammar()
     ensures position { ReadingIsGrammar }
     ensures fault { FaultIsGrammar }

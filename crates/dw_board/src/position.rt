@@ -276,7 +276,7 @@ fn on_last_row<B: Board>(square: Square<B>, side: Side) -> bool
     }
 }
 
-/// Returns the piece after a move that ends on this square: a man on its last row is crowned.
+/// Returns the piece after a move that ends on this square: a man on its last row becomes a king.
 #[inline]
 fn crowned<B: Board>(to: Square<B>, piece: Piece) -> Piece
     ensures { result ≡ of.crowned B.geometry to piece }

@@ -46,7 +46,8 @@ fn stride<B: Board>(direction: Dir) -> u8
     }
 }
 
-/// Adds the squares one shift by `by` bits further, if all squares on the way are free, as `clear` tells.
+/// Returns the squares reached and those one shift by `by` bits further, if all squares on the way are free, as `clear`
+/// tells.
 #[inline]
 fn further(down: bool, by: u8, reached: u64, clear: u64) -> u64
     requires { by < 64 }
