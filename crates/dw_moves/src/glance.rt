@@ -37,7 +37,8 @@ pub fn count_if_quiet<B: Board>(position: &Position<B>) -> Option<u32>
     }
 }
 
-/// Returns the same. No man may be able to take something, and `field` must have the sets of the position.
+/// Returns the number of legal moves, at most 400, or `None` if a king can take something. No man may be able to take
+/// something, and `field` must have the sets of the position.
 #[inline(never)]
 fn count_unless_kings_take<B: Board>(position: &Position<B>, field: &Field<B>) -> Option<u32>
     requires sets { AreSets B.geometry position.now field.now.men field.now.kings field.now.enemies

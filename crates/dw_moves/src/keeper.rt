@@ -15,7 +15,7 @@ pub(crate) trait Keeper<B: Board> {
     /// The relation between a keeper before a walk, the captures offered since, and the keeper now.
     ghost holds: { Self → List Listed → Self → Type 0 };
 
-    /// The keeper is on this path. It holds of every path for a keeper that follows none.
+    /// The keeper is on this path. For a keeper that follows no path this holds of each.
     ghost is_on: { Self → List ℕ → Type 0 };
 
     /// Begins a path on this square.
