@@ -1,4 +1,4 @@
--- What a note does to a memo, which may lose entries.
+-- The effect of a note on a memo, which may lose entries.
 use Rattle.std.specs.Prelude.{◌≡◌, ◌≢◌, ℕ, ◌+◌, ◌-◌, ◌^◌, ◌⊎◌, min, List, length}
 use Rattle.dw_board.specs.Placement.{Placement}
 use Rattle.dw_memo.specs.declared.bounds.Bounds.{Bounds}
