@@ -4,7 +4,7 @@ use Rattle.dw_board.specs.Geometry.{Geometry}
 use Rattle.dw_board.specs.Placement.{Placement}
 use Rattle.dw_solve.specs.Wins.{Win}
 
--- its memo, how many positions it has expanded, and how many it may expand
+-- a solver: its memo, the number of positions that it has expanded, and the number that it may expand
 pub record Solving (M : Type 0) : Type 0 where
   pub memo : M
   pub expanded : ℕ

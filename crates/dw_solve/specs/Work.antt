@@ -1,4 +1,4 @@
--- What searches leave in a memo, and how much they do.
+-- The effect of searches on a memo, and the amount of their work.
 use Rattle.std.specs.Prelude.{◌≡◌, ℕ, ◌+◌, ◌-◌, ◌^◌, ◌≤◌, ◌<◌, ◌⊎◌, List, length, filter, Result, Ok, Err}
 use Rattle.std.proofs.Common.{zero, suc}
 use Rattle.dw_board.specs.Geometry.{Geometry}
