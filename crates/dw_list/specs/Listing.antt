@@ -1,4 +1,4 @@
--- What a lister shows its caller.
+-- A lister, as its caller sees it.
 use Rattle.std.specs.Prelude.{◌≡◌, ℕ, ◌≤◌, max, List, [], ◌∷◌}
 use Rattle.std.specs.Borrow.{GName}
 use Rattle.dw_solve.specs.Solving.{Solving}

@@ -1,4 +1,4 @@
--- What a walk over a stack does.
+-- The effect of a walk over a stack.
 use Rattle.std.specs.Prelude.{◌≡◌, ◌↔◌, List, [], ◌∷◌, ◌++◌, reverse}
 use Rattle.dw_board.specs.Geometry.{Geometry}
 use Rattle.dw_moves.specs.Moves.{Move}
