@@ -1,4 +1,4 @@
--- What a reader or a writer of std shows as a source or a sink.
+-- A reader or a writer of std, as a source or a sink.
 use Rattle.std.specs.Prelude.{ℕ, ◌-◌, Bool}
 use Rattle.dw_notation.specs.declared.streams.reading.TheConstants.{MAX_READS}
 use Rattle.dw_notation.specs.declared.streams.reading.Reading.{Reading}

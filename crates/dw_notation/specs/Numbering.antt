@@ -1,4 +1,4 @@
--- What the numbers of problems show their caller.
+-- The numbers of problems, as callers see them.
 use Rattle.std.specs.Prelude.{ℕ}
 use Rattle.dw_notation.specs.declared.problems.numbering.Numbering.{Numbering}
 
