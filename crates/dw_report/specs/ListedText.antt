@@ -42,7 +42,7 @@ pub record IsCut (g : Geometry) (p : Placement) (most : ℕ) (lines : List (List
   pub are : AreLineTexts g p (earlier ++ last ∷ []) texts
   pub is : text ≡ texts ++ more_after g last
 
--- all of these lines, or the first ones, as many as are asked for
+-- all of these lines, or the first ones, as many as may be listed
 abbrev pub IsListing : Geometry → Placement → ℕ → List (List Move) → List ℕ → Type 0
 IsListing g p most lines text = IsComplete g p most lines text ⊎ IsCut g p most lines text
 
