@@ -77,11 +77,11 @@ abbrev pub may_go : Kind → Side → Dir → Bool
 may_go Man side d = is_forward side d
 may_go King side d = true
 
--- where a piece may go in one direction
+-- the squares where a piece may go in one direction
 abbrev pub goes : Kind → Geometry → Placement → Side → ℕ → Dir → List ℕ
 goes k g p side s d = cond (may_go k side d) (landings_for k p (ray g s d)) []
 
--- where a piece may go
+-- the squares where a piece may go
 abbrev pub quiet_for : Kind → Geometry → Placement → Side → ℕ → List ℕ
 quiet_for k g p side s = flat_map (goes k g p side s) dirs
 
