@@ -10,7 +10,7 @@ use Rattle.dw_memo.specs.declared.pair.Pair.{Pair}
 use Rattle.dw_memo.specs.Content.{entry, Content}
 use Rattle.dw_memo.specs.inner.Slots.{Place, standing}
 
--- what stands in the two places
+-- the entries of the two places
 abbrev pub pair_entries : {B : Type 0} → Pair B → Content
 pair_entries pair = standing pair.first ++ standing pair.second
 
@@ -23,7 +23,7 @@ moves (Some n) = n
 abbrev pub depth : Bounds → ℕ
 depth b = max (moves b.fails) (moves b.wins)
 
--- what a fact is worth: the moves of which its bounds tell, less one for each sixteen that it has aged
+-- the value of a fact: the moves that its bounds decide, less one for each sixteen of age
 abbrev pub fact_worth : Fact → ℕ
 fact_worth f = depth f.bounds - f.age / 16
 
