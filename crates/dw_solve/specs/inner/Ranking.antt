@@ -1,4 +1,4 @@
--- What a search finds out from a list of moves.
+-- The results of a search from a list of moves.
 use Rattle.std.specs.Prelude.{◌≡◌, ◌⊎◌, ◌↔◌, ℕ, Bool, IsTrue, List, Option, Some, None}
 use Rattle.dw_board.specs.Geometry.{Geometry}
 use Rattle.dw_board.specs.Placement.{Placement}

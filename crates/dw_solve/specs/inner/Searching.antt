@@ -1,4 +1,4 @@
--- What the parts of a search do.
+-- The effect of the parts of a search.
 use Rattle.std.specs.Prelude.{◌≡◌, ◌⊎◌, ◌↔◌, ℕ, ◌≤◌, Bool, cond, IsTrue, Option, Some, None, Result, IsErrOf}
 use Rattle.dw_memo.specs.declared.bounds.Bounds.{Bounds}
 use Rattle.dw_memo.specs.inner.Keeping.{nothing}
