@@ -1,4 +1,4 @@
--- What a walk over a stack does.
+-- The effect of a walk over a stack.
 use Rattle.std.specs.Prelude.{◌≡◌, Bool, true, false, []}
 use Rattle.dw_board.specs.Geometry.{Geometry}
 use Rattle.dw_list.specs.declared.walk.Step.{Step}

@@ -1,4 +1,4 @@
--- What is to be done with a stack.
+-- The next thing to do with a stack.
 use Rattle.std.specs.Prelude.{◌≡◌, ◌↔◌, Bool, false, IsTrue, Some, None, List, [], ◌∷◌}
 use Rattle.dw_board.specs.Geometry.{Geometry}
 use Rattle.dw_moves.specs.Moves.{play}

@@ -21,7 +21,7 @@ IsNext g true p zero m = ⊥
 IsNext g true p (suc n) m = Legal g p m × Lost g (play g p m) n
 IsNext g false q n r = Legal g q r
 
--- how many moves the attacker has left after a move
+-- the number of moves that the attacker has left after a move
 abbrev pub left_after : Bool → ℕ → ℕ
 left_after true zero = zero
 left_after true (suc n) = n
