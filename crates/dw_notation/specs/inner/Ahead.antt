@@ -1,4 +1,4 @@
--- What is ahead in a text of lines that is read piece by piece.
+-- The problems still ahead in a text of lines that is read piece by piece.
 use Rattle.std.specs.Prelude.{ℕ, ◌==◌, if◌then◌else◌, List, [], ◌∷◌, ◌++◌, Bool, false, option_to_list}
 use Rattle.dw_board.specs.Geometry.{Geometry}
 use Rattle.dw_notation.specs.TextLines.{line_feed, Found}

@@ -1,4 +1,4 @@
--- What a reader of problems holds, and how the pieces of a text are cut off and handed out.
+-- The progress of a reader of problems, and how the pieces of a text are cut off and handed out.
 use Rattle.std.specs.Prelude.{◌≡◌, ℕ, ◌≤◌, ◌==◌, ◌&&◌, ◌⊎◌, List, [], ◌++◌, length, Bool, true, false, not, Option}
 use Rattle.std.specs.Prelude.{option_to_list, Result, Ok, Err, nat_le}
 use Rattle.std.specs.Io.KnownBytes.{Consumes}
@@ -15,8 +15,8 @@ use Rattle.dw_notation.specs.declared.problems.reader.Pieces.{Pieces}
 use Rattle.dw_notation.specs.declared.streams.buffer.Buffer.{Buffer}
 use Rattle.dw_notation.specs.declared.problems.reader.Problems.{Problems}
 
--- how far a text was read: the bytes read and not yet cut, the piece begun, how many problems were handed out, and
--- whether the end was met
+-- the progress of reading a text: the bytes read and not yet cut, the piece begun, the number of problems handed out,
+-- and whether the end was met
 pub record Progress : Type 0 where
   pub rest : List ℕ
   pub pieces : Pieces
@@ -45,7 +45,7 @@ problems_from at_end g progress bytes = number_from progress.handed (found_ahead
 abbrev pub to_come : Geometry → Progress → List ℕ → List Numbered
 to_come = problems_from true
 
--- those of them that end in these bytes
+-- the problems not yet handed out that end in these bytes
 abbrev pub ended : Geometry → Progress → List ℕ → List Numbered
 ended = problems_from false
 

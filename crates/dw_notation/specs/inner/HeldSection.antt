@@ -1,4 +1,4 @@
--- What is held of a section, and what decides what it says.
+-- The parts that are held of a section, which decide its problem.
 use Rattle.std.specs.Prelude.{◌≡◌, ℕ, ◌==◌, ◌+◌, ◌-◌, ◌*◌, ◌<◌, ◌||◌, if◌then◌else◌, not, min, List, [], ◌∷◌, ◌++◌}
 use Rattle.std.specs.Prelude.{length, take, Bool, true, false, Option, Some, None, option_to_list, Err, nat_lt}
 use Rattle.std.specs.Char.{is_ascii_digit}
@@ -25,7 +25,7 @@ use Rattle.dw_notation.specs.declared.problems.pdn.Sections.{Sections}
 use Rattle.dw_notation.specs.declared.problems.pdn.Cut.{Cut}
 use Rattle.dw_notation.specs.declared.problems.pdn.Cut.TheVariants.{Nothing, Section, Comment}
 
--- what is held of a section; bytes are counted up to one more than it may have, and the tags of FEN texts up to two
+-- the parts held of a section; bytes are counted up to one more than it may have, and FEN tags up to two
 pub record Held : Type 0 where
   pub read : ℕ
   pub size : ℕ
@@ -143,7 +143,7 @@ held_from at_end g state h (byte ∷ bytes) =
 abbrev pub sections_ahead : Bool → Geometry → Sections → List ℕ → List Found
 sections_ahead at_end g s bytes = held_from at_end g s.state (held_of s.section) bytes
 
--- what was cut off and is to be handed out
+-- the problem of the piece that was cut off, if it has one
 abbrev pub cut_found : Geometry → Cut → Held → Option Found
 cut_found g Nothing h = None
 cut_found g Section h = Some (held_found g h)

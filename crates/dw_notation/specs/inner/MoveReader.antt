@@ -1,4 +1,4 @@
--- What the parts of reading a move's text find.
+-- The results of the parts of reading a move's text.
 use Rattle.std.specs.Prelude.{◌≡◌, ℕ, ◌<◌, false, Result, Ok, Err, List, ◌++◌}
 use Rattle.std.specs.FinSet as set
 use Rattle.dw_board.specs.Geometry.{Geometry}
