@@ -165,7 +165,7 @@ abbrev pub PathsHeld : (Listed → Type 0) → ℕ → List Listed → Type 0
 PathsHeld E k list = Held E k (PathsKept E k list)
 
 -- ---- lists of moves with their paths
--- what listed moves are sorted by: the start, the end, and the path
+-- the numbers by which listed moves are sorted: the start, the end, and the path
 abbrev pub sorted_by : Listed → List ℕ
 sorted_by l = l.step.from ∷ l.step.to ∷ l.path
 
