@@ -17,8 +17,8 @@ use std::num::NonZeroUsize;
 
 /// A memo of a fixed number of positions. If it is full, a new position replaces the one that was used longest ago. But
 /// an old entry lives on if it has more lives left than the new one: it has one for each move that its bounds decide,
-/// and loses one each time. If the next entry lives on too, the new one is not stored. One-move results are never
-/// stored in a full memo.
+/// and loses one each time. If the next entry lives on too, the new one is not stored. A full memo stores no one-move
+/// result of a new position.
 #[derive(Drop)]
 pub struct LruMemo<B: Board> {
     cache: LruCache<Position<B>, Fact>,
@@ -117,8 +117,8 @@ fn has_place<B: Board>(
     gives_way(cache, depth)
 }
 
-/// Returns whether a full cache gives up its oldest entry for bounds of this depth. At most two old entries live on
-/// before.
+/// Returns whether a full cache gives up its oldest entry for bounds of this depth: not for one move, and not if two
+/// old entries in turn live on.
 fn gives_way<B: Board>(cache: &mut LruCache<Position<B>, Fact>, depth: u8) -> bool
     requires { IsRecent cache.old.entries cache.old.cap }
     ensures recent { IsRecent cache.new.entries cache.new.cap }
