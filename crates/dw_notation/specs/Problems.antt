@@ -38,7 +38,7 @@ pub record AreProblems (g : Geometry) (form : Form) (over : Bool) (bytes : List 
   pub said : TextSays g form over bytes found
   pub numbers : problems ≡ number_from 0 found
 
--- each text has exactly one list of problems, be it over or not
+-- each text has exactly one list of problems, whether or not more bytes may come
 pub record TextsHaveProblems : Type 0 where
   pub some : (g : Geometry) (form : Form) (over : Bool) (bytes : List ℕ) → (problems : List Numbered)
       × AreProblems g form over bytes problems

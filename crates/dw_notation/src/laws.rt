@@ -4,7 +4,7 @@ ghost use Rattle.dw_notation.specs.TagLaws.{TextsOfTagsSay, OneTagAtFront};
 ghost use Rattle.dw_notation.specs.TextLaws.{MovesHaveTexts, EndsTell, LinesHaveTexts};
 ghost use Rattle.dw_notation.specs.MoveReadingLaws.{NamesOneThing, HasOneAnswer, WrittenMoveIsNamed, WrittenMoveIsRead};
 
-/// Each text has exactly one list of problems, be it over or not.
+/// Each text has exactly one list of problems, whether or not more bytes may come.
 pub fn texts_have_problems()
     ensures { TextsHaveProblems }
 {

@@ -40,8 +40,8 @@ tag_from state s (byte ∷ bytes) =
 abbrev pub begun : Section
 begun = record bare { read = 1 }
 
--- after i bytes of a tag, from its bracket on, the automaton is in this state, and has read so long a name and this
--- value
+-- after i bytes of a tag, from its bracket on, the automaton is in this state, and has read a name of this length and
+-- this value
 pub record ReadsTag (inside : List ℕ) (i : ℕ) (state : State) (named : ℕ) (value : List ℕ) : Type 0 where
   pub section : Section
   pub is_named : length section.name ≡ named
