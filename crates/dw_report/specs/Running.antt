@@ -32,7 +32,7 @@ abbrev pub IsNoLine : Geometry → Placement → ℕ → Option (List Move) → 
 IsNoLine g p n None = ⊥
 IsNoLine g p n (Some l) = Line g p n l → ⊥
 
--- the problem is refused; or its lines are to be listed after a line, and this is no line of it
+-- the problem is refused, or its lines are to be listed after moves that are no line of it
 abbrev pub IsRefused : Geometry → Request → Found → Type 0
 IsRefused g request (Ok p) = (request.command ≡ asked.List) × IsNoLine g p request.moves request.after
 IsRefused g request (Err fault) = Unit {0}
@@ -138,8 +138,8 @@ pub record StopsAhead (P : (read text out : List ℕ) → Type 0) (bytes : List 
   pub wrote : Appends taken after out
   pub front : ((more : List ℕ) → P read (read ++ more) out) ⊎ ((ended ≡ true) × P read read out)
 
--- how a run ends, if the source tells its bytes: with the whole report; or stopped, or by a failed read or write, with
--- a right part of it
+-- the output of a run, if the source tells its bytes: the whole report; or after a stop, a failed read or a failed
+-- write a beginning of it
 abbrev pub RunEnds : Geometry → Request → Option (List ℕ) → Option (List ℕ) → Bool → Option (List ℕ)
     → Option (List ℕ) → Result Summary RunFault → Type 0
 RunEnds g request None left ended taken after result = Unit {0}
@@ -158,7 +158,7 @@ MayStop asked.Moves limit why expanded = (why ≡ Memory) × (expanded ≡ 0)
 MayStop searches limit Limit expanded = expanded ≡ limit
 MayStop searches limit Memory expanded = expanded ≤ limit
 
--- if a run was stopped, it may be stopped so
+-- a run is stopped only as its command and its limit allow
 abbrev pub StopsRightly : Command → ℕ → Result Summary RunFault → Type 0
 StopsRightly command limit result =
     (why : Stop) (expanded : ℕ) → result ≡ Err (ends.Stopped why expanded) → MayStop command limit why expanded
