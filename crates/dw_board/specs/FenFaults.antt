@@ -30,8 +30,8 @@ pub data ListNext (g : Geometry) : (before : List Token) → Option Side → Pla
       → ListNext g before None p → IsList g (texts ws) side is → Sets g p (all_named side is) q
       → is_sign colon c.text ≡ true → ListNext g (before ++ ws ++ c ∷ []) (Some side) q
 
--- these tokens end with a list of this colour and with these items, after which these pieces stand; a second list has
--- not the colour of the first
+-- these tokens end with a list of this colour and these items, after which these pieces stand; a second list differs in
+-- colour from the first
 pub data ListRead (g : Geometry) : List Token → Side → List Placing → Placement → Type 0 where
   listed : {before : List Token} (ws : List Token) {earlier : Option Side} {side : Side} {is : List Placing}
       {p q : Placement} → ListNext g before earlier p → IsList g (texts ws) side is → earlier ≢ Some side
@@ -44,8 +44,8 @@ pub data ItemNext (g : Geometry) : (before after : List Token) → Side → Plac
   behind_comma : {before after : List Token} (c : Token) {side : Side} {i : Placing} {is : List Placing} {p : Placement}
       → ListRead g before side (i ∷ is) p → is_sign comma c.text ≡ true → ItemNext g (before ++ c ∷ []) after side p
 
--- a number must follow, for men or kings: the first one of an item, after K for kings; or after a dash the last one,
--- and then the first one is given
+-- a number of men or kings must follow: the first one of an item, after K for kings; or after a dash the last one, and
+-- the first one is given
 pub data NumberNext (g : Geometry) : (before after : List Token) → Option ℕ → Bool → Side → Placement → Type 0 where
   of_men : {before after : List Token} {side : Side} {p : Placement} → ItemNext g before after side p
       → first_is is_king_letter after ≡ false → NumberNext g before after None false side p
