@@ -49,12 +49,12 @@ pub data Stage : Type 0 where
   AfterStop : Placement → Stage
   AfterLists : Placement → Stage
 
--- the first square could be set, and then the others
+-- the result for the other squares, unless the first one could not be set
 abbrev pub then_set : Option PutFault → ℕ → Result Placement FenFault → Result Placement FenFault
 then_set None place others = others
 then_set (Some why) place others = fault (put_kind why) place
 
--- a number of squares from one on are set, one by one
+-- a number of squares, from one on, get this piece one by one, up to the first fault
 abbrev pub set_squares : Geometry → Piece → ℕ → ℕ → ℕ → Placement → Result Placement FenFault
 set_squares g piece place from zero p = Ok p
 set_squares g piece place from (suc more) p =
@@ -69,12 +69,12 @@ with_item g list item to =
     set_squares g (piece_of list item) item.place item.from (to + 1 - item.from) list.placed >>= λ p.
     Ok (record list { placed = p })
 
--- the stage after a token that may be absent
+-- the stage after a token, or this fault if the token does not name anything
 abbrev pub if_named : {A : Type 0} → Option A → FenFaultKind → ℕ → (A → Result Stage FenFault) → Result Stage FenFault
 if_named None what place next = fault what place
 if_named (Some x) what place next = next x
 
--- a second list has the other colour
+-- the stage after the colour of a list; a second list has the other colour
 abbrev pub list_begun : Option Side → Placement → ℕ → Side → Result Stage FenFault
 list_begun None p place side = Ok (AfterColour (record { side = side; is_second = false; placed = p }))
 list_begun (Some first) p place side =
@@ -142,6 +142,6 @@ read_from g end stage (t ∷ tokens) = next_stage g stage t >>= λ next. read_fr
 unfoldable pub short_fen : Geometry → List ℕ → Result Placement FenFault
 short_fen g text = read_from g (length text + 1) Start (tokens_from 1 text)
 
--- the position that a text names, or its earliest fault; too long comes before anything else
+-- the position that a text names, or its earliest fault; a text that is too long has that fault before any other
 abbrev pub fen : Geometry → List ℕ → Result Placement FenFault
 fen g text = if nat_lt 1024 (length text) then fault TooLong 1025 else short_fen g text

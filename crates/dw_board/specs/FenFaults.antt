@@ -21,7 +21,8 @@ put_kind put.Taken = Twice
 put_kind put.LastRow = LastRow
 put_kind put.TooMany = TooMany
 
--- after these tokens a list must follow: the first, or a second one after the first, whose colour is given
+-- a list must follow these tokens, which set these pieces: the first list, or a second one after a first of the given
+-- colour
 pub data ListNext (g : Geometry) : (before : List Token) → Option Side → Placement → Type 0 where
   first : {turn c : Token} {mover : Side} → side_named turn.text ≡ Some mover → is_sign colon c.text ≡ true
       → ListNext g (turn ∷ c ∷ []) None (empty mover)
@@ -29,7 +30,8 @@ pub data ListNext (g : Geometry) : (before : List Token) → Option Side → Pla
       → ListNext g before None p → IsList g (texts ws) side is → Sets g p (all_named side is) q
       → is_sign colon c.text ≡ true → ListNext g (before ++ ws ++ c ∷ []) (Some side) q
 
--- tokens up to the end of a list, a second one not of the first's colour: its colour and items, and the pieces then
+-- these tokens end with a list of this colour and these items, after which these pieces stand; a second list differs in
+-- colour from the first
 pub data ListRead (g : Geometry) : List Token → Side → List Placing → Placement → Type 0 where
   listed : {before : List Token} (ws : List Token) {earlier : Option Side} {side : Side} {is : List Placing}
       {p q : Placement} → ListNext g before earlier p → IsList g (texts ws) side is → earlier ≢ Some side
@@ -42,8 +44,8 @@ pub data ItemNext (g : Geometry) : (before after : List Token) → Side → Plac
   behind_comma : {before after : List Token} (c : Token) {side : Side} {i : Placing} {is : List Placing} {p : Placement}
       → ListRead g before side (i ∷ is) p → is_sign comma c.text ≡ true → ItemNext g (before ++ c ∷ []) after side p
 
--- a number of an item, of men or kings, must follow: its first one, after K if there is one; or after a dash its last
--- one, after the first, which is given
+-- a number of men or kings must follow: the first one of an item, after K for kings; or after a dash the last one, and
+-- the first one is given
 pub data NumberNext (g : Geometry) : (before after : List Token) → Option ℕ → Bool → Side → Placement → Type 0 where
   of_men : {before after : List Token} {side : Side} {p : Placement} → ItemNext g before after side p
       → first_is is_king_letter after ≡ false → NumberNext g before after None false side p
@@ -54,14 +56,15 @@ pub data NumberNext (g : Geometry) : (before after : List Token) → Option ℕ 
       → NumberNext g before (v ∷ d ∷ after) None kings side p → number_named g v.text ≡ Some m
       → is_sign dash d.text ≡ true → NumberNext g (before ++ v ∷ d ∷ []) after (Some m) kings side p
 
--- all numbers of an item follow, and then the rest: after a single number no dash, which would continue it
+-- after the tokens before come all numbers of an item, and then the rest; after a single number the rest begins with no
+-- dash, which would continue the item
 pub data RangeNext (g : Geometry) : (before ts rest : List Token) → Placing → Side → Placement → Type 0 where
   whole : {before ts rest : List Token} {m n : ℕ} {kings : Bool} {side : Side} {p : Placement}
       → NumberNext g before (ts ++ rest) None kings side p → IsRange g (texts ts) m n
       → (length ts ≡ 1 → first_is (is_sign dash) rest ≡ false)
       → RangeNext g before ts rest (record { is_king = kings; from = m; to = n }) side p
 
--- after the tokens before, the first of those after is at fault, or the text's end if there is none
+-- after the tokens before, the first token of those after is at fault, or the text's end if there is none
 pub data FaultAt (g : Geometry) : (before after : List Token) → FenFaultKind → Type 0 where
   no_turn : {after : List Token} → first_named side_named after ≡ None → FaultAt g [] after Turn
   no_colon : {turn : Token} {after : List Token} {mover : Side} → side_named turn.text ≡ Some mover
@@ -87,7 +90,8 @@ pub data FaultAt (g : Geometry) : (before after : List Token) → FenFaultKind �
       → ListRead g before side is p → is_sign full_stop stop.text ≡ true → is_empty after ≡ false
       → FaultAt g (before ++ stop ∷ []) after Rest
 
--- the earliest fault of a text, with the place of the first of those after; too long comes before anything else
+-- the earliest fault of a text, at the first of the tokens after; a text that is too long has that fault before any
+-- other
 pub data IsFirstFault (g : Geometry) : List ℕ → FenFault → Type 0 where
   too_long : {text : List ℕ} → 1024 < length text → IsFirstFault g text (record { what = TooLong; place = 1025 })
   fault_at : {text : List ℕ} (before after : List Token) {what : FenFaultKind} → length text ≤ 1024

@@ -64,7 +64,8 @@ named side i = map (λ s. (s, record { side = side; kind = if i.is_king then Kin
 abbrev pub all_named : Side → List Placing → List (ℕ × Piece)
 all_named side is = flat_map (named side) is
 
--- each piece in turn finds its square empty, is no man on its last row, and is not one too many
+-- p becomes q by putting each piece on its square in turn; the square is empty and not a man's last row, and no side
+-- gets too many pieces
 abbrev pub Sets : Geometry → Placement → List (ℕ × Piece) → Placement → Type 0
 Sets g p [] q = p ≡ q
 Sets g p (first ∷ others) q = (put_fault g p first.0 first.1 ≡ None) × Sets g (placed p first.0 (Some first.1)) others q

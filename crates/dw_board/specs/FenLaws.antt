@@ -11,40 +11,40 @@ use Rattle.dw_board.specs.FenText.{written}
 use Rattle.dw_board.specs.declared.piece.Side.{Side}
 use Rattle.dw_board.specs.declared.fen.fault.FenFault.{FenFault}
 
--- a text is read as a position exactly if the grammar gives it that position
+-- reading a text gives a position exactly if the grammar gives it that position
 abbrev pub ReadingIsGrammar : Type 0
 ReadingIsGrammar = (g : Geometry) (text : List ℕ) (p : Placement) → (fen g text ≡ Ok p) ↔ Fen g text p
 
--- a text is read as having a fault exactly if this is its earliest one by the grammar
+-- reading a text gives a fault exactly if this is its earliest one by the grammar
 abbrev pub FaultIsGrammar : Type 0
 FaultIsGrammar =
     (g : Geometry) (text : List ℕ) (fault : FenFault) → (fen g text ≡ Err fault) ↔ IsFirstFault g text fault
 
--- the written text of a position is in the grammar, with that position
+-- the text written for a position names that position in the grammar
 abbrev pub WrittenIsFen : Type 0
 WrittenIsFen = (g : Geometry) → IsBoard g → (p : Placement) → IsPosition g p.cells → Fen g (written g p) p
 
--- so a written text is read again
+-- reading the text written for a position gives that position again
 abbrev pub WrittenIsRead : Type 0
 WrittenIsRead = (g : Geometry) → IsBoard g → (p : Placement) → IsPosition g p.cells → fen g (written g p) ≡ Ok p
 
--- a text is in the grammar with at most one position
+-- a text names at most one position
 abbrev pub NamesOne : Type 0
 NamesOne = (g : Geometry) (text : List ℕ) (p q : Placement) → Fen g text p → Fen g text q → p ≡ q
 
--- a text that names a position has no fault
+-- this text names a position and has no fault
 pub record IsFen (g : Geometry) (text : List ℕ) : Type 0 where
   pub position : Placement
   pub names : Fen g text position
   pub no_fault : (fault : FenFault) → IsFirstFault g text fault → ⊥
 
--- a text that has a fault names no position
+-- this text has a fault and names no position
 pub record IsFaulty (g : Geometry) (text : List ℕ) : Type 0 where
   pub fault : FenFault
   pub first : IsFirstFault g text fault
   pub names_none : (p : Placement) → Fen g text p → ⊥
 
--- exactly one of a position and a fault holds of a text
+-- a text either names a position or has an earliest fault, never both
 abbrev pub EitherFenOrFaulty : Type 0
 EitherFenOrFaulty = (g : Geometry) (text : List ℕ) → IsFen g text ⊎ IsFaulty g text
 
@@ -52,7 +52,7 @@ EitherFenOrFaulty = (g : Geometry) (text : List ℕ) → IsFen g text ⊎ IsFaul
 abbrev pub LeadNowhere : Geometry → List Token → Type 0
 LeadNowhere g tokens = (more : List (List ℕ)) (p : Placement) → Names g (texts tokens ++ more) p → ⊥
 
--- after a colon, a comma, a dash or K something can be missing
+-- a colon, a comma, a dash or K, after which something may be missing
 abbrev pub asks_more : List ℕ → Bool
 asks_more w = is_sign colon w || (is_sign comma w || (is_sign dash w || is_king_letter w))
 
@@ -62,8 +62,8 @@ pub data EndsTooSoon : List Token → Type 0 where
   turn_alone : (turn : Token) (side : Side) → side_named turn.text ≡ Some side → EndsTooSoon (turn ∷ [])
   open_end : (before : List Token) (last : Token) → asks_more last.text ≡ true → EndsTooSoon (before ++ last ∷ [])
 
--- where a fault of these tokens stands: at their end, if they end too soon; or at a token, or at the first number of a
--- range, if the tokens up to and with that one or that range lead nowhere
+-- a fault stands at the end of these tokens, if they end too soon; or at a token or the first number of a range, if the
+-- tokens up to and with that token or range lead nowhere
 pub data StandsAt : Geometry → List Token → (end place : ℕ) → Type 0 where
   at_text_end : {g : Geometry} {tokens : List Token} {end : ℕ} → EndsTooSoon tokens → StandsAt g tokens end end
   at_token : {g : Geometry} {end : ℕ} (before : List Token) (t : Token) (rest : List Token)
@@ -72,7 +72,7 @@ pub data StandsAt : Geometry → List Token → (end place : ℕ) → Type 0 whe
       → IsRange g (from.text ∷ dash.text ∷ to.text ∷ []) m n → LeadNowhere g (before ++ from ∷ dash ∷ to ∷ [])
       → StandsAt g (before ++ from ∷ dash ∷ to ∷ rest) end from.place
 
--- with its earliest fault a text of at most 1,024 bytes ends too soon or leads nowhere
+-- at its earliest fault a text of at most 1,024 bytes ends too soon or leads nowhere
 abbrev pub NoneGoesOn : Type 0
 NoneGoesOn = (g : Geometry) (text : List ℕ) (fault : FenFault) → length text ≤ 1024 → IsFirstFault g text fault
     → StandsAt g (tokens_from 1 text) (length text + 1) fault.place

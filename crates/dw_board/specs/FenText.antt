@@ -17,7 +17,7 @@ abbrev pub king_mark : Option Piece → List ℕ
 king_mark None = []
 king_mark (Some piece) = if is_man piece.kind then [] else codes "K"
 
--- a piece is written as its square's number
+-- a piece is written as its square's number, a king with K before it
 abbrev pub item_text : Placement → ℕ → List ℕ
 item_text p s = king_mark (at p s) ++ decimal s
 

@@ -85,7 +85,7 @@ side_named text =
 abbrev pub is_king_letter : List ℕ → Bool
 is_king_letter text = is_sign 75 text || is_sign 107 text
 
--- a number, if the board has a square of it
+-- the number of a square, if it is a number and the board has such a square
 abbrev pub square_numbered : Geometry → Bool → ℕ → Option ℕ
 square_numbered g is_number n = if is_number && (nat_le 1 n && nat_le n (squares g)) then Some n else None
 

@@ -22,6 +22,6 @@ abbrev pub PlacesDiffer : Type 0
 PlacesDiffer = (g : Geometry) → IsBoard g → (s t : ℕ) → OnBoard g s → OnBoard g t → row g s ≡ row g t
     → column g s ≡ column g t → s ≡ t
 
--- on padded words a shift is a step
+-- a step leads from one square to another exactly if it shifts the bit of the one to that of the other
 abbrev pub ShiftsStep : Type 0
 ShiftsStep = (g : Geometry) → IsBoard g → ShiftsAreSteps g

@@ -1,4 +1,4 @@
--- What stands in a list.
+-- Membership in lists.
 use Rattle.std.specs.Prelude.{◌≡◌, ◌⊎◌, List, [], ◌∷◌}
 
 -- x stands in a list

@@ -1,4 +1,4 @@
--- What stands on a board, as three sets: white's pieces, black's pieces and all kings.
+-- The pieces on a board, as three sets: white's pieces, black's pieces and all kings.
 use Rattle.std.specs.Prelude.{◌≡◌, List, Option}
 use Rattle.std.specs.FinSet as set
 use Rattle.dw_board.specs.declared.piece.Side.{Side}
@@ -10,14 +10,14 @@ use Rattle.dw_board.specs.Geometry.{Geometry, Squares}
 use Rattle.dw_board.specs.Placement.{IsPosition}
 use Rattle.dw_board.specs.PieceSets.{standing, cells_of}
 
--- the squares of a side and a kind, where these are white's, black's and those of all kings
+-- the squares of a side's pieces of a kind, from the squares of white's pieces, of black's pieces and of all kings
 abbrev pub parted : Squares → Squares → Squares → Side → Kind → Squares
 parted white black kings White Man = set.difference white kings
 parted white black kings White King = set.intersection white kings
 parted white black kings Black Man = set.difference black kings
 parted white black kings Black King = set.intersection black kings
 
--- the fifty cells that they tell of
+-- the fifty cells of these white and black pieces and kings
 abbrev pub packed_cells : Squares → Squares → Squares → List (Option Piece)
 packed_cells white black kings = cells_of (parted white black kings)
 

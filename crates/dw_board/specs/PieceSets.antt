@@ -1,4 +1,4 @@
--- The squares on which each side's men stand and its kings, as four sets.
+-- The squares of each side's men and kings, as four sets.
 use Rattle.std.proofs.Common.{◌≡◌, ℕ, suc, zero, Bool, true, false, cond, ◌&&◌, List, Option, Some, None, get_or, map}
 use Rattle.std.specs.FinSet as set
 use Rattle.std.specs.List.{range_with_len}
@@ -34,7 +34,7 @@ standing_below cells side k (suc n) =
 unfoldable pub standing : List (Option Piece) → Side → Kind → Squares
 standing cells side kind = standing_below cells side kind 50
 
--- of a position's sets that of a side and a kind
+-- the set of a side and a kind among a position's four sets
 abbrev pub set_of : {B : Type 0} → Held B → Side → Kind → Squares
 set_of h White Man = h.white_men
 set_of h White King = h.white_kings
@@ -49,7 +49,7 @@ held_at sets s =
     (cond (set.contains (sets White King) s) (Some (record { side = White; kind = King }))
     (cond (set.contains (sets Black King) s) (Some (record { side = Black; kind = King })) None)))
 
--- the fifty cells that the sets tell of
+-- the fifty cells of pieces on these sets of squares
 unfoldable pub cells_of : (Side → Kind → Squares) → List (Option Piece)
 cells_of sets = map (held_at sets) (range_with_len 1 50)
 

@@ -33,7 +33,7 @@ word_below g v (suc n) = bit_or (cond (set.contains v (suc n)) (2 ^ bit g (suc n
 unfoldable pub word_of : Geometry → Squares → ℕ
 word_of g v = word_below g v (squares g)
 
--- no bit is set but those of squares
+-- each bit that is set belongs to a square
 abbrev pub OnlySquares : Geometry → ℕ → Type 0
 OnlySquares g w = (x : ℕ) → bit_at w x ≡ 1 → is_some (square_at g x) ≡ true
 

@@ -15,11 +15,11 @@ use crate::square::Square;
 use crate::squares::Squares;
 use arrayvec::ArrayString;
 
-/// The bytes that suffice for each diagram.
+/// Enough bytes for the diagram of any position.
 pub const DIAGRAM_ROOM: usize = 130;
 
-/// Returns the diagram of a position: a line for each row from the top, with a blank for a light square, a point for an
-/// empty dark one, `w` and `b` for men, `W` and `B` for kings.
+/// Returns the diagram of a position: a line for each row from the top, between two bars `|`. A light square is a
+/// blank, an empty dark one a point, a man `w` or `b`, a king `W` or `B`.
 pub fn diagram<B: Board>(position: &Position<B>) -> ArrayString<DIAGRAM_ROOM>
     ensures { result.bytes ≡ diagram_text B.geometry position.now }
 {
@@ -68,7 +68,7 @@ struct Signs<B: Board> {
 }
 
 impl<B: Board> Signs<B> {
-    /// Returns the sets of a position.
+    /// Returns the sets of the occupied squares, of White's pieces and of all kings of a position.
     fn of(position: &Position<B>) -> Self
         ensures { AreSigns B.geometry position.now result.occupied result.white result.kings }
     {

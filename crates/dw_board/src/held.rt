@@ -37,7 +37,7 @@ impl<B: Board> Held<B> {
         }
     }
 
-    /// Returns where the pieces stand, if white's, black's and all kings stand on these squares.
+    /// Returns the sets of a board with white's pieces, black's pieces and all kings on these squares.
     #[inline]
     pub(crate) fn parted(white: Squares<B>, black: Squares<B>, kings: Squares<B>) -> Self
         ensures { (side : Side) (kind : Kind) → set_of result side kind ≡ parted white black kings side kind }
@@ -80,7 +80,7 @@ impl<B: Board> Held<B> {
         self.all_of(Side::White).or(self.all_of(Side::Black))
     }
 
-    /// Returns the piece on a square.
+    /// Returns the piece on a square, or `None` if it is empty.
     #[inline]
     pub(crate) fn at(&self, square: Square<B>) -> Option<Piece>
         ensures { result ≡ held_at (set_of self.now) square }
@@ -100,7 +100,7 @@ impl<B: Board> Held<B> {
         Some(Piece { side, kind })
     }
 
-    /// Returns whether each set is the same.
+    /// Returns whether all four sets are equal.
     #[inline]
     pub(crate) fn is_same(&self, other: &Self) -> bool
         ensures { result ≡ same_sets self.now other.now }
@@ -111,7 +111,7 @@ impl<B: Board> Held<B> {
             && self.black_kings == other.black_kings
     }
 
-    /// Returns the same, and the piece on the square.
+    /// Returns the sets with the piece added on the square.
     #[inline]
     pub(crate) fn with(self, square: Square<B>, piece: Piece) -> Self
         ensures { (side : Side) (kind : Kind)
@@ -127,7 +127,7 @@ impl<B: Board> Held<B> {
         held
     }
 
-    /// Returns the same, and nothing on the square. It leaves each set without asking which one it is in.
+    /// Returns the sets without the square. It is removed from all four, without a test which one has it.
     #[inline]
     pub(crate) fn without(self, square: Square<B>) -> Self
         ensures { (side : Side) (kind : Kind) → set_of result side kind ≡ set.remove (set_of self side kind) square }
@@ -140,7 +140,7 @@ impl<B: Board> Held<B> {
         }
     }
 
-    /// Returns the same, and nothing on these squares.
+    /// Returns the sets without these squares.
     #[inline]
     pub(crate) fn minus(self, squares: Squares<B>) -> Self
         ensures { (side : Side) (kind : Kind)

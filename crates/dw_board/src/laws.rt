@@ -19,7 +19,7 @@ pub fn places_differ()
     ensures { PlacesDiffer }
 {}
 
-/// On padded words a shift is a step, and a step off the board falls on no square.
+/// A step from a square leads to another exactly if it shifts the bit of the one to the bit of the other.
 pub fn shifts_step()
     ensures { ShiftsStep }
 {}
@@ -38,31 +38,31 @@ pub fn same_squares<B: Board>(one: Squares<B>, other: Squares<B>) -> bool
     one == other
 }
 
-/// A text is read as a position exactly if the grammar of FEN texts gives it that position, and as having a fault
-/// exactly if this is its earliest one by the grammar.
+/// Reading a text gives a position exactly if the grammar of FEN texts gives it. It gives a fault exactly if this is
+/// the text's earliest one by the grammar.
 pub fn reading_is_grammar()
     ensures position { ReadingIsGrammar }
     ensures fault { FaultIsGrammar }
 {}
 
-/// The written text of a position is in the grammar with that position, and so it is read again.
+/// The text written for a position names that position in the grammar, and so reading it gives the position again.
 pub fn written_is_read()
     ensures fen { WrittenIsFen }
     ensures read { WrittenIsRead }
 {}
 
-/// A text is in the grammar with at most one position.
+/// A text names at most one position.
 pub fn names_one()
     ensures { NamesOne }
 {}
 
-/// Exactly one of a position and an earliest fault holds of a text.
+/// A text either names a position or has an earliest fault, never both.
 pub fn either_fen_or_faulty()
     ensures { EitherFenOrFaulty }
 {}
 
-/// At its earliest fault a text ends too soon, or no text goes on with its tokens up to and with that fault. Cut off
-/// before it, the text has no fault but at its end.
+/// At its earliest fault a text of at most `MAX_FEN` bytes ends too soon, or its tokens up to and with the fault begin
+/// no FEN text. Cut off before that fault, the text has no fault except at its end.
 pub fn none_goes_on()
     ensures behind { NoneGoesOn }
     ensures before { NoneBefore }

@@ -1,4 +1,4 @@
-//! What stands on a board, in less memory than a position takes.
+//! The pieces on a board, in less memory than a position takes.
 ghost use Rattle.std.specs.Prelude.{◌≡◌, ◌↔◌, IsTrue, ⊤};
 
 use crate::board::Board;
@@ -6,8 +6,8 @@ use crate::squares::Squares;
 use std::alloc::AllocError;
 use std::marker::Model;
 
-/// What stands on each square of a board, and not whose turn it is: three sets of squares, 24 bytes. A large table
-/// keeps positions so. `Position::pack` makes one, and `Position::unpack` makes a position of it.
+/// The pieces on a board, without the side to move: three sets of squares, 24 bytes. Large tables store positions in
+/// this form. `Position::pack` makes one, and `Position::unpack` turns it back into a position.
 #[derive(Copy)]
 pub struct Packed<B: Board> {
     pub(crate) white: Squares<B>,
@@ -53,7 +53,7 @@ impl<B: Board> Clone for Packed<B> {
 }
 
 impl<B: Board> Packed<B> {
-    /// Returns whether the same stands on each square.
+    /// Returns whether both have the same pieces on the same squares.
     #[inline]
     pub fn is_same(&self, other: &Self) -> bool
         ensures { IsTrue result ↔ (self.now ≡ other.now) }

@@ -27,7 +27,7 @@ use std::cmp::Ordering;
 use std::hash::{Hash, Hasher};
 use std::marker::Model;
 
-// What `mixed_word` multiplies by: odd numbers, whose bits are mixed.
+// The factors of `mixed_word`: odd numbers with mixed bits.
 const TURN_FACTOR: u64 = 0xE703_7ED1_A0B4_28DB;
 
 const WHITE_MEN_FACTOR: u64 = 0x9E37_79B9_7F4A_7C15;
@@ -38,9 +38,9 @@ const BLACK_MEN_FACTOR: u64 = 0xC2B2_AE3D_27D4_EB4F;
 
 const BLACK_KINGS_FACTOR: u64 = 0xA076_1D64_78BD_642F;
 
-/// Pieces on a board, and the side to move. A side has no more pieces than it may, and no man on its last row.
+/// Pieces on a board, and the side to move. Each side has at most `Board::SIDE` pieces, and no man on its last row.
 ///
-/// It keeps where each side's men and kings stand, as sets of squares, and nothing else.
+/// It stores four sets of squares, one for each side and kind of piece, and the side to move.
 #[derive(Clone, Copy)]
 pub struct Position<B: Board> {
     held: Held<B>,
@@ -83,7 +83,7 @@ impl<B: Board> Model for Position<B> {
 }
 
 impl<B: Board> Position<B> {
-    /// Returns the board without a piece.
+    /// Returns the empty board with this side to move.
     #[inline]
     pub fn empty(turn: Side) -> Self
         ensures { result ≡ of.empty turn }
@@ -95,7 +95,7 @@ impl<B: Board> Position<B> {
     }
 
     /// Puts a piece on an empty square. It is refused, and nothing changes, for the first of these reasons: the square
-    /// is taken, it is a man's last row, the side has all its pieces.
+    /// is taken, it is a man's last row, the side already has `Board::SIDE` pieces.
     pub fn put(&mut self, square: Square<B>, piece: Piece) -> Result<(), PutFault>
         ensures fault { result_err result ≡ put_fault B.geometry self.old square piece }
         ensures after { self.new ≡ (if is_ok result then placed self.old square (Some piece) else self.old) }
@@ -113,7 +113,7 @@ impl<B: Board> Position<B> {
         Ok(())
     }
 
-    /// Empties a square, and returns the piece that stood there.
+    /// Empties a square, and returns the piece that stood there, if any.
     #[inline]
     pub fn clear(&mut self, square: Square<B>) -> Option<Piece>
         ensures stood { result ≡ of.at self.old square }
@@ -124,8 +124,8 @@ impl<B: Board> Position<B> {
         stood
     }
 
-    /// Returns the position after a piece has moved and the given squares were emptied. A man that reaches its last row
-    /// becomes a king. A piece on the target square is replaced.
+    /// Returns the position after the piece on `from` has gone to `to` and the squares `taken` were emptied. A man that
+    /// reaches its last row becomes a king. A piece on `to` is replaced, and the side to move stays the same.
     #[inline]
     pub fn carried(&self, from: Square<B>, to: Square<B>, taken: Squares<B>) -> Self
         ensures { result ≡ of.carried B.geometry self.now from to taken }
@@ -143,7 +143,7 @@ impl<B: Board> Position<B> {
         }
     }
 
-    /// Returns the pieces on the board in compact form.
+    /// Returns the pieces on the board in compact form, without the side to move.
     #[inline]
     pub fn pack(&self) -> Packed<B>
         ensures { result ≡ self.now.cells }
@@ -158,7 +158,7 @@ impl<B: Board> Position<B> {
         }
     }
 
-    /// Returns the position in which this stands on the board, and this side is to move.
+    /// Returns the position with these pieces on the board and this side to move.
     #[inline]
     pub fn unpack(packed: &Packed<B>, turn: Side) -> Self
         ensures { result ≡ record { cells = packed.now; turn = turn } }
@@ -167,8 +167,8 @@ impl<B: Board> Position<B> {
         Position { held, turn }
     }
 
-    /// Returns a number of the side to move and of where the pieces of each side and kind stand, for hashes: each word
-    /// times a factor of its own.
+    /// Returns a word for hashes, mixed from the side to move and the four sets of pieces. It is their sum modulo 2^64,
+    /// each word times its own factor.
     #[inline]
     pub fn mixed_word(&self) -> u64
         ensures { result ≡ mixed_word B.geometry self.now }
@@ -186,7 +186,7 @@ impl<B: Board> Position<B> {
         mixed(others, black_kings, BLACK_KINGS_FACTOR)
     }
 
-    /// Returns the piece on a square.
+    /// Returns the piece on a square, or `None` if it is empty.
     #[inline]
     pub fn at(&self, square: Square<B>) -> Option<Piece>
         ensures value { result ≡ of.at self.now square }
@@ -205,7 +205,7 @@ impl<B: Board> Position<B> {
         self.turn
     }
 
-    /// States that a side has no more pieces than it may, and no man on its last row. A law, which does nothing.
+    /// States that each side has at most `Board::SIDE` pieces and no man on its last row. A law, which does nothing.
     #[inline]
     pub fn keeps_its_rules(&self)
         ensures { IsPosition B.geometry self.now.cells }
@@ -221,7 +221,7 @@ impl<B: Board> Position<B> {
         self.turn = side;
     }
 
-    /// Returns the number of a side's pieces, at most 20.
+    /// Returns the number of a side's pieces, at most `Board::SIDE`.
     #[inline]
     pub fn count(&self, side: Side) -> u8
         ensures value { result ≡ of.count self.now side }
@@ -276,7 +276,7 @@ fn on_last_row<B: Board>(square: Square<B>, side: Side) -> bool
     }
 }
 
-/// Returns the piece as it ends a move on this square.
+/// Returns the piece after a move that ends on this square: a man on its last row becomes a king.
 #[inline]
 fn crowned<B: Board>(to: Square<B>, piece: Piece) -> Piece
     ensures { result ≡ of.crowned B.geometry to piece }
@@ -292,7 +292,7 @@ fn crowned<B: Board>(to: Square<B>, piece: Piece) -> Piece
     }
 }
 
-/// Returns a number for the content of a square.
+/// Returns the number of a square's content, from 0 to 4.
 fn cell_code(cell: Option<Piece>) -> u8
     ensures { result ≡ of.cell_code cell }
 {
@@ -326,7 +326,7 @@ fn mixed(number: u64, word: u64, factor: u64) -> u64
     number.wrapping_add(word.wrapping_mul(factor))
 }
 
-/// Returns the content of the square at an index, and `None` past the board.
+/// Returns the piece on the square at an index, or `None` if it is empty or past the board.
 fn cell_behind<B: Board>(position: &Position<B>, index: u8) -> Option<Piece>
     requires { index < 50 }
     ensures { result ≡ slice_index_or position.now.cells index None }

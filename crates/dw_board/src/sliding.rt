@@ -4,8 +4,8 @@ ghost use Rattle.dw_board.specs.inner.Sliding as inner;
 
 use crate::board::{Board, Dir};
 
-/// Returns the word of the squares that are reached from those of a word, if only free squares are stepped on: they
-/// themselves, and those up to 15 steps on. No board has longer diagonals.
+/// Returns the word of the squares that those of `word` reach by 0 to 15 steps over free squares only. No board has
+/// longer diagonals.
 #[inline]
 pub(crate) fn slid_word<B: Board>(word: u64, free: u64, direction: Dir) -> u64
     ensures { result ≡ inner.slid_word B.geometry direction word free }
@@ -19,7 +19,8 @@ pub(crate) fn slid_word<B: Board>(word: u64, free: u64, direction: Dir) -> u64
     further(down, 8 * by, seven, eight_clear)
 }
 
-/// Returns the same up to 7 steps on, in three doublings.
+/// Returns the word of the squares that those of `word` reach by 0 to 7 steps over free squares only, in three
+/// doublings.
 #[inline]
 pub(crate) fn near_word<B: Board>(word: u64, free: u64, direction: Dir) -> u64
     ensures { result ≡ inner.near_word B.geometry direction word free }
@@ -45,7 +46,8 @@ fn stride<B: Board>(direction: Dir) -> u8
     }
 }
 
-/// Returns the squares reached by a number of further steps, if the squares on the way are free.
+/// Returns the squares reached and those one shift by `by` bits further, if all squares on the way are free, as `clear`
+/// tells.
 #[inline]
 fn further(down: bool, by: u8, reached: u64, clear: u64) -> u64
     requires { by < 64 }
@@ -54,7 +56,7 @@ fn further(down: bool, by: u8, reached: u64, clear: u64) -> u64
     reached | (clear & moved_word(down, by, reached))
 }
 
-/// Returns the squares that are free together with twice as many squares before them.
+/// Returns the squares that end a free run of twice the length, if those of `clear` end one as long as `by` bits.
 #[inline]
 fn clearer(down: bool, by: u8, clear: u64) -> u64
     requires { by < 64 }
@@ -63,7 +65,7 @@ fn clearer(down: bool, by: u8, clear: u64) -> u64
     clear & moved_word(down, by, clear)
 }
 
-/// Returns the word shifted by a number of bits.
+/// Returns the word shifted by less than 64 bits, to the left if `down` and else to the right.
 #[inline]
 fn moved_word(down: bool, by: u8, word: u64) -> u64
     requires { by < 64 }

@@ -150,7 +150,7 @@ impl<B: Board> Squares<B> {
         self.word.count_ones() as u8
     }
 
-    /// Returns the least square, or `None` in the empty set.
+    /// Returns the square of the lowest number, or `None` in the empty set.
     #[inline]
     pub fn first(self) -> Option<Square<B>>
         ensures none { IsNone result ↔ (self ≡ set.empty) }
@@ -162,7 +162,7 @@ impl<B: Board> Squares<B> {
         Some(square)
     }
 
-    /// Returns the least square and the others, or `None` in the empty set.
+    /// Returns the square of the lowest number and the others, or `None` in the empty set.
     #[inline]
     pub fn split(self) -> Option<(Square<B>, Self)>
         ensures none { IsNone result ↔ (self ≡ set.empty) }
@@ -194,7 +194,7 @@ impl<B: Board> Squares<B> {
         self.word
     }
 
-    /// Returns the squares that a step leads to from these.
+    /// Returns the squares one step from these in a direction. Steps past the edge are dropped.
     #[inline]
     pub fn shifted(self, direction: Dir) -> Self
         ensures { (t : ℕ) → IsTrue (set.contains result t)
@@ -206,7 +206,8 @@ impl<B: Board> Squares<B> {
         }
     }
 
-    /// Returns these squares and those that they slide to by any number of steps, none of them onto a barred square.
+    /// Returns these squares, and those that they reach by any number of steps in a direction, none of them onto a
+    /// barred square.
     #[inline]
     pub fn slid(self, barred: Self, direction: Dir) -> Self
         ensures { (t : ℕ) → IsTrue (set.contains result t)
@@ -218,7 +219,8 @@ impl<B: Board> Squares<B> {
         }
     }
 
-    /// Returns the same for at most seven steps. Farther away there is no room to jump over a piece.
+    /// Returns these squares, and those that they reach by at most seven steps, none of them onto a barred square.
+    /// Farther along no diagonal leaves room to jump over a piece.
     #[inline]
     pub fn slid_near(self, barred: Self, direction: Dir) -> Self
         ensures reached { (t : ℕ) → IsTrue (set.contains result t)
@@ -232,7 +234,7 @@ impl<B: Board> Squares<B> {
     }
 }
 
-/// Returns the word, each bit moved by as much as a step moves a square's bit.
+/// Returns the word with each bit moved as a step moves the bit of a square.
 #[inline]
 fn shifted_word<B: Board>(word: u64, direction: Dir) -> u64
     ensures { result ≡ shifted_word B.geometry direction word }
@@ -255,7 +257,7 @@ impl<B: Board> Default for Squares<B> {
     }
 }
 
-/// The padded word, in base 16.
+/// The padded word, in hexadecimal.
 impl<B: Board> fmt::Debug for Squares<B> {
     fn fmt<W: fmt::Write>(&self, f: &mut fmt::Formatter<W>) -> fmt::Result {
         write!(f, "{:#x}", self.word)

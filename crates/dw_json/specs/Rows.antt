@@ -8,7 +8,7 @@ use Rattle.json.specs.Tree.{json_tokens}
 abbrev pub Member : Type 0
 Member = List ℕ × Json
 
--- a number of its decimal digits
+-- a number as JSON, by its decimal digits
 abbrev pub count : ℕ → Json
 count n = number (decimal n)
 
@@ -34,7 +34,7 @@ pairs all = array (items_of (map (λ pair. texts (pair.0 ∷ pair.1 ∷ [])) all
 abbrev pub objects : List (List Member) → Json
 objects all = array (items_of (map (λ members. object (members_of members)) all))
 
--- the members of objects, one for each of some things
+-- the members of one object for each of these things, in their order
 abbrev pub AreObjects : {X : Type 0} → (One : X → List Member → Type 0) → List X → List (List Member) → Type 0
 AreObjects One [] each = each ≡ []
 AreObjects One (x ∷ xs) each =

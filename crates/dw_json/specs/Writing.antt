@@ -5,7 +5,7 @@ use Rattle.json.specs.Tree.{json_tokens}
 use Rattle.json.specs.Written.{Written}
 use Rattle.dw_json.specs.Rows.{Member}
 
--- tokens are written after everything else
+-- more tokens were written after the old ones
 pub record Writes (more : List Token) (old new : Written) : Type 0 where
   pub before : new.before ≡ old.before
   pub tokens : new.tokens ≡ old.tokens ++ more
@@ -15,7 +15,7 @@ abbrev pub member_tokens : List Member → List Token
 member_tokens [] = []
 member_tokens (one ∷ members) = Token.key one.0 ∷ (json_tokens one.1 ++ member_tokens members)
 
--- members are written after everything else
+-- these members were written after the old tokens
 abbrev pub WritesMembers : List Member → Written → Written → Type 0
 WritesMembers members old new = Writes (member_tokens members) old new
 

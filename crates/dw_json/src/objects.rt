@@ -17,14 +17,14 @@ pub trait PutObject<T> {
     /// The members for a value.
     ghost says: { Self → T → List Member → Type 0 };
 
-    /// Writes the members for a value.
+    /// Writes the members for a value, which must meet the condition `asks`.
     fn put(&self, row: &mut Writer, item: &T) -> Result<(), AllocError>
         requires { asks self.now item.now }
         ensures { OnOk result ((members : List Member) × says self.now item.now members
             × WritesMembers members row.old row.new) };
 }
 
-/// Writes a member with an array of objects, one for each of `all`.
+/// Writes a member with an array of objects, one for each of `all`. Each of these must meet the condition `asks`.
 pub fn put_objects<T, P: PutObject<T>>(
     row: &mut Writer,
     name: &str,

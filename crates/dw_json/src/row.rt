@@ -19,7 +19,7 @@ pub fn begin_row(alloc: Global) -> Result<Writer, AllocError>
     Ok(row)
 }
 
-/// Ends a row, and gives its line.
+/// Ends a row, and returns its line, with a line feed at the end.
 pub fn end_row(mut row: Writer) -> Result<String, AllocError>
     ensures { (members : List Member) → IsBegun members row → IfOk result (λ line. string_bytes line ≡ row_of members) }
 {

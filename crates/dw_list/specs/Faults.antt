@@ -1,4 +1,4 @@
--- What a lister's refusal to go on after a list of moves says.
+-- Why a lister refuses to go on after a list of moves.
 use Rattle.std.specs.Prelude.{ℕ, List, Result, Ok, Err}
 use Rattle.dw_board.specs.Geometry.{Geometry}
 use Rattle.dw_board.specs.Placement.{Placement}
@@ -12,7 +12,7 @@ abbrev pub IsRefusal : Geometry → Placement → ℕ → List Move → AfterFau
 IsRefusal g p n l (NotALine place) = IsPlace g p n l place
 IsRefusal g p n l (Stopped stop) = Unit {0}
 
--- how many expansions are cut off: none if it is known whether the list is a line
+-- the number of expansions that may be cut off: none if it is known whether the list is a line
 abbrev pub cut_after : {A : Type 0} → Result A AfterFault → ℕ → ℕ
 cut_after (Ok answer) n = 0
 cut_after (Err (NotALine place)) n = 0

@@ -1,4 +1,4 @@
--- What a call for the next line leaves.
+-- The effect of a call for the next line.
 use Rattle.std.specs.Prelude.{◌≡◌, ℕ, List, reverse, Result, Option, MatchResult, MatchOption}
 use Rattle.std.specs.Borrow.{Bor}
 use Rattle.dw_board.specs.Geometry.{Geometry}

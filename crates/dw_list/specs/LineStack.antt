@@ -1,4 +1,4 @@
--- A lister's stack, and the lines that are still to come of it.
+-- A lister's stack, and its lines that are still to come.
 use Rattle.std.specs.Prelude.{◌≡◌, ℕ, ◌⊎◌, Bool, Option, Some, None, List, [], ◌∷◌}
 use Rattle.dw_board.specs.Geometry.{Geometry}
 use Rattle.dw_board.specs.Placement.{Placement}
@@ -23,33 +23,34 @@ pub record LineStack : Type 0 where
   pub line : List Move
   pub levels : List Level
 
--- it goes on with one of these moves
+-- a list of moves begins with one of these moves
 abbrev pub BeginsAmong : List Move → List Move → Type 0
 BeginsAmong moves [] = ⊥
 BeginsAmong moves (m ∷ l) = Member m moves
 
--- a list of moves goes on with one of these, or in any way if they are not listed yet
+-- a list of moves begins with one of these, or is any list if they are not listed yet
 abbrev pub IsAhead : Option (List Move) → List Move → Type 0
 IsAhead None l = Unit {0}
 IsAhead (Some moves) l = BeginsAmong moves l
 
--- at a level whose move was played, it goes on with a move ahead, or with that move and then in one of these ways
+-- at a level whose move m was played, a list of moves begins with a move ahead, or with m and then goes on in one of
+-- these ways
 abbrev pub IsBehind : Option (List Move) → Move → (List Move → Type 0) → List Move → Type 0
 IsBehind ahead m Ways l = IsAhead ahead l ⊎ ((rest : List Move) × (l ≡ m ∷ rest) × Ways rest)
 
--- it goes on in one of these ways at the last level, or with the rest of one of the levels before it
+-- a list of moves goes on in one of these ways at the last level, or is in the rest of one of the levels before it
 abbrev pub Remains : List Level → List Move → (List Move → Type 0) → List Move → Type 0
 Remains [] [] Ways l = Ways l
 Remains (f ∷ outer) (m ∷ line) Ways l = Remains outer line (IsBehind f.ahead m Ways) l
 Remains [] (m ∷ line) Ways l = ⊥
 Remains (f ∷ outer) [] Ways l = ⊥
 
--- it is still ahead of a stack
+-- a list of moves is still ahead of a stack
 abbrev pub IsStillAhead : List Level → List Move → List Move → Type 0
 IsStillAhead [] line l = ⊥
 IsStillAhead (f ∷ outer) line l = Remains outer line (IsAhead f.ahead) l
 
--- the lines still to come
+-- these are the lines of a stack that are still to come, in ascending order
 abbrev pub AreToCome : Geometry → LineStack → List (List Move) → Type 0
 AreToCome g s lines =
     IsListOf (Before g s.position) (λ l. Line g s.position s.moves l × IsStillAhead s.levels s.line l) lines

@@ -1,4 +1,4 @@
--- What a lister shows its caller.
+-- A lister, as its caller sees it.
 use Rattle.std.specs.Prelude.{◌≡◌, ℕ, ◌≤◌, max, List, [], ◌∷◌}
 use Rattle.std.specs.Borrow.{GName}
 use Rattle.dw_solve.specs.Solving.{Solving}
@@ -13,7 +13,7 @@ lender lister = lister.solver.ghost_name
 abbrev pub solver_of : {B M G : Type 0} → Lister B M G → Solving M
 solver_of lister = lister.solver.now
 
--- how far the lister has come
+-- the stack at which the lister stands
 abbrev pub stack_of : {B M G : Type 0} → Lister B M G → LineStack
 stack_of lister = lister.stack
 
@@ -22,8 +22,8 @@ abbrev pub last_of : ℕ → List ℕ → ℕ
 last_of first [] = first
 last_of first (next ∷ more) = last_of next more
 
--- After turns under these limits the last one stays, raised to 1 and to the expansions by then; without a turn the
--- limit is the same.
+-- After turns under these limits the last limit stays, raised to 1 and to the number of positions expanded by then.
+-- Without a turn the limit is the same.
 abbrev pub LimitIsLast : {M : Type 0} → List ℕ → Solving M → Solving M → Type 0
 LimitIsLast [] old new = new.limit ≡ old.limit
 LimitIsLast (first ∷ limits) old new =

@@ -5,7 +5,7 @@ use Rattle.dw_board.specs.Placement.{Placement}
 use Rattle.dw_moves.specs.Moves.{Move}
 use Rattle.dw_solve.specs.Lines.{Line}
 
--- of some lines, those after a given one
+-- among these lines, `rest` are those after the line l
 abbrev pub After : List (List Move) → List Move → List (List Move) → Type 0
 After lines l rest = (earlier : List (List Move)) × (lines ≡ earlier ++ l ∷ rest)
 
@@ -13,7 +13,8 @@ After lines l rest = (earlier : List (List Move)) × (lines ≡ earlier ++ l ∷
 abbrev pub Begins : Geometry → Placement → ℕ → List Move → Type 0
 Begins g p n l = (rest : List Move) × Line g p n (l ++ rest)
 
--- the place of a list that is no line: of the move that it lacks, or of the first with which no line begins any more
+-- the place of a list that is no line: that of the move it lacks, if lines begin with all its moves, and else that of
+-- the first move with which no line begins any more
 pub data IsPlace (g : Geometry) (p : Placement) (n : ℕ) (l : List Move) : ℕ → Type 0 where
   lacks : (Line g p n l → ⊥) → (l ≡ []) ⊎ Begins g p n l → IsPlace g p n l (length l + 1)
   leaves : {place : ℕ} → 1 ≤ place → (Begins g p n (take place l) → ⊥)

@@ -1,4 +1,4 @@
--- What a walk over a stack does.
+-- The effect of a walk over a stack.
 use Rattle.std.specs.Prelude.{◌≡◌, ◌↔◌, List, [], ◌∷◌, ◌++◌, reverse}
 use Rattle.dw_board.specs.Geometry.{Geometry}
 use Rattle.dw_moves.specs.Moves.{Move}
@@ -12,7 +12,7 @@ pub record Gives (g : Geometry) (old new : LineStack) (given : List (List Move))
       (rest : List (List Move)) × (lines ≡ given ++ rest)
   pub rest : (rest : List (List Move)) → AreToCome g old (given ++ rest) ↔ AreToCome g new rest
 
--- the lines still to come stay
+-- the same lines are still to come
 abbrev pub SameToCome : Geometry → LineStack → LineStack → Type 0
 SameToCome g old new = Gives g old new []
 

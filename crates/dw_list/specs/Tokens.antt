@@ -36,7 +36,7 @@ abbrev pub AreMoves : Geometry → List Move → List ℕ → Type 0
 AreMoves g [] bytes = bytes ≡ []
 AreMoves g (m ∷ line) bytes = IsMove g m (take 10 bytes) × AreMoves g line (drop 10 bytes)
 
--- the number of moves, odd and at most 39, and the moves
+-- the bytes of a line: its number of moves, odd and at most 39, and its moves
 pub record IsCounted (g : Geometry) (line : List Move) (bytes : List ℕ) : Type 0 where
   pub moves : List ℕ
   pub is : bytes ≡ length line ∷ moves
@@ -111,11 +111,11 @@ unfoldable pub moves_fault : Geometry → ℕ → List ℕ → Option TokenFault
 moves_fault g zero bytes = None
 moves_fault g (suc n) bytes = first_of (move_fault g (take 10 bytes)) (moves_fault g n (drop 10 bytes))
 
--- this number of bytes is an odd number n of moves, at most 39
+-- this number of bytes holds n moves, and n is odd and at most 39
 abbrev pub are_moves : ℕ → ℕ → Bool
 are_moves n bytes = (n % 2 == 1 && nat_le n 39) && bytes == 10 * n
 
--- the first fault of a number of moves and moves
+-- the first fault of a byte with the number of moves, and of the moves after it
 unfoldable pub counted_fault : Geometry → List ℕ → Option TokenFault
 counted_fault g [] = Some Length
 counted_fault g (n ∷ moves) = if are_moves n (length moves) then moves_fault g n moves else Some Length

@@ -17,8 +17,8 @@ use dw_moves::{Listed, Move};
 use dw_solve::{Guide, Solver, Stop};
 use std::alloc::{AllocError, Global};
 
-/// Returns all lines in which the side to move wins within `moves` moves, 1 to 20, in ascending order and each once.
-/// After a stop all bounds in the memo are right, and the call can be repeated.
+/// Returns all lines in which the side to move wins within `moves` moves, which must be at most 20, in ascending order
+/// and each once. After a stop all bounds in the memo are right, and the call can be repeated.
 pub fn all_lines<B: Board, M: Memo<B>, G: Guide<B>>(
     alloc: Global,
     solver: &mut Solver<B, M, G>,
@@ -66,7 +66,8 @@ fn ways<B: Board, M: Memo<B>, G: Guide<B>>(
     Ok(lists)
 }
 
-/// Returns the ways that go on with no move: one if the line ends, that is if the defender has no move.
+/// Returns the continuations without a move: the empty list alone if the defender is to move and has no move, and else
+/// none.
 fn ends<B: Board>(
     alloc: Global,
     attacks: bool,
@@ -84,7 +85,7 @@ fn ends<B: Board>(
     Ok(lists)
 }
 
-/// Adds the continuations after one move, with `left` moves left for the attacker.
+/// Adds the continuations through one legal move, with `left` moves left for the attacker after it.
 #[cycle(ways)]
 fn push_ways<B: Board, M: Memo<B>, G: Guide<B>>(
     alloc: Global,
@@ -126,7 +127,7 @@ fn push_each<B: Board>(
     Ok(())
 }
 
-/// Returns a move, and others after it.
+/// Returns the list of a move and the moves after it.
 fn joined<B: Board>(
     alloc: Global,
     mv: &Move<B>,

@@ -37,7 +37,7 @@ impl<B: Board> Model for Frame<B> {
 }
 
 impl<B: Board> Frame<B> {
-    /// Returns a position whose moves are not listed.
+    /// Returns a frame at a position whose moves are not listed.
     pub(crate) fn new(position: Position<B>, attacks: bool, left: u8) -> Self
         ensures { result ≡ begun position attacks left }
     {
@@ -77,7 +77,7 @@ impl<B: Board> Frame<B> {
         self.attacks
     }
 
-    /// Returns how many moves the attacker has left.
+    /// Returns the number of moves that the attacker has left.
     pub(crate) fn left(&self) -> u8
         ensures { result ≡ self.now.left }
     {

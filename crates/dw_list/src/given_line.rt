@@ -12,7 +12,7 @@ use dw_moves::{Move, same_move};
 use dw_solve::{Guide, Solver, Stop};
 use std::alloc::Global;
 
-/// What a list of moves is.
+/// The result of a walk along a list of moves.
 #[derive(Drop)]
 pub(crate) enum GivenLine<B: Board> {
     /// A line, and the stack of the lines after it.
@@ -21,7 +21,8 @@ pub(crate) enum GivenLine<B: Board> {
     Place(usize),
 }
 
-/// Goes along a list of moves, level by level.
+/// Follows a list of moves from a position, level by level, and returns whether it is a line. `moves` must be from 1 to
+/// 20.
 pub(crate) fn walk_along<B: Board, M: Memo<B>, G: Guide<B>>(
     alloc: Global,
     solver: &mut Solver<B, M, G>,
@@ -57,7 +58,8 @@ pub(crate) fn walk_along<B: Board, M: Memo<B>, G: Guide<B>>(
     }
 }
 
-/// Goes on with a move, if lines do so.
+/// Goes on with a move if lines go on with it, and returns whether they do. The moves of the last level must not be
+/// listed yet.
 fn descend<B: Board, M: Memo<B>, G: Guide<B>>(
     alloc: Global,
     solver: &mut Solver<B, M, G>,
@@ -91,7 +93,7 @@ fn descend<B: Board, M: Memo<B>, G: Guide<B>>(
     Ok(kept)
 }
 
-/// Passes the moves ahead at the last level up to the given one.
+/// Passes the moves ahead at the last level up to the given one, and returns that one, or `None` if it is not ahead.
 fn seek<B: Board>(stack: &mut Stack<B>, mv: &Move<B>) -> Option<Candidate<B>>
     ensures passed { SomePassed stack.old stack.new }
     ensures found { IfSome result (λ candidate.

@@ -26,8 +26,8 @@ pub fn line_or_place()
     dw_solve::laws::wins_are_decided();
 }
 
-/// Lines that a lister gives in one call and then in another are given one after another; a call that gives none leaves
-/// those still to come.
+/// Lines that a lister gives in two turns come one after another. A turn that gives none leaves the lines still to
+/// come.
 pub fn given_in_turn()
     ensures { GivenInTurn }
 {}

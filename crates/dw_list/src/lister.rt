@@ -38,8 +38,8 @@ impl<'a, B: Board, M: Memo<B>, G: Guide<B>> Lister<'a, B, M, G> {
     ghost use Rattle.dw_list.specs.contracts.lister.Lister.{the_row};
     ghost use Rattle.dw_list.specs.Lending.{LendsNext};
 
-    /// Returns a lister of all lines in which the side to move wins within `moves` moves, 1 to 20. It does not search
-    /// yet, and takes no memory.
+    /// Returns a lister of all lines in which the side to move wins within `moves` moves, which must be from 1 to 20.
+    /// It does not search yet, and allocates nothing.
     pub fn start(
         solver: &'a mut Solver<B, M, G>,
         position: &Position<B>,
@@ -88,8 +88,8 @@ impl<'a, B: Board, M: Memo<B>, G: Guide<B>> Lister<'a, B, M, G> {
         }
     }
 
-    /// Returns the next line, borrowed from the lister, or `None` if none is left. After a stop the lines still to come
-    /// are the same, and the call can be repeated.
+    /// Returns the next line, of at most 39 moves and borrowed from the lister, or `None` if none is left. After a stop
+    /// the lines still to come are the same, and the call can be repeated.
     pub fn next(&mut self, alloc: Global) -> Result<Option<&[Move<B>]>, Stop>
         ensures few { IfOk result (λ given. IfSome given (λ line. length line.now ≤ 39)) }
         ensures* after { sem 𝓛 (follows_so
@@ -105,14 +105,14 @@ impl<'a, B: Board, M: Memo<B>, G: Guide<B>> Lister<'a, B, M, G> {
         }
     }
 
-    /// Returns how many positions the solver has expanded so far.
+    /// Returns the number of positions that the solver has expanded so far.
     pub fn expanded(&self) -> u64
         ensures { result ≡ (solver_of self.now).expanded }
     {
         self.solver.expanded()
     }
 
-    /// Returns how many entries the solver's memo has lost so far.
+    /// Returns the number of entries that the solver's memo has lost so far.
     pub fn dropped(&self) -> u64
         ensures { result ≡ M.dropped (solver_of self.now).memo }
     {
@@ -128,7 +128,7 @@ impl<'a, B: Board, M: Memo<B>, G: Guide<B>> Lister<'a, B, M, G> {
         solver
     }
 
-    /// Changes the solver's limit. It becomes at least 1, and at least the number of expanded positions.
+    /// Sets the solver's limit, which must be at least 1, and at least the number of positions expanded so far.
     pub fn set_limit(&mut self, limit: u64)
         requires some { 1 ≤ limit }
         requires enough { (solver_of self.old).expanded ≤ limit }

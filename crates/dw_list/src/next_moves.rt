@@ -1,4 +1,4 @@
-//! With which moves lines go on.
+//! The moves with which lines go on.
 ghost use Rattle.std.specs.Prelude.{◌≡◌, ◌≤◌, ◌↔◌, IfOk, IsTrue};
 ghost use Rattle.dw_list.specs.inner.Ways.{Keeps, left_after};
 ghost use Rattle.dw_solve.specs.Questions.{Asked};
@@ -9,7 +9,7 @@ use dw_solve::{Guide, Solver, Stop};
 use std::alloc::Global;
 
 /// Returns whether lines go on with a legal move that leads to this position: with each of the defender's, and with
-/// each of the attacker's that keeps a win within the moves that he has left.
+/// each of the attacker's that keeps a win within the `left` moves that he has left, which must be at most 20.
 pub(crate) fn keeps<B: Board, M: Memo<B>, G: Guide<B>>(
     alloc: Global,
     solver: &mut Solver<B, M, G>,
@@ -28,7 +28,7 @@ pub(crate) fn keeps<B: Board, M: Memo<B>, G: Guide<B>>(
     solver.loses(alloc, after, left)
 }
 
-/// Returns how many moves the attacker has left after a move.
+/// Returns the number of moves that the attacker has left after a move of his or of the defender.
 pub(crate) fn left_behind(attacks: bool, moves: u8) -> u8
     ensures { result ≡ left_after attacks moves }
 {

@@ -13,14 +13,14 @@ use dw_notation::MAX_MOVES;
 use dw_solve::Guide;
 use std::alloc::Global;
 
-/// What a lister gave under a list of limits.
+/// The lines that a lister gave under a list of limits, and how its other turns ended.
 #[derive(Drop)]
 pub struct Portions<B: Board> {
     /// The lines, in order.
     pub lines: Vec<ArrayVec<Move<B>, MAX_MOVES>>,
-    /// How often the search was stopped, or there was no memory for one more line.
+    /// The number of turns in which the search was stopped, or there was no memory for one more line.
     pub stops: usize,
-    /// How often no line was still to come.
+    /// The number of turns in which no line was still to come.
     pub ends: usize,
 }
 
@@ -50,7 +50,7 @@ pub fn in_portions<B: Board, M: Memo<B>, G: Guide<B>>(
     portions
 }
 
-/// Asks for the next line once.
+/// Asks for the next line once, under one limit.
 fn take_turn<B: Board, M: Memo<B>, G: Guide<B>>(
     alloc: Global,
     lister: &mut Lister<'_, B, M, G>,
@@ -81,7 +81,7 @@ fn take_turn<B: Board, M: Memo<B>, G: Guide<B>>(
     }
 }
 
-/// Returns a line in an array of its own.
+/// Returns a line, which must have at most 39 moves, in an array of its own.
 fn copied<B: Board>(line: &[Move<B>]) -> ArrayVec<Move<B>, MAX_MOVES>
     requires { length line.now ≤ 39 }
     ensures { result.items ≡ line.now }

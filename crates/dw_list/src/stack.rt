@@ -28,7 +28,7 @@ pub(crate) struct Candidate<B: Board> {
     pub(crate) left: u8,
 }
 
-/// What is to be done with a stack.
+/// The next thing to do with a stack.
 #[derive(Drop)]
 pub(crate) enum Task<B: Board> {
     /// Nothing: all was passed.
@@ -82,7 +82,7 @@ impl<B: Board> Stack<B> {
     ghost use Rattle.dw_list.specs.inner.Steps.{begun, passed_last};
     ghost use Rattle.dw_list.specs.inner.Tasks.{IsTask, IsCandidate, IsListed};
 
-    /// Returns the stack of all lines of a position within `moves` moves.
+    /// Returns the stack of all lines of a position within `moves` moves, which must be from 1 to 20.
     pub(crate) fn new(position: &Position<B>, moves: u8) -> Self
         requires some { 1 ≤ moves }
         requires few { moves ≤ 20 }
@@ -138,7 +138,7 @@ impl<B: Board> Stack<B> {
         self.line.as_slice()
     }
 
-    /// Returns the next step.
+    /// Returns the next thing to do.
     pub(crate) fn task(&self) -> Task<B>
         ensures { IsTask B.geometry self.now.levels result }
     {
@@ -156,7 +156,8 @@ impl<B: Board> Stack<B> {
         }
     }
 
-    /// Lists the moves of the last level, and answers whether the line ends there: the defender has none.
+    /// Lists the moves of the last level, of which there must be one. Returns whether the line ends there, because the
+    /// defender has no move.
     pub(crate) fn list(&mut self, alloc: Global) -> Result<bool, AllocError>
         requires { 0 < length self.old.levels }
         ensures listed { IfOk result (λ is_end. IsListed B.geometry self.old self.new is_end) }
@@ -180,7 +181,8 @@ impl<B: Board> Stack<B> {
         }
     }
 
-    /// Goes on with the first move ahead at the last level.
+    /// Goes on with a move, which must be the first one ahead at the last level, and keep a win if it is the
+    /// attacker's.
     pub(crate) fn enter(&mut self, candidate: &Candidate<B>)
         requires first { IsCandidate B.geometry self.old.levels candidate.now }
         requires keeps { Keeps B.geometry candidate.now.attacks candidate.now.after candidate.now.left }

@@ -48,8 +48,8 @@ pub enum TokenFault {
     Board,
 }
 
-/// Writes the token of a line of at most 39 moves, an odd number of them, on a board of 10 or 8 rows: version 2, in
-/// lower case.
+/// Writes the token of a line, in version 2 and in lower case. The line must have an odd number of moves, at most 39,
+/// and the board 10 or 8 rows. The sink must not have failed before.
 ///
 /// # Errors
 ///
@@ -74,7 +74,7 @@ pub fn write_token<B: Board, K: Sink>(line: &[Move<B>], sink: &mut K) -> Result<
     write_all(sink, digits)
 }
 
-/// Returns the bytes of a line.
+/// Returns the bytes of a line, which must have at most 39 moves, in version 2.
 fn bytes_of<B: Board>(line: &[Move<B>]) -> ArrayVec<u8, MAX_BYTES>
     requires { length line.now ≤ 39 }
     ensures { result.items ≡ tokens.line_bytes B.geometry line.now }
@@ -103,7 +103,7 @@ fn push_move<B: Board>(bytes: &mut ArrayVec<u8, MAX_BYTES>, mv: &Move<B>)
     }
 }
 
-/// Returns the square at an index from 0.
+/// Returns the square at an index from 0, which must be below the number of squares.
 fn square_behind<B: Board>(index: u8) -> Square<B>
     requires { index < squares B.geometry }
     ensures { result ≡ index + 1 }
@@ -127,7 +127,7 @@ fn number_of<B: Board>(taken: Squares<B>) -> u64
     number
 }
 
-/// Reads a token, of either version: exactly the texts that are tokens on this board, and else the first fault.
+/// Reads the line of a token of either version, or returns the first fault of a text that is no token on this board.
 ///
 /// # Errors
 ///
@@ -206,7 +206,7 @@ fn names_board<B: Board>(rows: u8) -> bool
     (rows == 10 || rows == 8) && rows == B::ROWS
 }
 
-/// Returns whether this number of bytes is an odd number of moves, at most 39.
+/// Returns whether this number of bytes holds `count` moves, and this is an odd number of at most 39.
 fn are_moves(count: usize, bytes: usize) -> bool
     requires { count < 256 }
     ensures { result ≡ tokens.are_moves count bytes }
@@ -214,7 +214,7 @@ fn are_moves(count: usize, bytes: usize) -> bool
     count % 2 == 1 && count <= MAX_MOVES && bytes == MOVE_BYTES * count
 }
 
-/// Reads `count` moves.
+/// Reads `count` moves from as many times ten bytes. The number must be odd and at most 39.
 fn read_moves<B: Board>(
     count: usize,
     bytes: &[u8],

@@ -11,7 +11,7 @@ use dw_memo::Memo;
 use dw_solve::{Guide, Solver, Stop};
 use std::alloc::Global;
 
-/// What one step of a walk met.
+/// The result of one step of a walk.
 #[derive(Clone, Copy)]
 pub(crate) enum Step {
     /// The end: no line is still to come.

@@ -1,4 +1,4 @@
--- What bounds say of a number of moves.
+-- The answers of bounds for a number of moves.
 use Rattle.std.specs.Prelude.{ℕ, Bool, true, false, cond, ◌||◌, nat_le, min, max, Option, Some, None}
 use Rattle.dw_memo.specs.declared.bounds.Bounds.{Bounds}
 

@@ -1,4 +1,4 @@
--- What a memo holds: a finite map from positions to bounds, as a list of entries.
+-- The content of a memo: a finite map from positions to bounds, as a list of entries.
 use Rattle.std.specs.Prelude.{◌≡◌, ◌↔◌, ◌⊎◌, List, [], map, Option, Some, None}
 use Rattle.dw_board.specs.Lists.{Member, NoRepeat}
 use Rattle.dw_board.specs.Placement.{Placement}
@@ -19,7 +19,7 @@ Content = List Entry
 abbrev pub positions : Content → List Placement
 positions c = map (λ e. e.position) c
 
--- a position stands once
+-- each position has at most one entry
 abbrev pub IsMap : Content → Type 0
 IsMap c = NoRepeat (positions c)
 

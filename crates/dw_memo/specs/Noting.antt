@@ -1,4 +1,4 @@
--- What a note does to a memo, which may lose entries.
+-- The effect of a note on a memo, which may lose entries.
 use Rattle.std.specs.Prelude.{◌≡◌, ◌≢◌, ℕ, ◌+◌, ◌-◌, ◌^◌, ◌⊎◌, min, List, length}
 use Rattle.dw_board.specs.Placement.{Placement}
 use Rattle.dw_memo.specs.declared.bounds.Bounds.{Bounds}
@@ -18,8 +18,8 @@ pub record AreMissing (old : Content) (p : Placement) (b : Bounds) (new : Conten
   pub given : Member (entry p b) new ⊎ Member (entry p b) missing
   pub others : (e : Entry) → Member e old → (e.position ≡ p) ⊎ (Member e new ⊎ Member e missing)
 
--- Bounds were given for a position. The new content has no other entry than it should, the given one if the answer
--- is that it was kept, and the count grew by the entries that are missing, up to the greatest 64-bit number.
+-- A note of bounds for a position. The new content has only entries that it should have, and the new one if the answer
+-- is `Kept`. The count grew by the number of missing entries, up to the greatest 64-bit number.
 pub record IsNote (old : Content) (p : Placement) (b : Bounds) (answer : Noted) (new : Content)
     (before after : ℕ) : Type 0 where
   pub map_before : IsMap old

@@ -8,7 +8,7 @@ use Rattle.dw_memo.specs.Content.{entry, Content, IsMap}
 abbrev pub content_of : List (Placement × Fact) → Content
 content_of pairs = map (λ e. entry e.0 e.1.bounds) pairs
 
--- a position stands once, and there are no more pairs than there is room for
+-- each position stands once, and there are no more pairs than there is room for
 pub record IsRecent (pairs : List (Placement × Fact)) (room : ℕ) : Type 0 where
   pub map : IsMap (content_of pairs)
   pub fits : length pairs ≤ room

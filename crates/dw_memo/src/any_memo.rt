@@ -10,7 +10,7 @@ use crate::no_memo::NoMemo;
 use crate::slot_memo::SlotMemo;
 use dw_board::{Board, Position};
 
-/// One of the four kinds. What is built over it is compiled once, and not once for each kind.
+/// One of the four kinds of memo. Generic code over it is compiled once, and not once for each kind.
 #[derive(Drop)]
 pub enum AnyMemo<B: Board> {
     None(NoMemo),

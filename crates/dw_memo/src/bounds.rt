@@ -3,7 +3,8 @@ ghost use Rattle.std.specs.Prelude.{◌≡◌, is_some};
 ghost use Rattle.dw_memo.specs.Bounding as of;
 ghost use Rattle.dw_memo.specs.inner.Pairs.{depth};
 
-/// In how many moves of its own the side to move can't force a win, and in how many it can. `None` says nothing.
+/// Known facts of a position: a number of moves in which the side to move cannot force a win, and one in which it can.
+/// Only its own moves count. `None` says nothing.
 #[derive(Clone, Copy, Debug, Default, PartialEq, Eq)]
 pub struct Bounds {
     /// There is no win in this number of moves or fewer.

@@ -8,11 +8,11 @@ use crate::bounds::Bounds;
 use crate::memo::Noted;
 use dw_board::{Board, Position};
 
-/// What became of bounds that came to a bucket.
+/// The effect of bounds that came to a bucket.
 #[derive(Clone, Copy)]
 pub(crate) struct Entered {
     pub(crate) noted: Noted,
-    /// How many entries were lost by it, the given one too.
+    /// The number of entries lost by it, the new one too.
     pub(crate) lost: u64,
     /// Whether it counts in `is_crowded`.
     pub(crate) counts: bool,
@@ -35,7 +35,7 @@ pub(crate) trait Bucket<B: Board>: Copy {
     fn look(&self, position: &Position<B>) -> Option<Bounds>
         ensures { IsFound (entries self.now) position.now result };
 
-    /// Puts the bounds of a position there, in place of those that it had.
+    /// Stores the bounds of a position in place of its earlier ones, and returns the effect.
     fn enter(&mut self, position: &Position<B>, bounds: Bounds) -> Entered
         requires { IsMap (entries self.old) }
         ensures answer { may_answer result.noted }

@@ -9,9 +9,10 @@ use dw_board::{Board, Position};
 use std::alloc::{AllocError, Global};
 use std::marker::Model;
 
-/// A table of pairs of places. A new position takes a free place of its pair. If both are taken, it replaces the one
-/// with shallower bounds, because bounds on more moves took longer to find. A one-move result never replaces a deeper
-/// one, and is not stored then. Old entries beside newer ones lose value.
+/// A table of pairs of places. A new position takes a free place of its pair. If both are taken, it replaces the one of
+/// less value: the moves that its bounds decide, less one for each sixteen of age. An entry ages when a result of two
+/// moves or more comes in beside it. A one-move result does not replace an entry worth two moves or more, and is then
+/// not stored.
 ///
 /// A large table starts small, as a [`SlotMemo`](crate::slot_memo::SlotMemo) does. When told to forget, a table that
 /// has grown becomes empty and small again, because results of other problems would be in the way.
@@ -29,8 +30,8 @@ impl<B: Board> Model for DeepMemo<B> {
 }
 
 impl<B: Board> DeepMemo<B> {
-    /// Returns an empty memo of 1 to 4,000,000 places, rounded up to an even number, or an error if out of memory. It
-    /// takes no memory later.
+    /// Returns an empty memo of `places` places, rounded up to an even number, or an error if out of memory. `places`
+    /// must be from 1 to 4,000,000. No later call allocates.
     pub fn new(alloc: Global, places: usize) -> Result<Self, AllocError>
         requires some { 1 ≤ places }
         requires most { places ≤ 4_000_000 }

@@ -1,4 +1,4 @@
-//! What a table keeps of a position.
+//! Facts: the bounds of a position with their age.
 ghost use Rattle.std.specs.Prelude.{◌≡◌, ◌+◌, ◌-◌, min};
 ghost use Rattle.dw_memo.specs.inner.Pairs.{depth};
 ghost use Rattle.std.specs.Option.{option_map};
@@ -9,8 +9,8 @@ use crate::bounds::Bounds;
 /// The age that reduces the value of a fact by one move.
 const AGE_OF_A_MOVE: u8 = 16;
 
-/// What is known of a position, and how old it is, up to 255: how many facts of two moves or more came into the other
-/// place of its pair since, or how often a memo let it live on.
+/// The bounds of a position, and their age, at most 255. In a pair, the age counts the facts of two moves or more that
+/// came into the other place since. In an `LruMemo` it counts how often the entry lived on.
 #[derive(Clone, Copy)]
 pub(crate) struct Fact {
     pub(crate) bounds: Bounds,
@@ -26,7 +26,7 @@ impl Fact {
         Fact { bounds, age: 0 }
     }
 
-    /// Returns the fact when it is older by one.
+    /// Returns the fact one step older.
     #[inline]
     pub(crate) fn older(self) -> Self
         ensures { result ≡ record self { age = min (self.age + 1) 255 } }

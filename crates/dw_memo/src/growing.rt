@@ -1,4 +1,4 @@
-//! How large a table of buckets is: it doubles, and keeps all that it holds, or begins anew.
+//! The size of a table of buckets: it doubles without losing an entry, or begins anew.
 ghost use Rattle.std.specs.Prelude.{◌≡◌, ◌≤◌, ◌<◌, ◌*◌, [], length, slice_get, Some, IsErr, OnOk};
 ghost use Rattle.dw_memo.specs.inner.Buckets.{held, IsTable};
 ghost use Rattle.dw_memo.specs.Content.{IsMap, SameEntries};
@@ -8,10 +8,11 @@ use crate::bucket::Bucket;
 use dw_board::Board;
 use std::alloc::AllocError;
 
-/// A table of more buckets than this begins with half of them, a quarter or less, rounded down.
+/// A table that may have more buckets than this begins with a half, a quarter or less of them, rounded down.
 pub(crate) const FEW: usize = 2048;
 
-/// Returns the first number of buckets of a table that may have `most`. Repeated doubling reaches nearly all of them.
+/// Returns the number of buckets with which a table begins that may have `most`, at least 1. Repeated doubling reaches
+/// nearly all of them.
 pub(crate) fn first_size(most: usize) -> usize
     requires { 1 ≤ most }
     ensures some { 1 ≤ result }
@@ -24,7 +25,7 @@ pub(crate) fn first_size(most: usize) -> usize
     size
 }
 
-/// Doubles a table that is crowded by so much that came to it, if it may have as many buckets.
+/// Doubles a table that is crowded after this number of counted entries, if it may have twice as many buckets.
 pub(crate) fn make_room<B: Board, T: Bucket<B>>(buckets: &mut Vec<T>, counted: usize, most: usize)
     requires { IsTable B.geometry T.entries buckets.old.items }
     ensures table { IsTable B.geometry T.entries buckets.new.items }
@@ -36,8 +37,8 @@ pub(crate) fn make_room<B: Board, T: Bucket<B>>(buckets: &mut Vec<T>, counted: u
     }
 }
 
-/// Makes the buckets twice as many, in the memory that was taken at the start, and brings each entry to its own one.
-/// It is rare, and stands apart from the notes between.
+/// Doubles the buckets, in the memory taken at the start, and moves each entry to its own bucket. This is rare, and so
+/// kept out of the code of a note.
 #[cold]
 #[inline(never)]
 fn double<B: Board, T: Bucket<B>>(buckets: &mut Vec<T>)
@@ -75,7 +76,7 @@ pub(crate) fn widen<B: Board, T: Bucket<B>>(
     Ok(())
 }
 
-/// Empties a table, which has as few buckets then as it began with.
+/// Empties a table, and shrinks it to the size with which it began.
 pub(crate) fn clear<B: Board, T: Bucket<B>>(buckets: &mut Vec<T>)
     requires { IsTable B.geometry T.entries buckets.old.items }
     ensures table { IsTable B.geometry T.entries buckets.new.items }

@@ -17,8 +17,8 @@ use std::num::NonZeroUsize;
 
 /// A memo of a fixed number of positions. If it is full, a new position replaces the one that was used longest ago. But
 /// an old entry lives on if it has more lives left than the new one: it has one for each move that its bounds decide,
-/// and loses one each time. If the next entry lives on too, the new one is not stored. One-move results are never
-/// stored in a full memo.
+/// and loses one each time. If the next entry lives on too, the new one is not stored. A full memo stores no one-move
+/// result of a new position.
 #[derive(Drop)]
 pub struct LruMemo<B: Board> {
     cache: LruCache<Position<B>, Fact>,
@@ -37,7 +37,8 @@ impl<B: Board> Model for LruMemo<B> {
 }
 
 impl<B: Board> LruMemo<B> {
-    /// Returns an empty memo of 1 to 4,000,000 positions, or an error if out of memory.
+    /// Returns an empty memo of `capacity` positions, or an error if out of memory. `capacity` must be from 1 to
+    /// 4,000,000.
     pub fn new(alloc: Global, capacity: usize) -> Result<Self, AllocError>
         requires some { 1 ≤ capacity }
         requires most { capacity ≤ 4_000_000 }
@@ -77,7 +78,7 @@ impl<B: Board> Memo<B> for LruMemo<B> {
     }
 }
 
-/// Puts bounds into a cache. Tells whether they were kept, and how many entries were lost by it.
+/// Stores bounds in a cache. Returns whether they were kept, and the number of entries lost by it.
 fn push<B: Board>(
     cache: &mut LruCache<Position<B>, Fact>,
     position: Position<B>,
@@ -116,7 +117,8 @@ fn has_place<B: Board>(
     gives_way(cache, depth)
 }
 
-/// Returns whether a full cache gives up its oldest entry for bounds of this depth.
+/// Returns whether a full cache gives up its oldest entry for bounds of this depth: not for one move, and not if two
+/// old entries in turn live on.
 fn gives_way<B: Board>(cache: &mut LruCache<Position<B>, Fact>, depth: u8) -> bool
     requires { IsRecent cache.old.entries cache.old.cap }
     ensures recent { IsRecent cache.new.entries cache.new.cap }
@@ -146,7 +148,8 @@ fn lives_on<B: Board>(cache: &mut LruCache<Position<B>, Fact>, lives: u8) -> boo
     use_again(cache, position, fact)
 }
 
-/// Has the entry that was used longest ago be used again, older by one. Memory is never refused for that.
+/// Puts the oldest entry, which must be this one, at the front, older by one. Returns whether that worked; memory is
+/// never refused for it.
 fn use_again<B: Board>(
     cache: &mut LruCache<Position<B>, Fact>,
     position: Position<B>,
@@ -163,7 +166,7 @@ fn use_again<B: Board>(
     }
 }
 
-/// Returns the position that was used longest ago, and its bounds.
+/// Returns the position that was used longest ago and its fact, or `None` in an empty cache.
 fn oldest<B: Board>(cache: &LruCache<Position<B>, Fact>) -> Option<(Position<B>, Fact)>
     ensures { result ≡ last_entry cache.now.entries }
 {

@@ -1,4 +1,4 @@
-//! What a memo is: a cache of bounds.
+//! The trait of memos, the caches of bounds.
 ghost use Rattle.std.specs.Prelude.{◌≡◌, ℕ, true, false};
 ghost use Rattle.dw_memo.specs.Content.{Content, IsMap, SameEntries, IsFound, MayForget};
 ghost use Rattle.dw_memo.specs.Noting.{IsNote, IsOneLost};
@@ -40,9 +40,9 @@ pub trait Memo<B: Board> {
         ensures note { IsNote (content self.old) position.now bounds result (content self.new) (dropped self.old)
             (dropped self.new) };
 
-    /// Leaves out bounds that tell of one move alone, which are then neither looked up nor noted, and counts one entry
-    /// as not kept. Or it answers `false`, and does nothing. Once a memo has lost something, to find such bounds again
-    /// takes less time than to look them up.
+    /// Returns `true` if the caller is to leave out bounds of one move alone: neither look them up nor note them. One
+    /// entry is then counted as not kept. Else returns `false` and changes nothing. Once a memo has lost entries,
+    /// finding such bounds again is faster than looking them up.
     fn skip_one_move(&mut self) -> bool
         ensures map { IsMap (content self.old) }
         ensures map_after { IsMap (content self.new) }
@@ -50,7 +50,7 @@ pub trait Memo<B: Board> {
         ensures dropped { result ≡ false → dropped self.new ≡ dropped self.old }
         ensures left_out { result ≡ true → IsOneLost (dropped self.old) (dropped self.new) }
     {
-        // The map is one, as in `forget`.
+        // This call shows that the content is a map, as in `forget`.
         let _ = self.dropped();
         false
     }
@@ -63,24 +63,24 @@ pub trait Memo<B: Board> {
         ensures forgets { MayForget (content self.old) (content self.new) }
         ensures dropped { dropped self.new ≡ dropped self.old }
     {
-        // The map is one. The law that says so can be called by those above alone.
+        // This call shows that the content is a map. The law `keeps_its_map` cannot be called here.
         let _ = self.dropped();
     }
 
-    /// Returns how many entries were lost or not kept so far; from `u64::MAX` on it stays the same.
+    /// Returns the number of entries lost or not kept so far. It stays at `u64::MAX` once it is reached.
     fn dropped(&self) -> u64
         ensures map { IsMap (content self.now) }
         ensures count { result ≡ dropped self.now };
 
-    /// A position stands in a memo once: a law, which does nothing.
+    /// States that each position has at most one entry. A law, which does nothing.
     final fn keeps_its_map(&self)
         ensures { IsMap (content self.now) }
     {
         let _ = self.dropped();
     }
 
-    /// Holds these bounds for a position, in place of those that it had. Entries may be lost by it, the given one too,
-    /// and each of them is counted.
+    /// Stores these bounds for a position in place of earlier ones, and returns whether they were kept. Entries may get
+    /// lost, the new one too, and each is counted.
     final fn note(&mut self, position: Position<B>, bounds: Bounds) -> Noted
         ensures answer { may_answer result }
         ensures note { IsNote (content self.old) position bounds result (content self.new) (dropped self.old)
@@ -90,7 +90,7 @@ pub trait Memo<B: Board> {
     }
 }
 
-/// Counts one more lost entry, if some were lost before. Else it answers `false`, and does nothing.
+/// Counts one more lost entry and returns `true` if some were lost before. Else returns `false` and changes nothing.
 #[inline]
 pub(crate) fn skip_after_loss(dropped: &mut u64) -> bool
     ensures none { result ≡ false → dropped.new ≡ dropped.old }

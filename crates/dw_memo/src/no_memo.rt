@@ -22,7 +22,7 @@ impl Model for NoMemo {
 }
 
 impl NoMemo {
-    /// Returns a memo that was given nothing yet.
+    /// Returns a memo that has counted no note yet.
     pub fn new() -> Self
         ensures { result ≡ 0 }
     {

@@ -49,7 +49,8 @@ impl<B: Board> Pair<B> {
     }
 }
 
-/// Puts the bounds of a position that neither place holds into the one that is worth less, if they may go there.
+/// Puts the bounds of a position, which neither place may hold, into the place of less value, if they may go there.
+/// Bounds of two moves or more age the other place.
 #[inline]
 fn contend<B: Board>(
     lesser: &mut Slot<B>,
@@ -126,9 +127,9 @@ impl<B: Board> Bucket<B> for Pair<B> {
         (Pair { first, second }, away)
     }
 
-    /// Facts of two moves or more came into places of other positions, or free ones, twice as often as it has places.
-    /// Facts of one move do not count: they are soon found again. A larger table would lose less, and be slower for all
-    /// that the caches do not hold.
+    /// Returns whether facts of two moves or more came to new positions more than twice as often as the table has
+    /// places. Facts of one move do not count: they are soon found again. A larger table would lose less, but be slower
+    /// than one that the processor's caches hold.
     fn is_crowded(buckets: usize, counted: usize) -> bool {
         buckets < counted / PER_PAIR
     }

@@ -17,8 +17,8 @@ use std::marker::Model;
 /// A table is crowded if less than one in this number of its places is free.
 const PER_FREE: usize = 16;
 
-/// A position with its bounds, or nothing: then there is no fact, and the position is the empty board. It takes 32
-/// bytes: three sets and the side to move.
+/// A position with its fact, or nothing: then there is no fact, and the position is the empty board. It takes 32 bytes:
+/// three sets, the side to move and the fact.
 #[derive(Copy)]
 pub(crate) struct Slot<B: Board> {
     pieces: Packed<B>,
@@ -77,7 +77,7 @@ impl<B: Board> Slot<B> {
         }
     }
 
-    /// Returns a slot with a position and its bounds.
+    /// Returns a slot with a position and its fact.
     #[inline]
     pub(crate) fn with(position: &Position<B>, fact: Fact) -> Self
         ensures { result ≡ Some (position.now, fact) }
@@ -89,7 +89,7 @@ impl<B: Board> Slot<B> {
         }
     }
 
-    /// Returns the content of the slot.
+    /// Returns the position and the fact in the slot, or `None` if it is free.
     #[inline]
     pub(crate) fn entry(&self) -> Option<(Position<B>, Fact)>
         ensures { result ≡ self.now }
@@ -106,7 +106,7 @@ impl<B: Board> Slot<B> {
         self.fact.is_none()
     }
 
-    /// Returns the bounds of a position, if it stands there and not another one.
+    /// Returns the bounds of a position, or `None` if the slot does not hold it.
     #[inline]
     pub(crate) fn bounds_of(&self, position: &Position<B>) -> Option<Bounds>
         ensures { result ≡ bounds_in self.now position.now }
@@ -126,7 +126,7 @@ impl<B: Board> Slot<B> {
         self.bounds_of(position).is_some()
     }
 
-    /// Returns its value: one more than the depth of its fact, and 0 if it is free.
+    /// Returns its value: one more than the value of its fact, and 0 if it is free.
     #[inline]
     pub(crate) fn worth(&self) -> u16
         ensures { result ≡ worth self.now }
@@ -137,7 +137,7 @@ impl<B: Board> Slot<B> {
         }
     }
 
-    /// Returns the slot when the fact there is older by one.
+    /// Returns the slot with its fact, if any, one step older.
     #[inline]
     pub(crate) fn older(&self) -> Self
         ensures { standing result ≡ standing self.now }
@@ -148,7 +148,7 @@ impl<B: Board> Slot<B> {
         }
     }
 
-    /// Returns how many entries are lost when a position comes into the slot.
+    /// Returns the number of entries lost when a position comes into the slot: 1 if it holds another one, and else 0.
     #[inline]
     pub(crate) fn lost(&self, position: &Position<B>) -> u64
         ensures { result ≡ lost self.now position.now }
@@ -156,7 +156,7 @@ impl<B: Board> Slot<B> {
         u64::from(self.fact.is_some() && !self.keeps(position))
     }
 
-    /// Returns whether the position that it keeps is this one.
+    /// Returns whether the slot stores this position; a free slot stores the empty board with White to move.
     #[inline]
     fn keeps(&self, position: &Position<B>) -> bool
         ensures { IsTrue result ↔ (kept_position self.now ≡ position.now) }
@@ -202,8 +202,8 @@ impl<B: Board> Bucket<B> for Slot<B> {
         }
     }
 
-    /// Returns whether all but a sixteenth of the slots are filled. A larger table would lose less but be slower,
-    /// because most of its entries belong to finished problems.
+    /// Returns whether more than fifteen sixteenths of the slots are filled. A larger table would lose less but be
+    /// slower, because most of its entries belong to finished problems.
     fn is_crowded(buckets: usize, counted: usize) -> bool {
         buckets - buckets / PER_FREE < counted
     }

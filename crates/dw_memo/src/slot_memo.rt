@@ -10,11 +10,10 @@ use dw_board::{Board, Position};
 use std::alloc::{AllocError, Global};
 use std::marker::Model;
 
-/// A table of slots. A position that is noted takes the place of the one that stood in its slot. All memory of the
-/// table is taken at the start.
+/// A table of slots. A noted position replaces the one in its slot. All memory of the table is taken at the start.
 ///
 /// A large table begins with fewer slots, which the processor's caches can hold. When nearly all of them hold a
-/// position it doubles, and loses nothing by it, until it has nearly all that it may have.
+/// position it doubles, without losing any, until it has nearly all that it may have.
 #[derive(Drop)]
 pub struct SlotMemo<B: Board> {
     table: Table<B, Slot<B>>,
@@ -29,7 +28,8 @@ impl<B: Board> Model for SlotMemo<B> {
 }
 
 impl<B: Board> SlotMemo<B> {
-    /// Returns an empty memo of 1 to 4,000,000 slots, or an error if out of memory. It takes no memory later.
+    /// Returns an empty memo of `slots` slots, or an error if out of memory. `slots` must be from 1 to 4,000,000. No
+    /// later call allocates.
     pub fn new(alloc: Global, slots: usize) -> Result<Self, AllocError>
         requires some { 1 ≤ slots }
         requires most { slots ≤ 4_000_000 }

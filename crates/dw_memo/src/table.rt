@@ -12,10 +12,10 @@ use dw_board::{Board, Position};
 use std::alloc::{AllocError, Global};
 use std::marker::{Model, PhantomData};
 
-/// A table of buckets. What a note loses is counted.
+/// A table of buckets. Entries lost by notes are counted.
 ///
-/// A large table begins with fewer buckets, which the processor's caches can hold. When it is crowded it doubles, and
-/// loses nothing by it, until it has nearly all that it may have.
+/// A large table begins with fewer buckets, which the processor's caches can hold. When it is crowded it doubles,
+/// without losing an entry, until it has nearly all that it may have.
 #[derive(Drop)]
 pub(crate) struct Table<B: Board, T: Bucket<B>> {
     buckets: Vec<T>,
@@ -37,8 +37,8 @@ impl<B: Board, T: Bucket<B>> Model for Table<B, T> {
 }
 
 impl<B: Board, T: Bucket<B>> Table<B, T> {
-    /// Returns an empty table of at most this number of buckets, or an error if out of memory. It takes no memory
-    /// later.
+    /// Returns an empty table of at most this number of buckets, which must be at least 1, or an error if out of
+    /// memory. No later call allocates.
     pub(crate) fn new(alloc: Global, most: usize) -> Result<Self, AllocError>
         requires { 1 ≤ most }
         ensures { IfOk result (λ t. t ≡ record { content = []; dropped = 0 }) }
@@ -79,7 +79,8 @@ impl<B: Board, T: Bucket<B>> Table<B, T> {
         entered.noted
     }
 
-    /// Counts one entry as not kept, if others were lost before. Else it answers `false`, and does nothing.
+    /// Counts one entry as not kept and returns `true` if others were lost before. Else returns `false` and changes
+    /// nothing.
     #[inline]
     pub(crate) fn skip(&mut self) -> bool
         ensures map { IsMap self.old.content }
@@ -90,8 +91,8 @@ impl<B: Board, T: Bucket<B>> Table<B, T> {
         skip_after_loss(&mut self.dropped)
     }
 
-    /// Gives up all that it holds, and begins with few buckets again, if it has grown: a small table is as quick as an
-    /// empty one.
+    /// Gives up all entries and begins with few buckets again, if the table has grown. A table that has not keeps its
+    /// entries, as it would be no faster without them.
     pub(crate) fn forget(&mut self)
         ensures map { IsMap self.old.content }
         ensures map_after { IsMap self.new.content }
@@ -104,7 +105,7 @@ impl<B: Board, T: Bucket<B>> Table<B, T> {
         }
     }
 
-    /// Returns how many entries were lost or not kept so far.
+    /// Returns the number of entries lost or not kept so far.
     #[inline]
     pub(crate) fn dropped(&self) -> u64
         ensures map { IsMap self.now.content }
@@ -114,8 +115,8 @@ impl<B: Board, T: Bucket<B>> Table<B, T> {
     }
 }
 
-/// Returns the bucket of a position among `buckets` buckets: its mixed word as a fraction of 2^64, times `buckets`.
-/// This needs no division.
+/// Returns the bucket of a position among `buckets` buckets, of which there must be one: its mixed word as a fraction
+/// of 2^64, times `buckets`. This needs no division.
 #[inline]
 pub(crate) fn bucket_of<B: Board>(position: &Position<B>, buckets: usize) -> usize
     requires { 1 ≤ buckets }

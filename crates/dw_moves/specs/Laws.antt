@@ -19,7 +19,7 @@ abbrev pub PathIsShort : Type 0
 PathIsShort = (g : Geometry) (p : Placement) (from : ℕ) (landings taken : List ℕ) → Path g p from landings taken →
     length taken ≤ count p (other p.turn)
 
--- some list has exactly the legal moves
+-- some list has exactly the legal moves of a position
 abbrev pub MovesListed : Type 0
 MovesListed = (g : Geometry) (p : Placement) → (moves : List Move) × ((m : Move) → Member m moves ↔ Legal g p m)
 
@@ -52,7 +52,7 @@ pub record MovesHaveKeys : Type 0 where
   pub differ : (g : Geometry) → IsBoard g → (p : Placement) (m n : Move) (k : List ℕ) → IsKey g p m k → IsKey g p n k
       → m ≡ n
 
--- some list has exactly the legal moves in ascending order, and only one does; so has one with their least paths
+-- exactly one list has the legal moves in ascending order, and exactly one also has their least paths
 pub record MovesInOrder : Type 0 where
   pub some : (g : Geometry) → IsBoard g → (p : Placement)
       → (moves : List Move) × IsListOf (Precedes g p) (Legal g p) moves
@@ -66,7 +66,6 @@ pub record MovesInOrder : Type 0 where
 abbrev pub StepsAreQuiet : Type 0
 StepsAreQuiet = (g : Geometry) → IsBoard g → (p : Placement) (from to : ℕ) → OneStep g p from to → Quiet g p from to
 
--- if the other side has a sure reply, it has a reply to every move: if nothing can be taken, steps to two squares are
--- enough, and else such steps by pieces that are not exposed
+-- if the other side has a sure reply, it has a reply to every move
 abbrev pub SureReplies : Type 0
 SureReplies = (g : Geometry) → IsBoard g → (p : Placement) → HasSureReply g p → AlwaysReply g p

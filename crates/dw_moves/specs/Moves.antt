@@ -60,8 +60,8 @@ pub record IsQuietCount (g : Geometry) (p : Placement) (n : ℕ) : Type 0 where
   pub once : NoRepeat moves
   pub count : length moves ≡ n
 
--- a jump from s over an enemy on c to t: on one ray all squares between s and c are empty, and all after c up to t; for
--- a man c is next to s, and t next to c
+-- a piece jumps from s over an enemy on c to t: on one ray all squares between s and c are empty, and all after c up to
+-- t; for a man c is next to s, and t next to c
 pub record Jump (g : Geometry) (p : Placement) (piece : Piece) (s c t : ℕ) : Type 0 where
   pub dir : Dir
   pub before : List ℕ
@@ -110,12 +110,12 @@ move_code =
     code_by (ℕ × (ℕ × Squares)) (coded× coded_ℕ (coded× coded_ℕ (set.code coded_ℕ))) (λ m. (m.from, (m.to, m.taken)))
     (λ p. record { from = p.0; to = p.1.0; taken = p.1.1 }) (λ _. refl)
 
--- where jumps end that begin on s
+-- the square where jumps from s end
 abbrev pub last_of : ℕ → List ℕ → ℕ
 last_of s [] = s
 last_of s (t ∷ ts) = last_of t ts
 
--- landings on which a move can be played that takes k pieces
+-- m can be played with these landings, and takes k pieces
 pub record IsPathOf (g : Geometry) (p : Placement) (m : Move) (k : ℕ) (landings : List ℕ) : Type 0 where
   pub over : List ℕ
   pub path : Path g p m.from landings over
@@ -157,6 +157,6 @@ AreEnds g p ends = (s : ℕ) → In s ends ↔ (m : Move) × Legal g p m × (0 <
 abbrev pub SharesEnds : Geometry → Placement → Move → Type 0
 SharesEnds g p m = (n : Move) × Legal g p n × (0 < set.len n.taken) × (n.from ≡ m.from) × (n.to ≡ m.to) × (n ≡ m → ⊥)
 
--- the words that a move feeds a hasher: its squares, and the word of its taken pieces
+-- the bytes that a move feeds a hasher: its squares, and the word of its taken pieces
 abbrev pub move_bytes : Geometry → Move → List (List ℕ)
 move_bytes g m = fed.u8 m.from ++ (fed.u8 m.to ++ fed.u64 (word_of g m.taken))

@@ -39,13 +39,13 @@ pub record IsLeastPath (g : Geometry) (p : Placement) (m : Move) (landings : Lis
   pub leads : LandsOn g p m landings
   pub least : (others : List ℕ) → LandsOn g p m others → LexLess others landings → ⊥
 
--- all but the last
+-- a list without its last element
 abbrev pub front : List ℕ → List ℕ
 front [] = []
 front (s ∷ []) = []
 front (s ∷ t ∷ ts) = s ∷ front (t ∷ ts)
 
--- from, to, and the squares between on the least path
+-- the key of a move: its start, its end, and the squares between on its least path
 abbrev pub IsKey : Geometry → Placement → Move → List ℕ → Type 0
 IsKey g p m key = (landings : List ℕ) × IsLeastPath g p m landings × (key ≡ m.from ∷ m.to ∷ front landings)
 
@@ -58,7 +58,7 @@ abbrev pub IsAscending : {X : Type 0} → (X → X → Type 0) → List X → Ty
 IsAscending R [] = Unit {0}
 IsAscending {X} R (x ∷ xs) = ((y : X) → Member y xs → R x y) × IsAscending R xs
 
--- the strictly ascending list of just the things of some kind
+-- a list is strictly ascending, and has exactly the things with property P
 pub record IsListOf {X : Type 0} (R : X → X → Type 0) (P : X → Type 0) (xs : List X) : Type 0 where
   pub ascending : IsAscending R xs
   pub exactly : (x : X) → Member x xs ↔ P x
@@ -68,7 +68,7 @@ pub record Listed : Type 0 where
   pub step : Move
   pub path : List ℕ
 
--- it is stored as its parts
+-- a move with a path is stored as its parts
 abbrev pub listed_code : Coded Listed
 listed_code = code_by (Move × List ℕ) (coded× move_code (coded_list coded_ℕ)) (λ l. (
   l.step,

@@ -1,4 +1,4 @@
--- Steps of one square, and replies that are there whatever is played.
+-- Steps of one square, and replies that exist whatever is played.
 use Rattle.std.specs.Prelude.{◌≡◌, ℕ, ◌⊎◌, Some, None, IsTrue}
 use Rattle.dw_board.specs.declared.board.Dir.{Dir}
 use Rattle.dw_board.specs.declared.piece.Kind.TheVariants.{Man}
@@ -27,7 +27,7 @@ pub record OneStep (g : Geometry) (p : Placement) (from to : ℕ) : Type 0 where
   pub free : at p to ≡ None
   pub man : piece.kind ≡ Man → IsForward p.turn dir
 
--- such steps lead to two different squares or more
+-- steps of this kind lead to two different squares or more
 pub record LeadToTwo (Leads : ℕ → ℕ → Type 0) : Type 0 where
   pub from : ℕ
   pub to : ℕ
@@ -53,8 +53,7 @@ AlwaysReply g p = (m : Move) → Legal g p m → (r : Move) × Legal g (play g p
 abbrev pub IsOpen : Geometry → Placement → Side → ℕ → Dir → Type 0
 IsOpen g p side s d = (t : ℕ) × (step g s d ≡ Some t) × (IsTrue (is_of side (at p t)) → ⊥)
 
--- on a diagonal it is open to both sides; else, along each of them, the edge is next to a piece or one of its own side,
--- and it cannot be taken
+-- a piece on s is exposed: on some diagonal it is open to both sides; a piece that is not exposed cannot be taken
 abbrev pub IsExposed : Geometry → Placement → Side → ℕ → Type 0
 IsExposed g p side s = (d : Dir) × IsOpen g p side s d × IsOpen g p side s (back d)
 
@@ -62,10 +61,11 @@ IsExposed g p side s = (d : Dir) × IsOpen g p side s d × IsOpen g p side s (ba
 abbrev pub SafeStep : Geometry → Placement → ℕ → ℕ → Type 0
 SafeStep g p from to = OneStep g (passed p) from to × (IsExposed g p (other p.turn) from → ⊥)
 
--- it is seen at a glance that the other side has a reply to every move
+-- the other side has a sure reply: nothing can be taken and it could step to two squares, or pieces of it that are not
+-- exposed could
 abbrev pub HasSureReply : Geometry → Placement → Type 0
 HasSureReply g p = IsLoose g p ⊎ LeadToTwo (SafeStep g p)
 
--- a quiet move to the next square, after which the other side does not win at once
+-- a quiet move to the next square, after which its side has a sure reply, so that the other side does not win at once
 abbrev pub IsSureStep : Geometry → Placement → Move → Type 0
 IsSureStep g p m = OneStep g p m.from m.to × (m.taken ≡ set.empty) × HasSureReply g (play g p m)

@@ -10,7 +10,7 @@ use Rattle.dw_board.specs.Placement.{Placement, empty, placed}
 use Rattle.dw_moves.specs.Moves.{Move, Legal}
 use Rattle.dw_board.specs.Lists.{Member}
 
--- the same pieces on all these squares
+-- the placement with pieces of this side and kind on all these squares
 abbrev pub with_all : Placement → Side → Kind → List ℕ → Placement
 with_all p side kind_of [] = p
 with_all p side kind_of (s ∷ ss) = with_all (placed p s (Some (record { side = side; kind = kind_of }))) side kind_of ss

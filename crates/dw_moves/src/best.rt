@@ -23,16 +23,16 @@ pub fn best<B: Board>(position: &Position<B>) -> u8
     best_captures(position).pieces
 }
 
-/// What is seen of the legal captures without a list of them.
+/// The number of pieces that the legal captures take, and the squares on which they end.
 #[derive(Drop)]
 pub struct BestCaptures<B: Board> {
-    /// How many pieces each takes, at most 20; 0 if nothing can be taken.
+    /// The number of pieces that each takes, at most 20; 0 if nothing can be taken.
     pub pieces: u8,
     /// The squares on which they end.
     pub ends: Squares<B>,
 }
 
-/// Returns how many pieces the legal captures take, and on which squares they end. It takes no memory.
+/// Returns the number of pieces that the legal captures take, and the squares on which they end. Allocates nothing.
 pub fn best_captures<B: Board>(position: &Position<B>) -> BestCaptures<B>
     ensures pieces { IsBest B.geometry position.now result.pieces }
     ensures small { result.pieces ≤ 20 }

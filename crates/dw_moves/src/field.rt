@@ -33,7 +33,7 @@ impl<B: Board> Field<B> {
         Field::given(position, position.turn())
     }
 
-    /// Returns the sets that it would have, if it were this side's turn.
+    /// Returns the sets of a position, as if it were this side's turn.
     #[inline]
     pub(crate) fn given(position: &Position<B>, side: Side) -> Self
         ensures { AreSets B.geometry (given position.now side) result.men result.kings result.enemies result.occupied }
@@ -79,7 +79,8 @@ impl<B: Board> Field<B> {
         any(up.or(down))
     }
 
-    /// Returns the square to which a man can jump in a direction over one of these enemies, if it is free.
+    /// Returns the set of the square to which a man can jump in a direction over one of these enemies. It is empty if
+    /// there is none or it is occupied.
     #[inline]
     fn landing(&self, from: Square<B>, enemies: Squares<B>, direction: Dir) -> Squares<B>
         ensures { (t : ℕ) → In t result ↔ JumpsTo B.geometry enemies self.now.occupied from direction t }
@@ -121,7 +122,7 @@ impl<B: Board> Field<B> {
         any(self.kings) && slides_take(self.kings, self.enemies, self.occupied)
     }
 
-    /// Returns the same: all kings slide, whether or not there are some.
+    /// Returns whether a king can take something. It slides the kings without asking whether there are any.
     #[inline(always)]
     pub(crate) fn slide_to_take(&self) -> bool
         ensures { IsTrue result ↔ ((d : Dir) × (t : ℕ) × KingsTake B.geometry self.now.kings self.now.enemies
@@ -136,7 +137,7 @@ impl<B: Board> Field<B> {
         any(up.or(down))
     }
 
-    /// Returns the empty squares beyond the enemies next to a man.
+    /// Returns the empty squares just beyond an enemy that is next to a man, in a direction.
     #[inline]
     fn behind_men(&self, direction: Dir) -> Squares<B>
         ensures { (t : ℕ) → In t result ↔ MenTake B.geometry self.now.men self.now.enemies self.now.occupied
@@ -146,7 +147,8 @@ impl<B: Board> Field<B> {
         met.shifted(direction).minus(self.occupied)
     }
 
-    /// Returns the empty squares beyond the first enemies that kings meet. All kings slide together.
+    /// Returns the empty squares just beyond the first enemies that kings meet in a direction. All kings slide
+    /// together.
     #[inline]
     fn behind_kings(&self, direction: Dir) -> Squares<B>
         ensures { (t : ℕ) → In t result ↔ KingsTake B.geometry self.now.kings self.now.enemies self.now.occupied
@@ -157,7 +159,7 @@ impl<B: Board> Field<B> {
         met.shifted(direction).minus(self.occupied)
     }
 
-    /// Returns the enemies next to a man.
+    /// Returns the enemies next to a man in a direction.
     #[inline]
     fn met_by_men(&self, direction: Dir) -> Squares<B>
         ensures { (c : ℕ) → In c result ↔ MenMeet B.geometry self.now.men self.now.enemies self.now.occupied
@@ -166,7 +168,7 @@ impl<B: Board> Field<B> {
         self.men.shifted(direction).and(self.enemies)
     }
 
-    /// Returns the kings, if one of them can take something in a direction.
+    /// Returns all kings if one of them can take something in a direction, and else the empty set.
     #[inline]
     pub(crate) fn kings_before_enemy(&self, direction: Dir) -> Squares<B>
         ensures { (s : ℕ) → In s self.now.kings → ((t : ℕ) × KingsTake B.geometry self.now.kings self.now.enemies
@@ -191,7 +193,7 @@ impl<B: Board> Field<B> {
         behind.minus(self.occupied).shifted(back).shifted(back)
     }
 
-    /// Returns the squares from which a capture may begin in a direction: each from which one does is among them.
+    /// Returns a set with each square from which a capture begins in a direction, and maybe others.
     #[inline]
     pub(crate) fn may_take(&self, direction: Dir) -> Squares<B>
         ensures { (p : Placement) (s : ℕ) → AreSets B.geometry p self.now.men self.now.kings self.now.enemies
@@ -253,7 +255,7 @@ fn slides_take<B: Board>(kings: Squares<B>, enemies: Squares<B>, occupied: Squar
     field.slide_to_take()
 }
 
-/// Returns the next square in a direction, if it is none of those on which pieces stand.
+/// Returns the next square in a direction, or `None` if it is occupied or past the edge.
 #[inline]
 pub(crate) fn free_step<B: Board>(
     occupied: Squares<B>,
@@ -269,7 +271,7 @@ pub(crate) fn free_step<B: Board>(
     if occupied.has(next) { None } else { Some(next) }
 }
 
-/// Returns whether a square is in the set.
+/// Returns whether the set has a square.
 #[inline]
 pub(crate) fn any<B: Board>(squares: Squares<B>) -> bool
     ensures { IsTrue result ↔ ((s : ℕ) × In s squares) }
@@ -277,7 +279,7 @@ pub(crate) fn any<B: Board>(squares: Squares<B>) -> bool
     !squares.is_empty()
 }
 
-/// Returns whether two squares or more are in the set.
+/// Returns whether the set has two squares or more.
 #[inline]
 pub(crate) fn has_two<B: Board>(squares: Squares<B>) -> bool
     ensures { IsTrue result ↔ HasTwo squares }

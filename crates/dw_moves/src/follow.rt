@@ -10,7 +10,8 @@ use crate::seeker::{Aim, Seeker};
 use crate::walk::walk_captures;
 use dw_board::{Board, Position, Square};
 
-/// Returns the legal capture that has this path, start first, or `None`. It need not be the least path of the capture.
+/// Returns the legal capture that can be made along this path, start first, or `None` if there is none. The path need
+/// not be the least one of the capture.
 pub fn follow<B: Board>(position: &Position<B>, squares: &[Square<B>]) -> Option<Move<B>>
     ensures path { (m : of.Move) → (result ≡ Some m) ↔ IsPathFor B.geometry position.now m squares.now }
     ensures legal { IfSome result (Legal B.geometry position.now) }
@@ -22,7 +23,7 @@ pub fn follow<B: Board>(position: &Position<B>, squares: &[Square<B>]) -> Option
     }
 }
 
-/// A path is met by the captures that are made on it.
+/// The path that a capture must be made along.
 #[derive(Drop)]
 struct Route<'a, B: Board> {
     squares: &'a [Square<B>],
@@ -36,7 +37,7 @@ impl<'a, B: Board> Aim<B> for Route<'a, B> {
     }
 }
 
-/// Returns whether two lists of squares are the same.
+/// Returns whether two lists of squares are equal.
 fn is_same<'a, B: Board>(a: &'a [Square<B>], b: &'a [Square<B>]) -> bool
     ensures { IsTrue result ↔ (a.now ≡ b.now) }
 {

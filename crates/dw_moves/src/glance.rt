@@ -1,4 +1,4 @@
-//! Tests of the whole board at once, by sets of squares: no move is listed.
+//! Tests of the whole board at once, by sets of squares, without a list of moves.
 ghost use Rattle.std.specs.Prelude.{◌≡◌, ◌≤◌, ◌↔◌, ℕ, IsTrue, IsNone, IfSome};
 ghost use Rattle.dw_moves.specs.Moves.{CanCapture, In, IsQuietCount, Legal, Move};
 ghost use Rattle.dw_moves.specs.inner.Glance.{AreSets, CanStep, MenTake};
@@ -19,8 +19,8 @@ pub fn can_capture<B: Board>(position: &Position<B>) -> bool
     Field::of(position).takes()
 }
 
-/// Returns the number of legal moves if nothing can be taken, at most 400, or `None` if something can be: then it is
-/// not counted.
+/// Returns the number of legal moves if nothing can be taken, at most 400, or `None` without a count if something can
+/// be.
 #[inline]
 pub fn count_if_quiet<B: Board>(position: &Position<B>) -> Option<u32>
     ensures none { IsNone result ↔ CanCapture B.geometry position.now }
@@ -37,7 +37,8 @@ pub fn count_if_quiet<B: Board>(position: &Position<B>) -> Option<u32>
     }
 }
 
-/// Returns the same, if no man can take something. Kings slide once for captures and quiet moves.
+/// Returns the number of legal moves, at most 400, or `None` if a king can take something. No man may be able to take
+/// something, and `field` must have the sets of the position.
 #[inline(never)]
 fn count_unless_kings_take<B: Board>(position: &Position<B>, field: &Field<B>) -> Option<u32>
     requires sets { AreSets B.geometry position.now field.now.men field.now.kings field.now.enemies

@@ -1,4 +1,4 @@
-//! What is kept of the captures that a walk meets.
+//! The interface of a walk through captures to its users.
 ghost use Rattle.std.specs.Prelude.{◌≡◌, ◌<◌, ℕ, List, [], ◌∷◌, ◌++◌, length, OnOk};
 ghost use Rattle.dw_moves.specs.Order.{Listed};
 ghost use Rattle.dw_moves.specs.inner.Walks.{Gains, Stays, number};
@@ -6,16 +6,16 @@ ghost use Rattle.dw_moves.specs.inner.Walks.{Gains, Stays, number};
 use crate::moves::Move;
 use dw_board::{Board, Square};
 
-/// Receives every capture of a walk, and keeps some of them. It may follow the path: the walk reports where a path
-/// begins, and each jump forth and back.
+/// Receives every capture of a walk, and keeps some of them. The walk also reports where a path begins, and each jump
+/// made and taken back, so that a keeper can follow the path.
 pub(crate) trait Keeper<B: Board> {
-    /// Why it cannot keep a capture.
+    /// The error if it cannot keep a capture.
     type Fault: Drop;
 
-    /// The content of a keeper after all of these captures, given its content before them.
+    /// The relation between a keeper before a walk, the captures offered since, and the keeper now.
     ghost holds: { Self → List Listed → Self → Type 0 };
 
-    /// It is on this path, as far as it follows one.
+    /// The keeper is on this path. For a keeper that follows no path this holds of each.
     ghost is_on: { Self → List ℕ → Type 0 };
 
     /// Begins a path on this square.
@@ -23,7 +23,7 @@ pub(crate) trait Keeper<B: Board> {
         ensures same { Stays holds self.old self.new }
         ensures on { is_on self.new (from.now ∷ []) };
 
-    /// Enters this square by a jump.
+    /// Enters this square by a jump. The path so far must have at most 20 squares.
     fn enter(&mut self, landing: &Square<B>)
         requires { (path : List ℕ) × (is_on self.old path × (length path < 21)) }
         ensures same { Stays holds self.old self.new }
@@ -34,7 +34,7 @@ pub(crate) trait Keeper<B: Board> {
         ensures same { Stays holds self.old self.new }
         ensures on { (path : List ℕ) (landing : ℕ) → is_on self.old (path ++ landing ∷ []) → is_on self.new path };
 
-    /// Receives a capture of `count` pieces along the path so far.
+    /// Receives a capture along the path so far, which must take `count` pieces.
     fn offer(&mut self, mv: &Move<B>, count: u8) -> Result<(), Self::Fault>
         requires { count ≡ number (record { step = mv.now; path = [] }) }
         ensures kept { OnOk result ((path : List ℕ) → is_on self.old path

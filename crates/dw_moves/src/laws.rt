@@ -13,7 +13,7 @@ pub fn path_is_short()
     ensures { PathIsShort }
 {}
 
-/// Some list has exactly the legal moves.
+/// Some list has exactly the legal moves of a position.
 pub fn moves_listed()
     ensures { MovesListed }
 {}
@@ -23,7 +23,8 @@ pub fn one_best()
     ensures { OneBest }
 {}
 
-/// A legal move takes the greatest number of pieces. Its paths land once for each of them, on squares of the board.
+/// A legal move takes the greatest number of pieces, at most 20. Its paths land once for each of them, on squares of
+/// the board.
 pub fn legal_moves_take()
     ensures { LegalMovesTake }
 {}
@@ -48,12 +49,12 @@ pub fn steps_are_quiet()
     ensures { StepsAreQuiet }
 {}
 
-/// If the other side has steps to two squares, with pieces that cannot be taken, it has a reply to every move.
+/// If the other side has a sure reply, it has a reply to every move.
 pub fn sure_replies()
     ensures { SureReplies }
 {}
 
-/// Worked positions have exactly these legal moves.
+/// The worked positions have exactly the legal moves listed with them.
 pub fn worked_positions()
     ensures { WorkedPositions }
 {}

@@ -37,8 +37,8 @@ pub fn legal<B: Board>(alloc: Global, position: &Position<B>) -> Result<Vec<Move
     Ok(moves)
 }
 
-/// Fills a list with all legal moves, each once, in any order. What it held is dropped, and its memory used again, so a
-/// search can keep its lists. If out of memory it is empty.
+/// Fills a list with all legal moves, each once, in any order. Its old content is dropped and its memory reused, so a
+/// search can keep its lists. If out of memory, the list is empty.
 pub fn legal_into<B: Board>(
     position: &Position<B>,
     moves: &mut Vec<Move<B>>,
@@ -54,7 +54,7 @@ pub fn legal_into<B: Board>(
     pushed
 }
 
-/// Adds all legal moves to an empty list.
+/// Adds all legal moves to a list, which must be empty.
 fn push_legal<B: Board>(position: &Position<B>, moves: &mut Vec<Move<B>>) -> Result<(), AllocError>
     requires { moves.old.items ≡ [] }
     ensures { OnOk result (AreLegal B.geometry position.now moves.new.items) }
@@ -81,7 +81,8 @@ struct LongestMoves<B: Board> {
 }
 
 impl<B: Board> LongestMoves<B> {
-    /// Keeps a move that takes at least as many pieces as those that are kept, once, and drops those that take fewer.
+    /// Keeps a move once, and drops those that take fewer pieces. It must take at least as many pieces as the kept
+    /// ones.
     #[inline(never)]
     fn keep(&mut self, mv: Move<B>, count: u8) -> Result<(), AllocError>
         requires counted { count ≡ set.len mv.taken }
@@ -123,7 +124,7 @@ impl<B: Board> Keeper<B> for LongestMoves<B> {
     }
 }
 
-/// A move is met by the captures that make it.
+/// The move that a capture must make.
 impl<B: Board> Aim<B> for Move<B> {
     ghost is_met_by = { Makes };
 

@@ -24,8 +24,8 @@ pub fn listed<B: Board>(alloc: Global, position: &Position<B>) -> Result<Vec<Lis
     Ok(list)
 }
 
-/// Fills a list with all legal moves in ascending order, each once and with its least path. What it held is dropped,
-/// and its memory used again; only captures take other memory besides. If out of memory it is empty.
+/// Fills a list with all legal moves in ascending order, each once and with its least path. Its old content is dropped
+/// and its memory reused; only captures allocate more. If out of memory, the list is empty.
 pub fn listed_into<B: Board>(
     position: &Position<B>,
     list: &mut Vec<Listed<B>>,
@@ -43,7 +43,7 @@ pub fn listed_into<B: Board>(
     pushed
 }
 
-/// Adds all legal moves to an empty list, in any order, each with its least path.
+/// Adds all legal moves to a list, which must be empty, in any order and each with its least path.
 fn push_listed<B: Board>(
     position: &Position<B>,
     list: &mut Vec<Listed<B>>,
@@ -111,7 +111,7 @@ impl<B: Board> Keeper<B> for LeastPaths<B> {
     }
 }
 
-/// Keeps a path of a move if it is the first, or less than the one that is kept.
+/// Keeps a path of a move if it is the first one, or less than the one kept so far.
 fn keep_least<B: Board>(
     mv: Move<B>,
     path: &ArrayVec<Square<B>, LONGEST_PATH>,
@@ -132,8 +132,8 @@ fn keep_least<B: Board>(
     Ok(())
 }
 
-/// Returns the order of moves: by their starts, then by their ends, then by their paths. A list holds each move once,
-/// and so none is equal to another.
+/// Compares two different moves by their starts, then by their ends, then by their paths. Never returns `Equal`, as a
+/// list has each move once.
 fn order<B: Board>(a: &Listed<B>, b: &Listed<B>) -> Ordering
     ensures { IsTrue (is_lt result) ↔ LexLess (sorted_by a.now) (sorted_by b.now) }
 {

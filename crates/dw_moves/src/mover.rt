@@ -21,7 +21,8 @@ pub(crate) trait Mover<B: Board> {
     fn kind() -> Kind
         ensures { result ≡ as_kind };
 
-    /// Returns the enemy that it meets first in a direction.
+    /// Returns the enemy that it meets first in a direction, or `None` only if it can take nothing there. There may be
+    /// no empty square after that enemy.
     fn met(field: &Field<B>, from: &Square<B>, direction: Dir) -> Option<Square<B>>
         requires { OnBoard B.geometry from.now }
         ensures none { result ≡ None → (p : Placement) (side : Side)
@@ -33,7 +34,8 @@ pub(crate) trait Mover<B: Board> {
         ensures enemy { IfSome result (λ c. In c field.now.enemies) }
         ensures on_board { IfSome result (OnBoard B.geometry) };
 
-    /// Returns whether it can take one more on a square, if it has taken these: true if so, and maybe if not.
+    /// Returns `false` only if it can take no further piece from a square, given the pieces it took. `true` does not
+    /// say that it can.
     fn goes_on(field: &Field<B>, from: &Square<B>, taken: &Squares<B>) -> bool
         requires { OnBoard B.geometry from.now }
         ensures { (p : Placement) (side : Side) (c t : ℕ)
@@ -85,7 +87,7 @@ impl<B: Board> Mover<B> for Slider {
         reached.shifted(direction).and(field.enemies).first()
     }
 
-    /// Returns `true`: a king's next jump is looked for without a test.
+    /// Returns `true`: a king's next jump is searched for without a test.
     #[inline(always)]
     fn goes_on(field: &Field<B>, from: &Square<B>, taken: &Squares<B>) -> bool {
         true

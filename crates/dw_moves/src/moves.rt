@@ -17,11 +17,11 @@ use std::alloc::AllocError;
 use std::hash::{Hash, Hasher};
 use std::marker::Model;
 
-/// The most squares of a path: its start, and one for each of twenty taken pieces.
+/// The most squares of a path: its start, and a landing for each of twenty taken pieces.
 pub const LONGEST_PATH: usize = 1 + 20;
 
-/// A move: where it begins and ends, and the squares of the pieces that it takes, all of them in one set. Two ways to
-/// capture the same pieces between the same two squares are one move.
+/// A move: its start, its end, and the set of squares of the pieces that it takes. Two ways to capture the same pieces
+/// between the same two squares are one move.
 pub struct Move<B: Board> {
     pub from: Square<B>,
     pub to: Square<B>,

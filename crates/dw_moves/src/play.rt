@@ -6,9 +6,9 @@ ghost use Rattle.dw_moves.specs.Moves as of;
 use crate::moves::Move;
 use dw_board::{Board, Position};
 
-/// Returns the position after a legal move. The piece leaves its square, all that it took leaves the board at once, and
-/// it stands on its last square: as a king, if it was a man and that is its last row. A man that passes its last row
-/// during a capture and ends elsewhere stays a man.
+/// Returns the position after a move, which must be legal. The piece leaves its square, and all pieces that it took
+/// leave the board at once. On its last square it stands as a king, if it was a man and that is its last row. A man
+/// that only passes its last row during a capture stays a man.
 #[inline]
 pub fn play<B: Board>(position: &Position<B>, mv: &Move<B>) -> Position<B>
     requires { Legal B.geometry position.now mv.now }

@@ -15,14 +15,15 @@ use dw_board::{Board, Dir, Kind, Piece, Position, Side, Square, Squares, step};
 use std::alloc::AllocError;
 
 /// Returns the number of quiet moves of the side to move, whether or not it must capture. A man moves one square
-/// diagonally forward to an empty square, White up and Black down; a king any number of empty squares along a diagonal.
+/// diagonally forward to an empty square, White up and Black down. A king moves over any number of empty squares along
+/// a diagonal.
 pub fn quiet_count<B: Board>(position: &Position<B>) -> u32
     ensures { IsQuietCount B.geometry position.now result }
 {
     count_on(position, &Field::of(position))
 }
 
-/// Returns the number of quiet moves, if the sets of the position are known.
+/// Returns the number of quiet moves, at most 400. `field` must have the sets of the position.
 #[inline(always)]
 pub(crate) fn count_on<B: Board>(position: &Position<B>, field: &Field<B>) -> u32
     requires { AreSets B.geometry position.now field.now.men field.now.kings field.now.enemies field.now.occupied }
@@ -34,7 +35,7 @@ pub(crate) fn count_on<B: Board>(position: &Position<B>, field: &Field<B>) -> u3
     up + down + kings_count(position, field)
 }
 
-/// Returns the number of quiet moves of men in one direction: each leads to another square.
+/// Returns the number of quiet moves of men in one direction, which is the number of squares they reach.
 #[inline]
 fn men_count<B: Board>(position: &Position<B>, direction: Dir) -> u32
     ensures value { Counts (ManSteps B.geometry position.now direction) result }
@@ -59,7 +60,7 @@ fn kings_count<B: Board>(position: &Position<B>, field: &Field<B>) -> u32
     up + down
 }
 
-/// Returns the number of quiet moves of kings in one direction: each leads to another square.
+/// Returns the number of quiet moves of kings in one direction, which is the number of squares they reach.
 #[inline]
 fn kings_run<B: Board>(position: &Position<B>, field: &Field<B>, direction: Dir) -> u32
     requires { AreSets B.geometry position.now field.now.men field.now.kings field.now.enemies field.now.occupied }
@@ -70,7 +71,7 @@ fn kings_run<B: Board>(position: &Position<B>, field: &Field<B>, direction: Dir)
     u32::from(reached.minus(field.kings).count())
 }
 
-/// Returns whether a piece may go this way if it takes nothing.
+/// Returns whether a piece may make a quiet move in this direction: a king in any, a man forward.
 #[inline]
 pub(crate) fn may_go(kind: Kind, side: Side, direction: Dir) -> bool
     ensures { result ≡ plain.may_go kind side direction }
@@ -82,11 +83,11 @@ pub(crate) fn may_go(kind: Kind, side: Side, direction: Dir) -> bool
     }
 }
 
-/// What a list of quiet moves is made of.
+/// The elements of a list of quiet moves.
 pub(crate) trait FromQuiet<B: Board> {
     ghost made: { ℕ → ℕ → Self };
 
-    /// Returns a quiet move from one square to another.
+    /// Returns the element for a quiet move from one square to another.
     fn from_quiet(from: &Square<B>, to: &Square<B>) -> Self
         ensures { result ≡ made from.now to.now };
 }
@@ -168,7 +169,7 @@ fn push_king<B: Board, T: FromQuiet<B> + Drop>(
     push_run(position, Kind::King, from, Dir::DownRight, moves)
 }
 
-/// Adds a move to each square that a piece can reach in one direction over empty squares.
+/// Adds a move to each square that a piece can reach in one direction over empty squares, a man only one.
 fn push_run<B: Board, T: FromQuiet<B> + Drop>(
     position: &Position<B>,
     kind: Kind,

@@ -1,4 +1,4 @@
-//! Replies that are there whatever is played: they are seen on sets of squares, and no move is listed.
+//! Replies that exist whatever is played, found on sets of squares without a list of moves.
 ghost use Rattle.std.specs.Prelude.{◌≡◌, ◌↔◌, ◌⊎◌, ℕ, IsTrue, IsNone, IfSome};
 ghost use Rattle.std.specs.FinSet as set;
 ghost use Rattle.dw_board.specs.Geometry.{OnBoard};
@@ -14,11 +14,14 @@ use crate::moves::Move;
 use crate::play::play;
 use dw_board::{Board, Dir, Position, Squares, step};
 
-/// Returns whether it is seen at a glance that the other side has a reply to every move: if it were its turn, pieces of
-/// it that cannot be taken could go one square to two different squares or more. A move stands in the way of one.
+/// Returns `true` if the other side surely has a reply to every move. It returns `false` if this is not seen at a
+/// glance.
 ///
-/// If nothing can be taken, no piece can. Else a piece cannot be taken if, along each diagonal, the edge is next to it
-/// or a piece of its own side, which stays where it is while the move lasts.
+/// A reply is sure if pieces of the other side that cannot be taken could go one square to two different squares or
+/// more, if it were its turn. One move stands in the way of only one of these steps.
+///
+/// If nothing can be taken, none of its pieces can. Else a piece cannot be taken if on each diagonal the edge or a
+/// piece of its own side is next to it.
 pub fn has_sure_reply<B: Board>(position: &Position<B>) -> bool
     ensures exact { IsTrue result ↔ HasSureReply B.geometry position.now }
     ensures replies { IsTrue result → AlwaysReply B.geometry position.now }
@@ -30,9 +33,9 @@ pub fn has_sure_reply<B: Board>(position: &Position<B>) -> bool
     }
 }
 
-/// Returns a legal move of one square after which the other side is seen to have no win in its next move, and the
-/// position after it: whatever it plays there, a reply is sure. `None` if something can be taken, or if there is no
-/// such move. It lists no moves.
+/// Returns a legal move of one square, and the position after it, in which the other side is seen to have no win in one
+/// move: a reply to each of its moves is sure. `None` if something can be taken, or if there is no such move. It lists
+/// no moves.
 pub fn sure_step<B: Board>(position: &Position<B>) -> Option<(Move<B>, Position<B>)>
     ensures legal { IfSome result (λ found. Legal B.geometry position.now found.0) }
     ensures some { IfSome result (λ found. IsSureStep B.geometry position.now found.0) }
@@ -56,7 +59,7 @@ pub fn sure_step<B: Board>(position: &Position<B>) -> Option<(Move<B>, Position<
     sure_towards(position, &field, Dir::DownRight)
 }
 
-/// Returns the same in one direction, if the sets of the position are known.
+/// Returns such a move in one direction. The position must have no capture, and `field` must have its sets.
 #[inline(always)]
 fn sure_towards<B: Board>(
     position: &Position<B>,
@@ -103,7 +106,7 @@ fn safe_steps<B: Board>(position: &Position<B>) -> Squares<B>
     sheltered.all_next_free(side)
 }
 
-/// Returns those of these pieces next to which, on a diagonal, there is a square on both sides and none of them on it.
+/// Returns the pieces with an open square on both sides of a diagonal: on the board, and none of these pieces on it.
 #[inline]
 fn exposed<B: Board>(pieces: Squares<B>) -> Squares<B>
     requires { (s : ℕ) → In s pieces → OnBoard B.geometry s }
@@ -114,7 +117,7 @@ fn exposed<B: Board>(pieces: Squares<B>) -> Squares<B>
     falling.or(rising)
 }
 
-/// Returns those of these pieces next to which there is a square in a direction, and none of them on it.
+/// Returns the pieces with an open square next to them in a direction: on the board, and none of these pieces on it.
 #[inline]
 fn open_towards<B: Board>(pieces: Squares<B>, direction: Dir) -> Squares<B>
     requires { (s : ℕ) → In s pieces → OnBoard B.geometry s }

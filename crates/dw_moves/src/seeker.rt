@@ -1,4 +1,4 @@
-//! One capture that is looked for among those that a walk meets.
+//! A search for one capture among those that a walk offers.
 ghost use Rattle.std.specs.Prelude.{◌≡◌, ◌↔◌, [], IsTrue};
 ghost use Rattle.dw_moves.specs.Order.{Listed};
 ghost use Rattle.dw_moves.specs.inner.Walks.{Sought, These};
@@ -9,17 +9,17 @@ use arrayvec::ArrayVec;
 use dw_board::{Board, Square};
 use std::convert::Infallible;
 
-/// What is looked for among captures.
+/// A test that the sought captures pass.
 pub(crate) trait Aim<B: Board> {
-    /// It is met by this capture.
+    /// A capture passes the test.
     ghost is_met_by: { Self → Listed → Type 0 };
 
-    /// Returns whether it is met by this move, made on this path.
+    /// Returns whether this move, made along this path, passes the test.
     fn is_met(&self, mv: &Move<B>, path: &[Square<B>]) -> bool
         ensures { IsTrue result ↔ is_met_by self.now (record { step = mv.now; path = path.now }) };
 }
 
-/// Keeps the last capture that meets an aim, if none takes more pieces.
+/// Keeps the last capture that passes a test, among those that take the most pieces.
 #[derive(Drop)]
 pub(crate) struct Seeker<'a, B: Board, A: Aim<B>> {
     aim: &'a A,
@@ -29,7 +29,7 @@ pub(crate) struct Seeker<'a, B: Board, A: Aim<B>> {
 }
 
 impl<'a, B: Board, A: Aim<B>> Seeker<'a, B, A> {
-    /// Returns one that has met no capture yet.
+    /// Returns a seeker that has been offered no capture yet.
     pub(crate) fn of(aim: &'a A) -> Self
         ensures aim { result.aim.now ≡ aim.now }
         ensures none { Sought (These []) A.is_met_by result.aim.now result.aim.now result.most result.found }

@@ -8,7 +8,7 @@ use crate::seeker::{Aim, Seeker};
 use crate::walk::walk_captures;
 use dw_board::{Board, Position, Square};
 
-/// Returns whether another legal capture begins and ends where a move does. It takes no memory.
+/// Returns whether another legal capture has the start and the end of a move. Allocates nothing.
 pub fn shares_ends<B: Board>(position: &Position<B>, mv: &Move<B>) -> bool
     ensures { IsTrue result ↔ SharesEnds B.geometry position.now mv.now }
 {
@@ -19,7 +19,7 @@ pub fn shares_ends<B: Board>(position: &Position<B>, mv: &Move<B>) -> bool
     }
 }
 
-/// It is met by the other captures that begin and end where a move does.
+/// A test for other captures with the start and the end of a move.
 #[derive(Drop)]
 struct Twin<'a, B: Board> {
     mv: &'a Move<B>,

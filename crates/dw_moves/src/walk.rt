@@ -23,7 +23,7 @@ struct Chain<B: Board> {
 }
 
 impl<B: Board> Chain<B> {
-    /// Returns one that has not jumped yet.
+    /// Returns the capture of a piece that has not jumped yet.
     #[inline(always)]
     fn on(from: Square<B>) -> Self
         ensures from { result.from ≡ from }
@@ -39,7 +39,7 @@ impl<B: Board> Chain<B> {
         }
     }
 
-    /// Returns the same with one jump more.
+    /// Returns the capture with one jump more. It must have fewer than 20 so far.
     #[inline(always)]
     fn onto(&self, over: Square<B>, landing: Square<B>) -> Self
         requires { self.now.count + 1 ≤ 20 }
@@ -56,7 +56,7 @@ impl<B: Board> Chain<B> {
         }
     }
 
-    /// Returns the move, if it ends here.
+    /// Returns the move if the capture ends here.
     #[inline(always)]
     fn ended(&self) -> Move<B>
         ensures { result ≡ record { from = self.now.from; to = self.now.at; taken = self.now.taken } }
@@ -69,10 +69,10 @@ impl<B: Board> Chain<B> {
     }
 }
 
-/// Offers all captures of the side to move, each once for each of its paths.
+/// Offers all captures of the side to move to a keeper, each once for each of its paths, also those that take fewer
+/// pieces than others.
 ///
-/// It goes through them by the direction of the first jump: so each jump that a man begins with is found on sets of
-/// squares.
+/// It goes by the direction of the first jump, so that sets of squares show the first jumps of all men.
 pub(crate) fn walk_captures<B: Board, K: Keeper<B>>(
     position: &Position<B>,
     keeper: &mut K,
@@ -87,7 +87,7 @@ pub(crate) fn walk_captures<B: Board, K: Keeper<B>>(
     walk_first::<B, K>(&field, Dir::UpRight, keeper)
 }
 
-/// Offers those that begin with a jump in this direction.
+/// Offers the captures that begin with a jump in this direction.
 #[inline(always)]
 fn walk_first<B: Board, K: Keeper<B>>(
     field: &Field<B>,
@@ -106,7 +106,7 @@ fn walk_first<B: Board, K: Keeper<B>>(
     Ok(())
 }
 
-/// Offers those of them that begin on this square.
+/// Offers the captures that begin on this square with a jump in this direction.
 #[inline(always)]
 fn walk_from<B: Board, K: Keeper<B>>(
     field: &Field<B>,
@@ -131,7 +131,7 @@ fn walk_from<B: Board, K: Keeper<B>>(
     }
 }
 
-/// Offers the captures with which a capture so far goes on: on each side, and as it ends here.
+/// Offers all captures that continue this one: those with further jumps in each direction, and the one that ends here.
 #[cycle(walk)]
 fn walk<B: Board, M: Mover<B>, K: Keeper<B>>(
     field: &Field<B>,
@@ -156,7 +156,7 @@ fn walk<B: Board, M: Mover<B>, K: Keeper<B>>(
 }
 
 /// Offers the captures that go on in one direction: over the next enemy, onto the square after it, or for a king onto
-/// each free one. Taken pieces stay on their squares and are not jumped twice.
+/// each free one. Jumped pieces stay on their squares and are not jumped twice.
 #[cycle(walk)]
 #[inline(always)]
 fn walk_towards<B: Board, M: Mover<B>, K: Keeper<B>>(
@@ -192,8 +192,8 @@ fn walk_towards<B: Board, M: Mover<B>, K: Keeper<B>>(
     Ok(())
 }
 
-/// Offers those that go on after a jump onto the square on which the capture stands now. Most of a man's end there,
-/// which is seen on sets of squares, and need no walk of their own.
+/// Enters the square on which the capture stands now, offers the captures that continue it, and leaves the square. Most
+/// captures of men end there; sets of squares show this, so those need no walk of their own.
 #[cycle(walk)]
 #[inline(always)]
 fn walk_onto<B: Board, M: Mover<B>, K: Keeper<B>>(

@@ -1,4 +1,4 @@
--- What stands between the sections of a text of tags.
+-- The bytes between the sections of a text of tags.
 use Rattle.std.specs.Prelude.{◌≡◌, ◌==◌, ◌||◌, ℕ, List, [], ◌∷◌, Bool, true, false}
 use Rattle.dw_notation.specs.Tags.{open_bracket, open_brace, close_brace}
 use Rattle.dw_notation.specs.declared.problems.section_finder.SectionFinder.{SectionFinder}

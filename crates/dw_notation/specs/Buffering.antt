@@ -1,4 +1,4 @@
--- What a buffer over a source shows its caller.
+-- A buffer over a source, as its caller sees it.
 use Rattle.std.specs.Prelude.{◌≡◌, ℕ, ◌+◌, ◌*◌, ◌≤◌, ◌||◌, List, [], ◌++◌, length, Bool, true, Option}
 use Rattle.std.specs.List.{slice_range}
 use Rattle.std.specs.Io.KnownBytes.{Consumes, IsAtEnd}
@@ -25,11 +25,11 @@ input_of source buffer = record { source = source; unread = unread_in buffer; me
 abbrev pub EndIsKnown : Option (List ℕ) → Bool → Bool → Type 0
 EndIsKnown coming has_ended met_end = met_end ≡ true → IsAtEnd coming × (has_ended ≡ true)
 
--- bounds the bytes that can still be consumed
+-- a bound on the bytes that can still be consumed
 abbrev pub weight : ℕ → List ℕ → ℕ
 weight pulls unread = pulls * 2049 + length unread
 
--- these bytes were consumed, and the source has failed at it or not
+-- these bytes were consumed, and the source failed in this call or not
 pub record Passes {S : Type 0} (coming : S → Option (List ℕ)) (has_ended is_failed : S → Bool) (pulls : S → ℕ)
     (old new : Input S) (passed : List ℕ) (fails : Bool) : Type 0 where
   pub read : List ℕ

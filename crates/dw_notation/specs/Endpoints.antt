@@ -1,4 +1,4 @@
--- What a reader or a writer of std shows as a source or a sink.
+-- A reader or a writer of std, as a source or a sink.
 use Rattle.std.specs.Prelude.{ℕ, ◌-◌, Bool}
 use Rattle.dw_notation.specs.declared.streams.reading.TheConstants.{MAX_READS}
 use Rattle.dw_notation.specs.declared.streams.reading.Reading.{Reading}
@@ -14,7 +14,7 @@ has_read_all source = source.has_ended
 abbrev pub has_read_failed : {R : Type 0} → Reading R → Bool
 has_read_failed source = source.has_failed
 
--- how many reads it still makes
+-- the number of reads that it still makes
 abbrev pub reads_left : {R : Type 0} → Reading R → ℕ
 reads_left source = MAX_READS - source.reads
 

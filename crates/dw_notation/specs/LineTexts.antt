@@ -1,4 +1,4 @@
--- What is shown of the text of a line.
+-- The text of a line, as contracts see it.
 use Rattle.std.specs.Prelude.{List}
 use Rattle.dw_board.specs.Placement.{Placement}
 use Rattle.dw_moves.specs.Moves.{Move}

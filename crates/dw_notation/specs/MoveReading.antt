@@ -36,7 +36,7 @@ pub data Names : Geometry → List ℕ → Named → Type 0 where
   by_crosses : {g : Geometry} {text squares : List ℕ} → AreCrossed g text squares → 2 ≤ length squares
       → length squares ≤ 21 → Names g text (Capture squares)
 
--- where a move begins and ends
+-- a move begins and ends on these squares
 abbrev pub Between : ℕ → ℕ → Move → Type 0
 Between from to m = (m.from ≡ from) × (m.to ≡ to)
 

@@ -18,7 +18,7 @@ pub record Numbered : Type 0 where
 abbrev pub numbered : {B : Type 0} → Problem B → Numbered
 numbered problem = record { number = problem.number; found = problem.found }
 
--- problems are numbered on from those handed out; one more than there may be is a fault, and it is the last
+-- problems with their numbers, which follow those handed out; one more than there may be is a fault, and it is the last
 abbrev pub number_from : ℕ → List Found → List Numbered
 number_from handed [] = []
 number_from handed (found ∷ more) =
@@ -30,14 +30,15 @@ abbrev pub TextSays : Geometry → Form → Bool → List ℕ → List Found →
 TextSays g Fens over bytes found = LinesSay g over (without_mark bytes) found
 TextSays g Pdn over bytes found = SectionsSay g over (without_mark bytes) found
 
--- the problems of a text; if it is not over, those that end in it, by a line feed or by a byte after their section
+-- the problems of a text; if more bytes may come, only those that end in it, by a line feed or by a byte after their
+-- section
 pub record AreProblems (g : Geometry) (form : Form) (over : Bool) (bytes : List ℕ) (problems : List Numbered) :
     Type 0 where
   pub found : List Found
   pub said : TextSays g form over bytes found
   pub numbers : problems ≡ number_from 0 found
 
--- each text has its problems, and no others, be it over or not
+-- each text has exactly one list of problems, whether or not more bytes may come
 pub record TextsHaveProblems : Type 0 where
   pub some : (g : Geometry) (form : Form) (over : Bool) (bytes : List ℕ) → (problems : List Numbered)
       × AreProblems g form over bytes problems

@@ -18,12 +18,12 @@ lender problems = problems.source.ghost_name
 abbrev pub source_of : {B S : Type 0} → Problems B S → S
 source_of problems = problems.source.now
 
--- The progress of a reader. Callers know of it only the clauses.
+-- The progress of a reader. Callers know only the clauses about it.
 pub record Reader : Type 0 where
   -- the problems not yet handed out, if these bytes are still to be read: all of them if the text is over then, else
   -- those that end in these bytes
   pub ahead : Geometry → Bool → List ℕ → List Numbered
-  -- how many were handed out
+  -- the number of problems handed out
   pub handed : ℕ
   -- whether the source's end was met
   pub met_end : Bool
@@ -48,7 +48,8 @@ ReadsAtNeed g old read =
     (read ≡ []) ⊎ ((old.handed ≤ MAX_PROBLEMS) × (before : List ℕ) × (last : List ℕ) × (read ≡ before ++ last)
     × (length last ≤ MAX_READ) × (old.ahead g false before ≡ []))
 
--- a call that took these bytes off the source gave this
+-- the effect of a call for the next problem: bytes are taken off the source, if they are needed, and this result is
+-- given
 pub record NextGives {B : Type 0} (g : Geometry) (coming left : Option (List ℕ)) (old new : Reader)
     (result : Result (Option (Problem B)) ReadFault) : Type 0 where
   pub read : List ℕ
@@ -56,7 +57,7 @@ pub record NextGives {B : Type 0} (g : Geometry) (coming left : Option (List ℕ
   pub need : ReadsAtNeed g old read
   pub gives : Gives g old new read result
 
--- each problem handed out is counted, and has the number of those handed out with it
+-- each problem handed out is counted, and its number is the count
 abbrev pub IsCounted : {B : Type 0} → Reader → Reader → Result (Option (Problem B)) ReadFault → Type 0
 IsCounted old new result = IfOk result (λ found.
     (new.handed ≡ old.handed + length (option_to_list found))

@@ -6,13 +6,13 @@ use Rattle.dw_notation.specs.Tags.{Tag, IsTag}
 use Rattle.dw_notation.specs.ReadTags.{NoTag}
 use Rattle.dw_notation.specs.WholeTexts.{SectionsSay}
 
--- each text of tags says one row of problems, and no other
+-- each text of tags has exactly one list of problems
 pub record TextsOfTagsSay : Type 0 where
   pub some : (g : Geometry) (over : Bool) (bytes : List ℕ) → (found : List Found) × SectionsSay g over bytes found
   pub only : (g : Geometry) (over : Bool) (bytes : List ℕ) (found others : List Found) → SectionsSay g over bytes found
       → SectionsSay g over bytes others → found ≡ others
 
--- a text that begins with a whole tag
+-- the bytes begin with a whole tag
 pub record BeginsWithTag (bytes : List ℕ) : Type 0 where
   pub text : List ℕ
   pub more : List ℕ

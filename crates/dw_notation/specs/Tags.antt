@@ -103,7 +103,7 @@ pub data IsSection : List ℕ → List Tag → Bool → Bool → Type 0 where
       → IsGap last gap → IsUnclosed next
       → IsSection (text ++ (gap ++ next)) tags true true
 
--- two names, without regard to the case of their letters
+-- whether two names are equal, without regard to the case of their letters
 abbrev pub same_name : List ℕ → List ℕ → Bool
 same_name [] [] = true
 same_name [] (b ∷ other) = false
@@ -127,11 +127,11 @@ game_of [] = 20
 game_of (byte ∷ text) = if is_blank byte then game_of text
     else (if is_ascii_digit byte then number_on (byte - 48) text else 20)
 
--- international draughts is game 20, on ten rows; a tag of any other game is wrong, and on any other board each
+-- whether a GameType tag is wrong: it names another game than 20, international draughts, or the board has not ten rows
 abbrev pub is_wrong : Geometry → List ℕ → Bool
 is_wrong g games = list_any (λ game. not ((g.rows == 10) && (game == 20))) games
 
--- the position of the FEN tags' values, or their fault
+-- the position that the value of the only FEN tag names, or the fault
 abbrev pub FensSay : Geometry → List (List ℕ) → Found → Type 0
 FensSay g [] found = found ≡ Err NoFen
 FensSay g (text ∷ []) found = FenSays g text found

@@ -22,11 +22,11 @@ squares_text mark squares = join_with_byte mark (map decimal squares)
 abbrev pub ends_text : ℕ → Move → List ℕ
 ends_text mark m = squares_text mark (m.from ∷ m.to ∷ [])
 
--- a move begins and ends where another does
+-- whether a listed move begins and ends where m does
 abbrev pub has_ends : Move → Listed → Bool
 has_ends m l = (l.step.from == m.from) && (l.step.to == m.to)
 
--- more than one of these moves begins and ends there
+-- whether more than one of these moves begins and ends where m does
 abbrev pub shares_ends : List Listed → Move → Bool
 shares_ends list m = nat_lt 1 (count_by (has_ends m) list)
 
@@ -34,7 +34,7 @@ shares_ends list m = nat_lt 1 (count_by (has_ends m) list)
 abbrev pub capture_text : List Listed → Listed → List ℕ
 capture_text list l = if shares_ends list l.step then squares_text cross l.path else ends_text cross l.step
 
--- how one of these moves is written: as 32-28 if it takes nothing
+-- the text of one of these moves: as 32-28 if it takes nothing, and else as a capture
 abbrev pub text_among : List Listed → Listed → List ℕ
 text_among list l = if set.len l.step.taken == 0 then ends_text dash l.step else capture_text list l
 

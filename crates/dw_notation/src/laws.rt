@@ -4,21 +4,22 @@ ghost use Rattle.dw_notation.specs.TagLaws.{TextsOfTagsSay, OneTagAtFront};
 ghost use Rattle.dw_notation.specs.TextLaws.{MovesHaveTexts, EndsTell, LinesHaveTexts};
 ghost use Rattle.dw_notation.specs.MoveReadingLaws.{NamesOneThing, HasOneAnswer, WrittenMoveIsNamed, WrittenMoveIsRead};
 
-/// Each text has its problems, and no others.
+/// Each text has exactly one list of problems, whether or not more bytes may come.
 pub fn texts_have_problems()
     ensures { TextsHaveProblems }
 {
     dw_board::laws::reading_is_grammar();
 }
 
-/// Each text of tags says one row of problems, and no other: before they are numbered, and with its mark.
+/// Each text of tags has exactly one list of problems before they are numbered. A byte-order mark is a byte like any
+/// other there.
 pub fn texts_of_tags_say()
     ensures { TextsOfTagsSay }
 {
     dw_board::laws::reading_is_grammar();
 }
 
-/// Each text begins with one whole tag, which `read_tag` reads of it, or with none.
+/// Each text begins with one whole tag, which `read_tag` returns, or with none.
 pub fn one_tag_at_front()
     ensures { OneTagAtFront }
 {}

@@ -19,10 +19,10 @@ use std::marker::Model;
 /// The most moves of a line: 20 of the attacker, and 19 of the defender between them.
 pub const MAX_MOVES: usize = 20 + 19;
 
-/// The bytes that suffice for the text of each line, with room for one more move number.
+/// Enough bytes for the text of any line, with room for one more move number.
 pub const LINE_ROOM: usize = (MAX_MOVES + 1) * MOVE_ROOM;
 
-/// A move of a line: the position after it, and how long the text is up to its end.
+/// A move of a line, the position after it, and the length of the text up to its end.
 #[derive(Drop)]
 struct WrittenMove<B: Board> {
     mv: Move<B>,
@@ -68,7 +68,7 @@ impl<B: Board> Model for LineText<B> {
 }
 
 impl<B: Board> LineText<B> {
-    /// Returns the text of no move.
+    /// Returns the text of a line without moves, which starts from this position.
     pub fn new(start: &Position<B>) -> Self
         ensures { result ≡ record { start = start.now; moves = [] } }
     {
@@ -79,8 +79,8 @@ impl<B: Board> LineText<B> {
         }
     }
 
-    /// Switches to another line of at most 39 moves, each legal after those before it. Only the text after the shared
-    /// moves is written again. If out of memory, the text is that of some first moves of the line.
+    /// Switches to another line, which must have at most 39 moves, each legal after those before it. Only the text
+    /// after the shared moves is written again. If out of memory, the text is that of some first moves of the line.
     pub fn switch_to(&mut self, alloc: Global, line: &[Move<B>]) -> Result<(), AllocError>
         requires few { length line.now ≤ 39 }
         requires legal { ArePlayable B.geometry self.old.start line.now }
@@ -105,7 +105,7 @@ impl<B: Board> LineText<B> {
         self.text.as_str()
     }
 
-    /// Returns how many first moves a line has in common with the moves.
+    /// Returns the number of first moves that a line shares with the present one.
     fn shared(&self, line: &[Move<B>]) -> usize
         ensures fits { result ≤ length line.now }
         ensures same { take result line.now ≡ take result self.now.moves }
@@ -129,7 +129,7 @@ impl<B: Board> LineText<B> {
         self.text.truncate(len);
     }
 
-    /// Goes on with a legal move; or nothing is changed, if out of memory.
+    /// Adds a move, which must be legal after fewer than 39 others. If out of memory, it changes nothing.
     fn push(&mut self, alloc: Global, mv: &Move<B>) -> Result<(), AllocError>
         requires few { length self.old.moves < 39 }
         requires legal { Legal B.geometry (after_moves B.geometry self.old.start self.old.moves) mv.now }
@@ -175,7 +175,8 @@ fn len_to<B: Board>(plies: &[WrittenMove<B>], moves: usize) -> usize
     }
 }
 
-/// Returns the text of a line of at most 39 moves, each legal after those before it; or an error if out of memory.
+/// Returns the text of a line, or an error if out of memory. The line must have at most 39 moves, each legal after
+/// those before it.
 ///
 /// The attacker is the side to move in the position. Its moves are numbered, whichever colour it has, and all is joined
 /// by blanks: `1. 45-40 16-21 2. 27x16`. The text of no move is empty.

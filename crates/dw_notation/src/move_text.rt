@@ -15,10 +15,11 @@ use std::alloc::{AllocError, Global};
 /// The most bytes of a move's text, 62: two digits for each square of a path, and a sign between each two of them.
 pub const MAX_MOVE_TEXT: usize = 3 * LONGEST_PATH - 1;
 
-/// The bytes that suffice for each move's text, with one byte before and one after it.
+/// Enough bytes for any move's text, with one byte before and one after it.
 pub const MOVE_ROOM: usize = MAX_MOVE_TEXT + 2;
 
-/// Returns the text of the move at a place, from 0 on, in the list of all legal moves of a position.
+/// Returns the text of the move at a place, which must be in the list. Places count from 0, and the list has all legal
+/// moves of a position.
 ///
 /// A quiet move is written `32-28`. A capture is written `32x23`, unless another legal move has the same start and end:
 /// then each of these is written with all squares of its path, as `47x36x27x18x9x20`.
@@ -38,8 +39,8 @@ pub fn move_text<B: Board>(list: &[Listed<B>], place: usize) -> ArrayString<MOVE
     }
 }
 
-/// Returns the text of a legal move of a position; or an error if out of memory. Only a capture that shares its ends
-/// with another one takes any.
+/// Returns the text of a move, which must be legal, or an error if out of memory. Only a capture that shares its ends
+/// with another one allocates.
 pub fn text_in<B: Board>(
     alloc: Global,
     position: &Position<B>,
@@ -74,7 +75,7 @@ fn listed_text<B: Board>(
     Ok(move_text(list.as_slice(), place))
 }
 
-/// Returns the place of a move in a list that has it.
+/// Returns the place of a move in a list, which must have it.
 fn place_of<B: Board>(list: &[Listed<B>], mv: &Move<B>) -> usize
     requires { HasStep list.now mv.now }
     ensures within { result < length list.now }

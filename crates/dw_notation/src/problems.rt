@@ -32,7 +32,7 @@ pub const MAX_READ: usize = 2048;
 /// One byte more than the longest FEN text. A reader keeps this much of a FEN tag's value, to see if it is too long.
 const PAST_FEN: usize = MAX_FEN + 1;
 
-/// How a text holds its problems.
+/// The form in which a text holds its problems.
 #[derive(Clone, Copy, Debug, PartialEq, Eq)]
 pub enum Form {
     /// One FEN text a line. Lines of blanks alone are passed over.

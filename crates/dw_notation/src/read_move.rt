@@ -70,7 +70,7 @@ pub fn read_move<B: Board>(
     capture(alloc, position, squares.as_slice())
 }
 
-/// Returns the squares of a quiet move, if a text names one.
+/// Returns the two squares of a quiet move, or `None` if a text names none.
 fn quiet_named<B: Board>(text: &[u8]) -> Option<(Square<B>, Square<B>)>
     ensures { MatchOption result ((from to : ℕ) → Names B.geometry text.now (QuietMove from to)
         → ⊥) (λ r. Names B.geometry text.now (QuietMove r.0 r.1)) }
@@ -85,7 +85,7 @@ fn quiet_named<B: Board>(text: &[u8]) -> Option<(Square<B>, Square<B>)>
     Some((from, square_named(rest)?))
 }
 
-/// Returns the start of a capture and squares on which it lands, if a text names one.
+/// Returns the start of a capture and the squares on which it lands, or `None` if a text names none.
 fn capture_named<B: Board>(text: &[u8]) -> Option<ArrayVec<Square<B>, LONGEST_PATH>>
     ensures { MatchOption result
         ((squares : List ℕ) → Names B.geometry text.now (Capture squares) → ⊥)
@@ -122,7 +122,8 @@ fn is_cross(byte: u8) -> bool
     byte == b'x' || byte == b'X'
 }
 
-/// Returns the square numbered by the digits at the front of a text, and the rest of the text.
+/// Returns the square numbered by the digits at the front of a text, and the rest of the text; or `None` if they number
+/// none.
 fn first_square<B: Board>(text: &[u8]) -> Option<(Square<B>, &[u8])>
     ensures { MatchOption result (BeginsNowhere B.geometry text.now) (λ r. Begins B.geometry text.now r.0 r.1.now) }
 {
@@ -130,7 +131,7 @@ fn first_square<B: Board>(text: &[u8]) -> Option<(Square<B>, &[u8])>
     Some((square_named(digits)?, rest))
 }
 
-/// Returns the quiet move between two squares.
+/// Returns the legal quiet move between two squares, or the fault `NoSuchMove`.
 fn quiet_move<B: Board>(
     position: &Position<B>,
     from: Square<B>,
@@ -146,7 +147,8 @@ fn quiet_move<B: Board>(
     }
 }
 
-/// Returns the capture that is named by its start and squares on which it lands.
+/// Returns the legal capture named by its start and squares on which it lands, of which there must be two or more in
+/// all; or a fault.
 fn capture<B: Board>(
     alloc: Global,
     position: &Position<B>,
@@ -161,7 +163,7 @@ fn capture<B: Board>(
     }
 }
 
-/// Returns the capture between two squares.
+/// Returns the only legal capture between two squares, or a fault.
 fn capture_between<B: Board>(
     alloc: Global,
     position: &Position<B>,
@@ -174,7 +176,7 @@ fn capture_between<B: Board>(
     only_capture(moves.as_slice(), from, to)
 }
 
-/// Returns the capture between two squares among these moves.
+/// Returns the only capture between two squares among these moves, which must be different; or a fault.
 fn only_capture<B: Board>(
     moves: &[Move<B>],
     from: Square<B>,

@@ -25,8 +25,8 @@ pub trait Source {
     /// A bound on the pulls that can still give bytes.
     ghost pulls_left: { Self → ℕ };
 
-    /// Puts the next bytes at the front of the buffer, and answers how many: none only at the end. `None` is a failure,
-    /// and each later pull fails too.
+    /// Puts the next bytes at the front of the buffer, which must not be empty, and returns their number: 0 only at the
+    /// end. `None` is a failure, and each later pull returns `None` too.
     fn pull(&mut self, buffer: &mut [u8]) -> Option<usize>
         requires { 0 < length buffer.old }
         ensures bytes { PullTakes (coming self.old) (coming self.new) result buffer.new }
@@ -48,8 +48,8 @@ pub trait Sink {
     /// Whether a give has failed.
     ghost is_failed: { Self → Bool };
 
-    /// Takes bytes from the front of the piece, and answers how many. To take none of a piece that is not empty is a
-    /// failure. `None` is one too, and each later give fails with it.
+    /// Takes bytes from the front of the piece, and returns their number. `None` is a failure, and so is 0 for a piece
+    /// that is not empty. After a failure each give returns `None`.
     fn give(&mut self, piece: &[u8]) -> Option<usize>
         ensures bytes { GiveAdds (taken self.old) (taken self.new) result piece.now }
         ensures failed { GiveFails (is_failed self.old) (is_failed self.new) result piece.now }

@@ -29,8 +29,8 @@ impl Tag<'_> {
     }
 }
 
-/// Returns the whole tag that a text begins with, if it begins with one. By `laws::one_tag_at_front` it begins with no
-/// other.
+/// Returns the whole tag that a text begins with, or `None` if it begins with none. By `laws::one_tag_at_front` it
+/// begins with no other.
 pub fn read_tag<'t>(alloc: Global, text: &'t [u8]) -> Result<Option<Tag<'t>>, AllocError>
     ensures some { IfOk result (λ found. IfSome found (λ tag. (more : List ℕ) × (text.now ≡ tag.text.now ++ more)
         × IsTag tag.text.now (said_by_tag tag))) }
@@ -64,7 +64,7 @@ pub fn read_tag<'t>(alloc: Global, text: &'t [u8]) -> Result<Option<Tag<'t>>, Al
     Ok(None)
 }
 
-/// Returns the rest of a text after its first bracket.
+/// Returns the rest of a text after its first bracket, or `None` if it does not begin with one.
 fn behind_bracket(text: &[u8]) -> Option<&[u8]>
     ensures { MatchOption result ((inside : List ℕ) → text.now ≡ 91 ∷ inside → ⊥)
         (λ inside. text.now ≡ 91 ∷ inside.now) }
@@ -75,7 +75,7 @@ fn behind_bracket(text: &[u8]) -> Option<&[u8]>
     }
 }
 
-/// Returns the tag of a text, given the length of its name, and its value.
+/// Returns the tag of a text, which must be a whole tag with a name of this length, and this value.
 fn tag_of<'t>(text: &'t [u8], named: usize, value: Vec<u8>) -> Tag<'t>
     requires { (said : Said) × IsTag text.now said × (length said.name ≡ named) }
     ensures text { result.text.now ≡ text.now }
@@ -88,7 +88,7 @@ fn tag_of<'t>(text: &'t [u8], named: usize, value: Vec<u8>) -> Tag<'t>
     Tag { text, name, value }
 }
 
-/// Returns how many blanks stand at the front of a text.
+/// Returns the number of blanks at the front of a text.
 fn blanks_before(text: &[u8]) -> usize
     ensures within { result ≤ length text.now }
     ensures all { list_all is_blank_byte (take result text.now) ≡ true }

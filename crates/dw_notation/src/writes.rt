@@ -13,7 +13,7 @@ pub enum WriteFault {
     Failed,
 }
 
-/// Gives a piece to the sink, to its end. At a fault the sink has taken some beginning of the piece, and has failed.
+/// Gives the whole piece to the sink. At a fault the sink has taken some beginning of the piece, and has failed.
 pub fn write_all<K: Sink>(sink: &mut K, piece: &[u8]) -> Result<(), WriteFault>
     ensures ok { OnOk result (Appends (K.taken sink.old) (K.taken sink.new) piece.now) }
     ensures err { OnErr result (StopsShort (K.taken sink.old) (K.taken sink.new) piece.now) }

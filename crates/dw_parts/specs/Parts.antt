@@ -2,7 +2,7 @@
 use Rattle.std.specs.Prelude.{ℕ, ◌+◌, ◌%◌, ◌≤◌, ◌==◌, ◌↔◌, if◌then◌else◌, List, [], ◌∷◌}
 use Rattle.dw_board.specs.Lists.{Member}
 
--- those of a list whose place leaves the same rest as i when it is divided by m; the first one has this place
+-- the items of a list whose place leaves the same remainder as i when it is divided by m; the first one has this place
 abbrev pub part_from : {X : Type 0} → (place i m : ℕ) → List X → List X
 part_from place i m [] = []
 part_from place i m (x ∷ xs) =

@@ -1,7 +1,7 @@
 //! A law of the definitions, the contract of a function that does nothing.
 ghost use Rattle.dw_parts.specs.Parts.{PartsAreTheWhole};
 
-/// Each item of a list is in just one of its parts, and a part has nothing else.
+/// An item is in a list exactly if it is in one of its parts.
 pub fn parts_are_the_whole<T>()
     ensures { PartsAreTheWhole T }
 {}

@@ -10,18 +10,18 @@ pub mod laws;
 
 use std::alloc::{AllocError, Global};
 
-/// A part of a list: the items whose place, counted from 1, leaves the same rest as `number` when it is divided by
+/// A part of a list: the items whose place, counted from 1, leaves the same remainder as `number` when it is divided by
 /// `parts`.
 #[derive(Clone, Copy, Debug, PartialEq, Eq)]
 pub struct Part {
-    /// Which part, from 1 on.
+    /// The number of the part, from 1 on.
     pub number: u32,
     /// The number of parts, at least 1.
     pub parts: u32,
     pub ghost some: { 1 ≤ parts },
 }
 
-/// Returns the items of a part of a list, in their order.
+/// Returns the items of a part of a list, in their order, or an error if out of memory.
 pub fn part_of<T: Copy>(alloc: Global, all: &[T], part: Part) -> Result<Vec<T>, AllocError>
     ensures { IfOk result (λ some. some.items ≡ part_of part.number part.parts all.now) }
 {

@@ -1,4 +1,4 @@
--- What is written of a verdict and of tries.
+-- The text of a verdict and of tries.
 use Rattle.std.specs.Prelude.{◌≡◌, ℕ, ◌+◌, ◌/◌, List, [], ◌∷◌, ◌++◌, length, codes, decimal}
 use Rattle.dw_board.specs.Geometry.{Geometry}
 use Rattle.dw_board.specs.Placement.{Placement}
@@ -10,7 +10,7 @@ use Rattle.dw_verdict.specs.Verdict.{Verdict, unsolvable, cooked, dual, sound, I
 abbrev pub next_number : List Move → ℕ
 next_number beginning = length beginning / 2 + 1
 
--- a verdict in words
+-- the line of a verdict
 abbrev pub IsVerdictText : Geometry → Placement → ℕ → Verdict → List ℕ → Type 0
 IsVerdictText g p n unsolvable text = text ≡ codes "unsolvable in " ++ decimal n ++ codes "\n"
 IsVerdictText g p n (cooked shortest keys) text = (moves : List ℕ) × AreJoined g p (codes ", ") keys moves

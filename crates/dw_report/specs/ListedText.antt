@@ -1,4 +1,4 @@
--- What is written of the lines of a position.
+-- The text of the lines of a position.
 use Rattle.std.specs.Prelude.{◌≡◌, ℕ, ◌≤◌, ◌⊎◌, Option, Some, None, List, [], ◌∷◌, ◌++◌, length, codes, decimal, ◌||◌}
 use Rattle.std.specs.Prelude.{◌==◌, if◌then◌else◌}
 use Rattle.dw_board.specs.Geometry.{Geometry}
@@ -16,7 +16,7 @@ AreLineTexts g p (l ∷ lines) text = (line : List ℕ) × (rest : List ℕ) × 
     × AreLineTexts g p lines rest
     × (text ≡ line ++ codes "\n" ++ rest)
 
--- all of these lines, if there are at most `most`, and their number
+-- the text has all of these lines, at most as many as may be listed, and then their number
 pub record IsComplete (g : Geometry) (p : Placement) (most : ℕ) (lines : List (List Move))
     (text : List ℕ) : Type 0 where
   pub few : length lines ≤ most
@@ -24,12 +24,13 @@ pub record IsComplete (g : Geometry) (p : Placement) (most : ℕ) (lines : List 
   pub are : AreLineTexts g p lines texts
   pub is : text ≡ texts ++ codes "complete " ++ decimal (length lines) ++ codes "\n"
 
--- that more lines are left, and after which one on boards of 10 and 8 rows, on which lines have tokens
+-- the last line of a list that is cut: `more after` and the token of its last line of play; or `more` alone on boards
+-- that have not 10 or 8 rows, where lines have no tokens
 unfoldable pub more_after : Geometry → List Move → List ℕ
 more_after g last =
     if (g.rows == 10) || (g.rows == 8) then codes "more after " ++ token_of g last ++ codes "\n" else codes "more\n"
 
--- the first ones of these lines, as many as may be listed, and that more are left
+-- the text has the first ones of these lines, as many as may be listed, and then says that more are left
 pub record IsCut (g : Geometry) (p : Placement) (most : ℕ) (lines : List (List Move)) (text : List ℕ) : Type 0 where
   pub earlier : List (List Move)
   pub last : List Move
@@ -41,7 +42,7 @@ pub record IsCut (g : Geometry) (p : Placement) (most : ℕ) (lines : List (List
   pub are : AreLineTexts g p (earlier ++ last ∷ []) texts
   pub is : text ≡ texts ++ more_after g last
 
--- all of these lines, or the first ones, as many as are asked for
+-- all of these lines, or the first ones, as many as may be listed
 abbrev pub IsListing : Geometry → Placement → ℕ → List (List Move) → List ℕ → Type 0
 IsListing g p most lines text = IsComplete g p most lines text ⊎ IsCut g p most lines text
 

@@ -37,7 +37,7 @@ fen_fault_text Rest = codes "9 rest"
 fen_fault_text TooLong = codes "10 too long"
 fen_fault_text RangeBackwards = codes "11 range backwards"
 
--- why a problem is refused
+-- the reason for a refusal: the number and the name of its fault, and its place in a FEN text
 abbrev pub refusal_text : ProblemFault → List ℕ
 refusal_text (Fen fault) = codes "1 fen: " ++ fen_fault_text fault.what ++ codes " at " ++ decimal fault.place
 refusal_text NoFen = codes "2 no fen"
@@ -63,7 +63,7 @@ first_line g problem = codes "problem " ++ decimal problem.number ++ codes ": " 
 abbrev pub move_line : Geometry → Placement → List Listed → Listed → List ℕ
 move_line g p list l = text_among list l ++ codes " " ++ written g (play g p l.step) ++ codes "\n"
 
--- the lines of all legal moves in order, how many there are, and how many pieces each of them takes
+-- the lines of all legal moves in order, then their number, and the number of pieces that each of them takes
 pub record IsMovesText (g : Geometry) (p : Placement) (text : List ℕ) : Type 0 where
   pub list : List Listed
   pub all : AreListed g p list
@@ -101,7 +101,7 @@ AreTexts g request (problem ∷ problems) text =
 abbrev pub chosen : Option ℕ → List Numbered → List Numbered
 chosen only problems = filter (λ problem. number_is_chosen only problem.number) problems
 
--- the texts of the chosen ones among some problems
+-- the texts of the chosen problems among these
 abbrev pub IsReportOn : Geometry → Request → List Numbered → List ℕ → Type 0
 IsReportOn g request problems text = AreTexts g request (chosen request.only problems) text
 

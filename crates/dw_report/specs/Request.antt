@@ -1,12 +1,12 @@
--- The request of a report, and so the problems that it is on. It has no limit, no memo and no order of moves.
+-- The request for a report, which has no limit, no memo and no order of moves.
 use Rattle.std.specs.Prelude.{ℕ, Option, option_map, List, ◌==◌, Bool, true, false, Some, None}
 use Rattle.dw_moves.specs.Moves.{Move}
 use Rattle.dw_notation.specs.declared.problems.Form.{Form}
 use Rattle.dw_report.specs.declared.settings.Command.{Command}
 use Rattle.dw_report.specs.declared.settings.Settings.{Settings}
 
--- the command; how the text holds its problems; within how many moves a win is looked for; the number of the one
--- problem to report, or all; the most lines to list; the line after which they begin, or from the first line on
+-- the command; the form of the text; the number of moves within which to win; the number of the only problem to report,
+-- or all; the most lines to list; the line after which they begin, or none
 pub record Request : Type 0 where
   pub command : Command
   pub form : Form
@@ -26,12 +26,12 @@ request_of settings = record {
   after = option_map (λ line. line.items) settings.after;
 }
 
--- all problems are chosen, or the one of a number
+-- whether the problem of a number is reported: all are, or the only one requested
 abbrev pub number_is_chosen : Option ℕ → ℕ → Bool
 number_is_chosen None number = true
 number_is_chosen (Some only) number = number == only
 
--- the problem of a number is requested, or none
+-- whether the problem of a number is the only one requested
 abbrev pub number_is_asked : Option ℕ → ℕ → Bool
 number_is_asked None number = false
 number_is_asked (Some only) number = number == only

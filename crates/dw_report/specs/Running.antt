@@ -22,7 +22,7 @@ use Rattle.dw_report.specs.declared.settings.RunFault.TheVariants as ends
 use Rattle.dw_report.specs.declared.settings.Command.{Command}
 use Rattle.dw_report.specs.declared.settings.Command.TheVariants as asked
 
--- the problems up to the one asked for
+-- the problems up to the only one requested, or all
 abbrev pub up_to_asked : Option ℕ → List Numbered → List Numbered
 up_to_asked only [] = []
 up_to_asked only (first ∷ more) = first ∷ (if number_is_asked only first.number then [] else up_to_asked only more)
@@ -32,12 +32,12 @@ abbrev pub IsNoLine : Geometry → Placement → ℕ → Option (List Move) → 
 IsNoLine g p n None = ⊥
 IsNoLine g p n (Some l) = Line g p n l → ⊥
 
--- the problem is refused, or the line after which its lines are asked for
+-- the problem is refused, or its lines are to be listed after moves that are no line of it
 abbrev pub IsRefused : Geometry → Request → Found → Type 0
 IsRefused g request (Ok p) = (request.command ≡ asked.List) × IsNoLine g p request.moves request.after
 IsRefused g request (Err fault) = Unit {0}
 
--- this number of these problems is refused
+-- this number of these problems are refused
 abbrev pub AreRefused : Geometry → Request → List Numbered → ℕ → Type 0
 AreRefused g request [] count = count ≡ 0
 AreRefused g request (problem ∷ problems) count =
@@ -61,7 +61,8 @@ pub record ReadsUpTo (g : Geometry) (form : Form) (number : ℕ) (read : List �
   pub are : AreProblems g form false before ended
   pub fewer : length ended < number
 
--- the source was read to its end, or up to the problem with which the run ends: the one asked for, or one too many
+-- the source was read to its end, or up to the problem with which the run ends: the only one requested, or the one too
+-- many
 abbrev pub IsReadThrough : Geometry → Request → List Numbered → Option (List ℕ) → List ℕ → Type 0
 IsReadThrough g request problems left read =
     IsAtEnd left ⊎ ((number : ℕ) × ((request.only ≡ Some number) ⊎ (number ≡ MAX_PROBLEMS + 1))
@@ -78,7 +79,8 @@ pub record Finishes (g : Geometry) (request : Request) (bytes : List ℕ) (left 
   pub took : Consumes (Some bytes) left read
   pub through : IsReadThrough g request problems left read
 
--- after a failed read the sink has the texts of just the chosen problems that end in the bytes read, none asked for
+-- after a failed read the sink has the texts of the chosen problems that ended in the bytes read, and nothing else; a
+-- problem requested alone is not among them
 pub record StopsReading (g : Geometry) (request : Request) (bytes : List ℕ)
     (left taken after : Option (List ℕ)) : Type 0 where
   pub read : List ℕ
@@ -136,7 +138,8 @@ pub record StopsAhead (P : (read text out : List ℕ) → Type 0) (bytes : List 
   pub wrote : Appends taken after out
   pub front : ((more : List ℕ) → P read (read ++ more) out) ⊎ ((ended ≡ true) × P read read out)
 
--- the effect of a run, if the source tells its bytes
+-- the output of a run, if the source tells its bytes: the whole report; or after a stop, a failed read or a failed
+-- write a beginning of it
 abbrev pub RunEnds : Geometry → Request → Option (List ℕ) → Option (List ℕ) → Bool → Option (List ℕ)
     → Option (List ℕ) → Result Summary RunFault → Type 0
 RunEnds g request None left ended taken after result = Unit {0}
@@ -147,14 +150,15 @@ RunEnds g request (Some bytes) left ended taken after (Err ends.Read) = StopsRea
 RunEnds g request (Some bytes) left ended taken after (Err ends.Write) =
     StopsAhead (λ read text out. BeginsReport g request text out) bytes left ended taken after
 
--- positions are shown without a stop, moves listed with none but want of memory; a search may stop at its limit too
+-- how a run may be stopped: `show` never; `moves` only for lack of memory, with nothing expanded; a search for lack of
+-- memory, or at its limit, which the expansions never pass
 abbrev pub MayStop : Command → ℕ → Stop → ℕ → Type 0
 MayStop asked.Show limit why expanded = ⊥
 MayStop asked.Moves limit why expanded = (why ≡ Memory) × (expanded ≡ 0)
 MayStop searches limit Limit expanded = expanded ≡ limit
 MayStop searches limit Memory expanded = expanded ≤ limit
 
--- how a run is stopped, if it is
+-- a run is stopped only as its command and its limit allow
 abbrev pub StopsRightly : Command → ℕ → Result Summary RunFault → Type 0
 StopsRightly command limit result =
     (why : Stop) (expanded : ℕ) → result ≡ Err (ends.Stopped why expanded) → MayStop command limit why expanded

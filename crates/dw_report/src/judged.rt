@@ -29,8 +29,8 @@ use dw_verdict::{Judged, Verdict};
 use itoa::Buffer;
 use std::alloc::{AllocError, Global};
 
-/// Writes the verdict on a position, for a win within `moves` moves of the side to move, and then its tries. Each line
-/// is written as soon as it is known.
+/// Writes the verdict on a position, for a win of the side to move within `moves` moves, which must be from 1 to 20,
+/// and then its tries. Each line is written as soon as it is known.
 pub(crate) fn write_judged<B: Board, K: Sink, M: Memo<B>, G: Guide<B>>(
     alloc: Global,
     sink: &mut K,
@@ -53,8 +53,8 @@ pub(crate) fn write_judged<B: Board, K: Sink, M: Memo<B>, G: Guide<B>>(
     write_tries(alloc, sink, solver, position, moves)
 }
 
-/// Returns the text of a verdict and of the tries that `judge` answered, which `run` writes after a problem's first
-/// line.
+/// Returns the text of a verdict and of tries, as `run` writes it after a problem's first line. They must be those of
+/// the position for `moves` moves, as `judge` returns them.
 pub fn judged_text<B: Board>(
     alloc: Global,
     position: &Position<B>,
@@ -191,7 +191,7 @@ fn verdict_line<B: Board>(
     }
 }
 
-/// Returns the line of the verdict that several first moves win, or that there is a win in fewer moves.
+/// Returns the line of a cooked problem: several first moves win, or there is a win in fewer moves.
 fn cooked_line<B: Board>(
     alloc: Global,
     position: &Position<B>,
@@ -216,7 +216,7 @@ fn cooked_line<B: Board>(
     .concat(alloc)
 }
 
-/// Returns the line of the verdict that there is a choice after the first move.
+/// Returns the line of a problem with a dual: there is a choice after the first move.
 fn dual_line<B: Board>(
     alloc: Global,
     position: &Position<B>,
@@ -268,7 +268,7 @@ fn try_line<B: Board>(
     .concat(alloc)
 }
 
-/// Returns the position after moves, each legal after those before it.
+/// Returns the position after moves, each of which must be legal after those before it.
 pub(crate) fn reached<B: Board>(position: &Position<B>, moves: &[Move<B>]) -> Position<B>
     requires { ArePlayable B.geometry position.now moves.now }
     ensures { result ≡ reach B.geometry position.now moves.now }
@@ -280,7 +280,7 @@ pub(crate) fn reached<B: Board>(position: &Position<B>, moves: &[Move<B>]) -> Po
     current
 }
 
-/// Returns the texts of legal moves of a position, with a mark between them.
+/// Returns the texts of moves, which must all be legal in the position, with a mark between them.
 pub fn joined_text<B: Board>(
     alloc: Global,
     position: &Position<B>,

@@ -32,7 +32,7 @@ use dw_solve::{Guide, Solver, Stop};
 use itoa::Buffer;
 use std::alloc::Global;
 
-/// The bytes that suffice for each line's text and a line feed.
+/// Enough bytes for any line's text and a line feed.
 const ROW_ROOM: usize = LINE_ROOM + 1;
 
 /// Writes the lines of a position, each as soon as it is known: all of them, or those after the line in the settings,
@@ -103,7 +103,8 @@ fn write_asked<B: Board, K: Sink, M: Memo<B>, G: Guide<B>>(
     }
 }
 
-/// Writes at most `most` lines of a lister's position after a given one. Returns whether that line is refused.
+/// Writes at most `most` lines of a position after a given line, and the end of the list. Returns whether that line is
+/// refused.
 fn write_after<B: Board, K: Sink, M: Memo<B>, G: Guide<B>>(
     alloc: Global,
     sink: &mut K,
@@ -180,7 +181,7 @@ fn write_listing<B: Board, K: Sink, M: Memo<B>, G: Guide<B>>(
     Ok(())
 }
 
-/// Copies the next line over another one, and answers whether there is one.
+/// Copies the next line over another one, and returns whether there is one.
 fn take_line<B: Board, M: Memo<B>, G: Guide<B>>(
     alloc: Global,
     lister: &mut Lister<'_, B, M, G>,
@@ -203,7 +204,7 @@ fn take_line<B: Board, M: Memo<B>, G: Guide<B>>(
     }
 }
 
-/// Takes the next line, and answers whether there is one.
+/// Takes the next line, and returns whether there is one.
 fn has_more<B: Board, M: Memo<B>, G: Guide<B>>(
     alloc: Global,
     lister: &mut Lister<'_, B, M, G>,
@@ -217,8 +218,8 @@ fn has_more<B: Board, M: Memo<B>, G: Guide<B>>(
     Ok(lister.next(alloc)?.is_some())
 }
 
-/// Writes the text of a line and a line feed. It is made of the text of another line. All memory is taken before a byte
-/// is written. What the row holds is overwritten.
+/// Writes the text of a line and a line feed. `text` switches to that line, and `row` is overwritten. All memory is
+/// taken before a byte is written.
 fn write_row<B: Board, K: Sink>(
     alloc: Global,
     sink: &mut K,
@@ -250,7 +251,7 @@ fn fill_row<B: Board>(row: &mut ArrayString<ROW_ROOM>, text: &LineText<B>)
     row.push('\n');
 }
 
-/// Returns the last line `complete K`.
+/// Returns the last line of a whole list, `complete K`.
 fn complete_row(count: u64) -> ArrayString<SHORT_ROOM>
     ensures { result.bytes ≡ codes "complete " ++ decimal count ++ codes "\n" }
 {
@@ -261,7 +262,7 @@ fn complete_row(count: u64) -> ArrayString<SHORT_ROOM>
     row
 }
 
-/// Writes that more lines are left, and after which one, if it has a token.
+/// Writes that more lines are left, with the token of the last one, if lines have tokens on this board.
 fn write_more<B: Board, K: Sink>(sink: &mut K, last: &[Move<B>]) -> Result<(), WriteFault>
     requires odd { length last.now % 2 ≡ 1 }
     requires most { length last.now ≤ 39 }

@@ -20,7 +20,8 @@ use dw_verdict::Verdict;
 use std::alloc::{AllocError, Global};
 use std::slice;
 
-/// Returns the texts of the keys that a verdict names: all first moves that win, in order.
+/// Returns the texts of the keys that a verdict names: all first moves that win, in order. It must be the verdict on
+/// the position for some number of moves.
 pub fn key_texts<B: Board>(
     alloc: Global,
     position: &Position<B>,
@@ -38,7 +39,8 @@ pub fn key_texts<B: Board>(
     }
 }
 
-/// Returns the text of the line before a choice, and the texts of the choices.
+/// Returns the text of the line before a choice, and the texts of the choices. They must be those of a dual of the
+/// position.
 pub fn dual_texts<B: Board>(
     alloc: Global,
     position: &Position<B>,
@@ -55,7 +57,7 @@ pub fn dual_texts<B: Board>(
     Ok((String::from_str(alloc, line.as_str())?, choices))
 }
 
-/// Returns the texts of tries, each with its reply.
+/// Returns the texts of tries, each with its reply. They must be all tries of the position for some number of moves.
 pub fn try_texts<B: Board>(
     alloc: Global,
     position: &Position<B>,
@@ -72,7 +74,7 @@ pub fn try_texts<B: Board>(
     Ok(texts)
 }
 
-/// Returns the text of a move and of a reply to it.
+/// Returns the text of a move and of a reply to it, both of which must be legal.
 pub(crate) fn try_words<B: Board>(
     alloc: Global,
     position: &Position<B>,
@@ -92,7 +94,7 @@ pub(crate) fn try_words<B: Board>(
     ))
 }
 
-/// Returns the texts of legal moves of a position, in their order.
+/// Returns the texts of moves, which must all be legal in the position, in their order.
 fn move_texts<B: Board>(
     alloc: Global,
     position: &Position<B>,

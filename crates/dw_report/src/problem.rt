@@ -91,7 +91,7 @@ pub(crate) fn write_problem<B: Board, K: Sink, M: Memo<B>, G: Guide<B>>(
 }
 
 /// Writes the text of the command except a diagram. Returns whether the line after which lines are listed was refused.
-/// The solver first learns that another problem begins.
+/// Before a search the solver is told that another problem begins.
 fn write_rest<B: Board, K: Sink, M: Memo<B>, G: Guide<B>>(
     alloc: Global,
     sink: &mut K,

@@ -17,8 +17,9 @@ use dw_solve::{Guide, Solver};
 use std::alloc::Global;
 
 /// Writes the report on the problems of the source: the whole text of each chosen problem, in order. One solver serves
-/// the whole run, with the memo, whose bounds must be right. The report depends neither on the memo nor on the guide. A
-/// list that is cut names the token of its last line on boards of 10 and 8 rows; other boards have no tokens.
+/// the whole run, with the memo, whose bounds must be right. The settings must be within their ranges, and neither
+/// stream may have failed before. The report depends neither on the memo nor on the guide. A list that is cut names the
+/// token of its last line on boards of 10 and 8 rows; other boards have no tokens.
 ///
 /// Reading ends at the end of the source, or after the requested problem. `Read` and `Write` come only if that stream
 /// failed. After `Read` the sink has the whole texts of the chosen problems that ended before, and the requested
@@ -88,7 +89,7 @@ fn write_report<B: Board, S: Source, K: Sink, M: Memo<B>, G: Guide<B>>(
     }
 }
 
-/// Returns how a run ends if a text was not written to its end, after `expanded` expansions.
+/// Returns the fault of a run that did not write a text to its end, after `expanded` expansions.
 fn ended(fault: TextFault, expanded: u64) -> RunFault
     ensures { result ≡ ended_by fault expanded }
 {
@@ -98,7 +99,7 @@ fn ended(fault: TextFault, expanded: u64) -> RunFault
     }
 }
 
-/// Writes the text of a problem, if it is chosen, and counts the problem.
+/// Writes the text of a problem if it is chosen, and returns the summary with the problem counted.
 fn report_problem<B: Board, K: Sink, M: Memo<B>, G: Guide<B>>(
     alloc: Global,
     sink: &mut K,

@@ -9,12 +9,12 @@ use dw_notation::{Form, MAX_MOVES};
 pub use dw_solve::Stop;
 use thiserror::Error;
 
-/// What is reported of each problem.
+/// The kind of report on each problem.
 #[derive(Clone, Copy, Debug, PartialEq, Eq)]
 pub enum Command {
     /// The position, as a diagram.
     Show,
-    /// All legal moves in order, each with the position after it; then how many they are, and how many pieces each
+    /// All legal moves in order, each with the position after it; then their number, and the number of pieces that each
     /// of them takes.
     Moves,
     /// The verdict: whether there is a forced win, and how well; then the tries.
@@ -27,9 +27,9 @@ pub enum Command {
 #[derive(Drop)]
 pub struct Settings<B: Board> {
     pub command: Command,
-    /// How the text holds its problems.
+    /// The form in which the text holds its problems.
     pub form: Form,
-    /// Within how many moves of the side to move a win is looked for, 1 to 20.
+    /// The number of moves of the side to move within which it is to win, 1 to 20.
     pub n: u8,
     /// The number of the one problem to report, or all. Reading ends after that problem.
     pub only: Option<u32>,
@@ -37,7 +37,7 @@ pub struct Settings<B: Board> {
     pub lines: u64,
     /// The line after which the list begins, or none: then it begins with the first line.
     pub after: Option<ArrayVec<Move<B>, MAX_MOVES>>,
-    /// How many positions may be expanded in the whole run, at least 1.
+    /// The number of positions that may be expanded in the whole run, at least 1.
     pub limit: u64,
 }
 
@@ -52,7 +52,7 @@ impl<B: Board> Settings<B> {
         }
     }
 
-    /// Returns whether the problem of this number is the one that was asked for: reading ends after it.
+    /// Returns whether the problem of this number is the only one that is requested, after which reading ends.
     pub fn asks_for(&self, number: u32) -> bool
         ensures { result ≡ number_is_asked self.now.only number }
     {
@@ -63,7 +63,7 @@ impl<B: Board> Settings<B> {
     }
 }
 
-/// What a run did.
+/// The counts of a run.
 #[derive(Clone, Copy, Debug, Default, PartialEq, Eq)]
 pub struct Summary {
     /// Problems read, 0 to 1,000,001.

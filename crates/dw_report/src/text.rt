@@ -17,22 +17,22 @@ use dw_notation::move_text::move_text;
 use dw_notation::{MOVE_ROOM, Problem, ProblemFault};
 use itoa::Buffer;
 
-/// The bytes that suffice for a few words and numbers.
+/// Enough bytes for a few words and numbers.
 pub(crate) const SHORT_ROOM: usize = 64;
 
-/// The bytes that suffice for why a problem is refused.
+/// Enough bytes for the reason of any refusal.
 pub const REFUSAL_ROOM: usize = 192;
 
-/// The bytes that suffice for a refusal after `refused: `.
+/// Enough bytes for `refused: ` and the reason.
 const REFUSED_ROOM: usize = 9 + REFUSAL_ROOM;
 
-/// The bytes that suffice for the line of a move: its text, a position, and the bytes around them.
+/// Enough bytes for the line of any move: its text, a position, and the bytes around them.
 const MOVE_LINE_ROOM: usize = MOVE_ROOM + FEN_ROOM + 8;
 
-/// The bytes that suffice for the first line of a problem's text.
+/// Enough bytes for the first line of any problem's text.
 const LINE_ROOM: usize = 254;
 
-/// The bytes that suffice for the part of a problem's text that is known at once.
+/// Enough bytes for the part of any problem's text that is known at once.
 const KNOWN_ROOM: usize = LINE_ROOM + DIAGRAM_ROOM;
 
 /// Returns the part of a problem's text that is known at once: its first line, and the diagram if positions are shown.
@@ -68,8 +68,8 @@ pub fn problem_line<B: Board>(problem: &Problem<B>) -> ArrayString<LINE_ROOM>
     line
 }
 
-/// Returns the line of a legal move: its text, and the position after it. The place is that of the move in the list of
-/// all.
+/// Returns the line of a legal move: its text, and the position after it. `list` must have all legal moves in order,
+/// and the place must be in it.
 pub(crate) fn move_line<B: Board>(
     position: &Position<B>,
     list: &[Listed<B>],
@@ -88,7 +88,7 @@ pub(crate) fn move_line<B: Board>(
     line
 }
 
-/// Returns the last line of a list of moves: how many they are, and how many pieces each of them takes.
+/// Returns the last line of a list of moves: their number, and the number of pieces that each of them takes.
 pub(crate) fn count_line(moves: usize, taken: u8) -> ArrayString<SHORT_ROOM>
     ensures { result.bytes ≡ line_of_count moves taken }
 {
@@ -110,7 +110,7 @@ fn refused_text(fault: ProblemFault) -> ArrayString<REFUSED_ROOM>
     text
 }
 
-/// Returns the reason for a refusal: the number and the name of its fault.
+/// Returns the reason for a refusal: the number and the name of its fault, and its place in a FEN text.
 pub fn refusal_text(fault: ProblemFault) -> ArrayString<REFUSAL_ROOM>
     ensures { result.bytes ≡ refusal_text fault }
 {

@@ -1,4 +1,4 @@
--- What the bounds in a memo say, and when they are right.
+-- The bounds in a memo as facts, and when they are right.
 use Rattle.std.specs.Prelude.{◌≡◌, ℕ, ◌-◌, ◌<◌, ◌≤◌, ◌⊎◌, Some}
 use Rattle.dw_board.specs.Geometry.{Geometry}
 use Rattle.dw_board.specs.Placement.{Placement}
@@ -25,11 +25,11 @@ pub record KnownWin (c : Content) (p : Placement) (w : ℕ) : Type 0 where
   pub is : entry.bounds.wins ≡ Some bound
   pub enough : bound ≤ w
 
--- whether there is a win within n moves can be read off the memo
+-- the memo decides whether there is a win within n moves
 abbrev pub IsDecided : Content → Placement → ℕ → Type 0
 IsDecided c p n = KnownWin c p n ⊎ KnownFail c p n
 
--- and so it can after each reply, if there is a move left to win within
+-- after each legal reply the memo decides whether there is a win within n moves, unless n is 0
 abbrev pub RepliesAreDecided : Geometry → Content → Placement → ℕ → Type 0
 RepliesAreDecided g c q n = (r : Move) → Legal g q r → (n ≡ 0) ⊎ IsDecided c (play g q r) n
 

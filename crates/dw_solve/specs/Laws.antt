@@ -33,13 +33,13 @@ pub record NoWinInOne : Type 0 where
 abbrev pub ClosedIsTrue : Type 0
 ClosedIsTrue = (g : Geometry) (c : Content) → IsClosed g c → AreTrue g c
 
--- of a content that is a map, each position that is decided at n is counted, once
+-- for a content that is a map, `decided_at` is the number of positions that it decides at n
 abbrev pub DecidedAreCounted : Type 0
 DecidedAreCounted = (c : Content) (n : ℕ) → IsMap c →
     (ps : List Placement) × NoRepeat ps × ((p : Placement) → Member p ps ↔ IsDecided c p n)
     × (length ps ≡ decided_at c n)
 
--- searches one after another are one search, which lost nothing if none of them did
+-- searches one after another are one search; if it lost nothing, none of them did
 pub record SearchesAddUp : Type 0 where
   pub none : (g : Geometry) (n : ℕ) (a : Moment) → Searched g n 0 a a
   pub next : (g : Geometry) (n s t : ℕ) (a b c : Moment) → Searched g n s a b → Searched g n t b c

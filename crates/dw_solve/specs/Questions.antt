@@ -1,4 +1,4 @@
--- What questions to a solver do to it.
+-- The effect of questions on a solver.
 use Rattle.std.specs.Prelude.{◌≡◌, ℕ, Result, IsErrOf}
 use Rattle.dw_board.specs.Geometry.{Geometry}
 use Rattle.dw_memo.specs.Content.{Content, SameEntries}

@@ -1,4 +1,4 @@
--- What a search does.
+-- The counts of a search.
 use Rattle.std.specs.Prelude.{◌≡◌, ℕ, ◌≤◌}
 
 -- A search counts the positions that it expands: the count never falls and never passes the limit, which stays.

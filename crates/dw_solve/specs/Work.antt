@@ -1,4 +1,4 @@
--- What searches leave in a memo, and how much they do.
+-- The effect of searches on a memo, and the amount of their work.
 use Rattle.std.specs.Prelude.{◌≡◌, ℕ, ◌+◌, ◌-◌, ◌^◌, ◌≤◌, ◌<◌, ◌⊎◌, List, length, filter, Result, Ok, Err}
 use Rattle.std.proofs.Common.{zero, suc}
 use Rattle.dw_board.specs.Geometry.{Geometry}
@@ -22,16 +22,16 @@ pub record Stronger (old new : Content) : Type 0 where
   pub wins : (p : Placement) (n : ℕ) → KnownWin old p n → KnownWin new p n
   pub fails : (p : Placement) (n : ℕ) → KnownFail old p n → KnownFail new p n
 
--- for how many positions it is decided whether they have a win within n moves
+-- the number of positions for which a content decides whether there is a win within n moves
 abbrev pub decided_at : Content → ℕ → ℕ
 decided_at c n = length (filter (λ (e : Entry). decides e.bounds n) c)
 
--- for how many pairs of a position and a number of moves from 1 to n
+-- the number of pairs of a position and a number of moves from 1 to n that a content decides
 abbrev pub decided_to : Content → ℕ → ℕ
 decided_to c zero = 0
 decided_to c (suc n) = decided_at c (suc n) + decided_to c n
 
--- no more positions have a new entry than were expanded
+-- at most as many positions have a new entry as were expanded
 pub record FewNew (before after : Moment) : Type 0 where
   pub positions : List Placement
   pub few : before.expanded + length positions ≤ after.expanded
@@ -61,8 +61,8 @@ pub record Searched (g : Geometry) (n cut : ℕ) (before after : Moment) : Type 
   pub counted : LossIsCounted before.lost after.lost
   pub worked : NothingLost before after → Worked g n cut before after
 
--- how many expansions of a search for a win within n moves are cut off: one for each move at most by a stop, none if
--- there is an answer
+-- the number of expansions that a search for a win within n moves may cut off: n if it was stopped, and none if there
+-- is an answer
 abbrev pub cut_off : {A E : Type 0} → Result A E → ℕ → ℕ
 cut_off (Ok answer) n = 0
 cut_off (Err stop) n = n

@@ -1,4 +1,4 @@
-//! In which order a search goes through moves.
+//! The order in which a search goes through moves.
 ghost use Rattle.std.specs.Prelude.{◌≡◌};
 ghost use Rattle.dw_moves.specs.Moves.{Legal, play};
 ghost use Rattle.dw_solve.specs.Trial.{IsCaptureRank, IsRankByTrial, IsTrial};
@@ -16,16 +16,16 @@ pub trait Guide<B: Board> {
     fn rank(&self, position: &Position<B>, mv: &Move<B>) -> u32
         requires { Legal B.geometry position.now mv.now };
 
-    /// Returns a rank that costs less, for moves of the attacker, and for replies to them if he has two moves left. If
-    /// a guide says nothing else, it is the rank.
+    /// Returns a cheaper rank, for moves of the attacker, and for replies if he has two moves left. By default it is
+    /// the rank.
     fn quick_rank(&self, position: &Position<B>, mv: &Move<B>) -> u32
         requires { Legal B.geometry position.now mv.now }
     {
         self.rank(position, mv)
     }
 
-    /// Returns the rank of a move that leads to this position. A guide that ranks moves by it need not make the move
-    /// again.
+    /// Returns the rank of a legal move, after which the position must be `_after`. A guide that ranks by that position
+    /// need not play the move again.
     fn rank_reached(&self, position: &Position<B>, mv: &Move<B>, _after: &Position<B>) -> u32
         requires legal { Legal B.geometry position.now mv.now }
         requires reached { _after.now ≡ play B.geometry position.now mv.now }
@@ -33,7 +33,7 @@ pub trait Guide<B: Board> {
         self.rank(position, mv)
     }
 
-    /// Returns the quick rank of a move that leads to this position.
+    /// Returns the quick rank of a legal move, after which the position must be `_after`.
     fn quick_rank_reached(&self, position: &Position<B>, mv: &Move<B>, _after: &Position<B>) -> u32
         requires legal { Legal B.geometry position.now mv.now }
         requires reached { _after.now ≡ play B.geometry position.now mv.now }
@@ -54,10 +54,11 @@ impl<B: Board> Guide<B> for AnyOrder {
     }
 }
 
-/// What a quiet move counts in a rank, and a square on which a capture ends.
+/// The weight in a rank of a quiet move, or of a square on which a capture ends.
 const PER_CHOICE: u32 = 2;
 
-/// What a piece counts that is taken. With this a search expands the fewest positions of all that were tried.
+/// The weight in a rank of each taken piece after the first. With this a search expands the fewest positions of all
+/// that were tried.
 const PER_PIECE: u32 = 3;
 
 /// Moves that leave the other side less choice come first. The rank is twice the `trial` of the move. If that is 0, and

@@ -1,31 +1,31 @@
-//! Which moves of the attacker won before.
+//! The moves of the attacker that won before.
 ghost use Rattle.std.specs.Prelude.{◌≤◌, ◌<◌};
 
 use crate::guide::Guide;
 use dw_board::{Board, Position};
 use dw_moves::Move;
 
-/// The numbers of squares, and 0, which no square has.
+/// The number of square numbers, with 0, which no square has.
 const NUMBERS: usize = 51;
 
 /// With fewer moves left a search puts no moves of the attacker in order, and no win is counted.
 pub(crate) const FEWEST_LEFT: u8 = 2;
 
-/// A win with more moves left than this counts no more.
+/// A win with more moves left counts as one with this number.
 const MOST_DOUBLINGS: u8 = 12;
 
 /// A step of a quick rank counts as this number of doublings in the history.
 const PER_RANK: u32 = 4;
 
-/// How much the moves between each two squares won since the question was asked. It is an order among moves, and no
-/// answer depends on it.
+/// How much the attacker's moves between each two squares won in the present question. It orders moves, and no answer
+/// depends on it.
 #[derive(Drop)]
 pub(crate) struct History {
     rows: [Row; NUMBERS],
     is_empty: bool,
 }
 
-/// How much the moves from one square to each won.
+/// How much the moves from one square to each other one won.
 #[derive(Clone, Copy)]
 struct Row {
     won: [u32; NUMBERS],
@@ -49,8 +49,8 @@ impl History {
         }
     }
 
-    /// Forgets all wins. That costs nothing if there are none, as after most questions for few moves, and little if
-    /// they are of few squares.
+    /// Forgets all wins. This costs nothing if there are none, as after most questions for few moves, and little if
+    /// they began on few squares.
     pub(crate) fn forget(&mut self) {
         if self.is_empty {
             return;
@@ -63,7 +63,8 @@ impl History {
         }
     }
 
-    /// Records a winning move with a number of moves left. Each of these moves doubles its weight.
+    /// Records a winning move with a number of moves left, each of which doubles its weight. With fewer than
+    /// `FEWEST_LEFT` it records nothing.
     pub(crate) fn add<B: Board>(&mut self, mv: &Move<B>, moves: u8) {
         if moves < FEWEST_LEFT {
             return;

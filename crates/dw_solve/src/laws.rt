@@ -23,8 +23,7 @@ pub fn wins_have_lines()
     moves_listed()
 }
 
-/// There is no win in one move if the other side always has a reply, as it has if pieces of it that cannot be taken
-/// have steps to two squares.
+/// There is no win in one move if the other side always has a reply, and so none if it has a sure one.
 pub fn no_win_in_one()
     ensures { NoWinInOne }
 {
@@ -36,12 +35,13 @@ pub fn closed_is_true()
     ensures { ClosedIsTrue }
 {}
 
-/// What a memo is said to decide at some number of moves is the number of the positions that it decides.
+/// The count `decided_at` of a memo is the number of positions for which it decides whether there is a win within n
+/// moves.
 pub fn decided_are_counted()
     ensures { DecidedAreCounted }
 {}
 
-/// Searches one after another are one search.
+/// Searches one after another are one search. If it lost nothing, none of them did.
 pub fn searches_add_up()
     ensures { SearchesAddUp }
 {}

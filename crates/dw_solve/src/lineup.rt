@@ -1,4 +1,4 @@
-//! Moves for a caller, in the order in which a solver tries them.
+//! Moves for a caller, in the order of a solver's guide.
 ghost use Rattle.std.specs.Prelude.{◌≡◌, []};
 
 use crate::ply::Ply;
@@ -7,8 +7,8 @@ use dw_moves::Move;
 use std::alloc::Global;
 use std::marker::Model;
 
-/// The moves of one position, each with its rank, in the order in which a solver tries them. `Solver::line_up` fills
-/// it, and uses its memory again.
+/// The legal moves of one position with their ranks, the lowest rank first. `Solver::line_up` fills it, and reuses its
+/// memory.
 #[derive(Drop)]
 pub struct Lineup<B: Board> {
     pub(crate) ply: Ply<B>,
@@ -27,7 +27,7 @@ impl<B: Board> Model for Lineup<B> {
 }
 
 impl<B: Board> Lineup<B> {
-    /// Returns an empty list. It takes no memory.
+    /// Returns an empty list. Allocates nothing.
     pub fn new(alloc: Global) -> Self
         ensures { result ≡ [] }
     {
@@ -36,7 +36,7 @@ impl<B: Board> Lineup<B> {
         }
     }
 
-    /// Returns the moves with their ranks, that which is tried first before the others.
+    /// Returns the moves with their ranks, the lowest rank first.
     pub fn moves(&self) -> &[(u32, Move<B>)]
         ensures { result.now ≡ self.now }
     {

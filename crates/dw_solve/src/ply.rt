@@ -10,17 +10,17 @@ use dw_moves::play::play as played;
 use dw_moves::{Move, has_move, has_sure_reply, legal_into};
 use std::alloc::{AllocError, Global};
 
-/// The lists that a search needs for one move of a line. Their memory is used again at the next position.
+/// The lists that a search needs for one move of a line. Their memory is reused at the next position.
 #[derive(Drop)]
 pub(crate) struct Ply<B: Board> {
     /// The legal moves.
     pub(crate) legal: Vec<Move<B>>,
-    /// Legal moves with their ranks, the lowest first.
+    /// Legal moves with their ranks.
     pub(crate) ranked: Vec<(u32, Move<B>)>,
 }
 
 impl<B: Board> Ply<B> {
-    /// Makes empty lists.
+    /// Returns empty lists.
     pub(crate) fn new(alloc: Global) -> Self
         ensures { result.ranked.items ≡ [] }
     {
@@ -30,7 +30,7 @@ impl<B: Board> Ply<B> {
         }
     }
 
-    /// Takes up the legal moves of a position, in the guide's order.
+    /// Lists the legal moves of a position by the guide's ranks, the lowest first.
     pub(crate) fn fill<G: Guide<B>>(
         &mut self,
         position: &Position<B>,
@@ -44,7 +44,7 @@ impl<B: Board> Ply<B> {
         Ok(())
     }
 
-    /// Returns the same for a search, which needs no rank of a single move.
+    /// Lists the legal moves by the guide's ranks. A single move gets no rank by the guide.
     pub(crate) fn fill_unless_single<G: Guide<B>>(
         &mut self,
         position: &Position<B>,
@@ -63,14 +63,14 @@ impl<B: Board> Ply<B> {
         Ok(())
     }
 
-    /// Takes up the legal moves of a position, in any order.
+    /// Lists the legal moves of a position in any order.
     pub(crate) fn fill_anyhow(&mut self, position: &Position<B>) -> Result<(), AllocError>
         ensures { OnOk result (AreRanked B.geometry position.now self.new.ranked.items) }
     {
         self.gather(position, &AnyOrder)
     }
 
-    /// Returns whether a legal move leaves the other side without one. The moves are gone through as they come.
+    /// Returns whether some legal move leaves the other side without a move.
     pub(crate) fn wins_at_once(&mut self, position: &Position<B>) -> Result<bool, AllocError>
         ensures { IfOk result (IsLastWin B.geometry position.now) }
     {
@@ -83,8 +83,8 @@ impl<B: Board> Ply<B> {
         Ok(false)
     }
 
-    /// Returns the position after the first move after which it is seen at a glance that the other side has no win in
-    /// one move.
+    /// Returns the position after the first listed move that surely leaves the other side no win in one move, or
+    /// `None`. The list must have the legal moves of this position.
     pub(crate) fn first_sure(&self, position: &Position<B>) -> Option<Position<B>>
         requires { AreRanked B.geometry position.now self.now.ranked.items }
         ensures { IfSome result (IsSureReply B.geometry position.now) }
@@ -98,7 +98,7 @@ impl<B: Board> Ply<B> {
         None
     }
 
-    /// Takes up the legal moves of a position with their ranks, unsorted.
+    /// Lists the legal moves of a position with their ranks, unsorted.
     fn gather<G: Guide<B>>(&mut self, position: &Position<B>, guide: &G) -> Result<(), AllocError>
         ensures { OnOk result (AreRanked B.geometry position.now self.new.ranked.items) }
     {
@@ -108,7 +108,7 @@ impl<B: Board> Ply<B> {
     }
 }
 
-/// Adds legal moves with their ranks to an empty list.
+/// Adds legal moves with their ranks to a list, which must be empty.
 fn rank_all<B: Board, G: Guide<B>>(
     position: &Position<B>,
     guide: &G,

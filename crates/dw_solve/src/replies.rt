@@ -15,14 +15,14 @@ const FEW_MOVES: u8 = 2;
 /// The highest rank of a reply that is searched before the others are ranked.
 const GOOD_RANK: u32 = 2;
 
-/// The same of a quick rank.
+/// The highest quick rank of such a reply.
 const GOOD_QUICK_RANK: u32 = 6;
 
-/// What is found out about a reply when it is its turn in the list of legal moves.
+/// The outcome of a reply at its turn in the list of legal moves.
 pub(crate) enum Tried {
     /// Whether the attacker wins after it.
     Answered(bool),
-    /// Nothing: others come first, and this is its rank.
+    /// It is not searched yet: others come first, and this is its rank.
     PutOff(u32),
 }
 
@@ -66,9 +66,8 @@ pub(crate) fn add_reply<B: Board>(
     Ok(())
 }
 
-/// Takes up the replies at the attacker's last move, or answers with the position after one that is sure to refute: it
-/// is seen at a glance that he does not win then. Mostly it is a step of one square, which is found without a list of
-/// moves.
+/// Returns the position after a reply that surely refutes the attacker's last move, or else lists all replies and
+/// returns `None`. Mostly such a reply is a step of one square, which is found without a list of moves.
 pub(crate) fn line_up_last<B: Board>(
     ply: &mut Ply<B>,
     position: &Position<B>,
@@ -82,8 +81,8 @@ pub(crate) fn line_up_last<B: Board>(
     Ok(ply.first_sure(position))
 }
 
-/// Returns the position after a step of one square, if it is seen at a glance that the other side has no win in one
-/// move then.
+/// Returns the position after a step of one square that surely leaves the other side no win in one move, or `None` if
+/// there is no such step.
 fn sure_reply<B: Board>(position: &Position<B>) -> Option<Position<B>>
     ensures { IfSome result (IsSureReply B.geometry position.now) }
 {

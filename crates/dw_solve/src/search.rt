@@ -27,8 +27,8 @@ use dw_moves::play::play as played;
 use dw_moves::{Move, has_move, legal_into};
 use std::alloc::AllocError;
 
-/// What a search works on: a memo, an order of moves, how many positions it has expanded and may expand, and which
-/// moves of the attacker won in it.
+/// The state of a search: a memo, an order of moves, the number of positions expanded, the limit of that number, and
+/// the moves of the attacker that won.
 #[derive(Drop)]
 pub(crate) struct Search<M, G> {
     pub(crate) memo: M,
@@ -157,8 +157,8 @@ pub(crate) fn loses<B: Board, M: Memo<B>, G: Guide<B>>(
     all_replies_lose(search, rest, position, ply.ranked.as_slice(), moves)
 }
 
-/// Goes through the legal replies. Answers whether one refutes that the memo decides, or that is good. The others are
-/// added with their ranks to an empty list.
+/// Returns whether a reply refutes, of those that the memo decides or that are good. Adds the other replies with their
+/// ranks to `ranked`, which must be empty.
 #[cycle(search)]
 fn good_reply_refutes<B: Board, M: Memo<B>, G: Guide<B>>(
     search: &mut Search<M, G>,
@@ -195,6 +195,7 @@ fn good_reply_refutes<B: Board, M: Memo<B>, G: Guide<B>>(
 }
 
 /// Returns whether the attacker wins within `moves` moves after a reply, if the memo decides it or the reply is good.
+/// Otherwise returns the rank of the reply.
 #[cycle(search)]
 fn try_reply<B: Board, M: Memo<B>, G: Guide<B>>(
     search: &mut Search<M, G>,
@@ -254,8 +255,8 @@ fn all_replies_lose<B: Board, M: Memo<B>, G: Guide<B>>(
     Ok(true)
 }
 
-/// Returns whether the side to move has lost, for a caller. With one move left it looks up every reply. Inside a search
-/// this stops once the memo has lost an entry.
+/// Returns whether the side to move has lost, for a caller. With one move left it looks up every reply, as a search
+/// does only until the memo has lost an entry.
 pub(crate) fn loses_at_root<B: Board, M: Memo<B>, G: Guide<B>>(
     search: &mut Search<M, G>,
     plies: &mut [Ply<B>],
@@ -280,8 +281,8 @@ pub(crate) fn loses_at_root<B: Board, M: Memo<B>, G: Guide<B>>(
     }
 }
 
-/// Returns whether the side to move has lost, with one move of the attacker left, if the memo decides each reply or one
-/// that refutes.
+/// Returns whether the side to move has lost, with one move of the attacker left, by a look at the memo alone. Returns
+/// `None` at the first reply that the memo does not decide.
 fn known_loss<B: Board, M: Memo<B>, G>(
     search: &mut Search<M, G>,
     plies: &mut [Ply<B>],
@@ -353,8 +354,8 @@ fn line_up<B: Board, M, G: Guide<B>>(
     }
 }
 
-/// Takes it up that the attacker does not win with his last move, if that is seen at a glance. The memo may leave it
-/// out.
+/// Records that the side to move has no win in one move. The other side must have a reply to each of its moves. The
+/// memo may leave the record out.
 fn refute<B: Board, M: Memo<B>, G>(
     search: &mut Search<M, G>,
     position: &Position<B>,
@@ -371,7 +372,7 @@ fn refute<B: Board, M: Memo<B>, G>(
     refute_noted(search, position)
 }
 
-/// Returns the same, if the memo does not leave it out: the position is counted and noted, unless the memo decides it.
+/// Records the same in a memo that keeps it: counts and notes the position, unless the memo decides it.
 fn refute_noted<B: Board, M: Memo<B>, G>(
     search: &mut Search<M, G>,
     position: &Position<B>,
@@ -391,7 +392,7 @@ fn refute_noted<B: Board, M: Memo<B>, G>(
     Ok(())
 }
 
-/// Returns whether the side to move wins with its next move, which is its last. The memo may leave it out.
+/// Returns whether the side to move wins with its next move, which is its last. The memo may leave the answer out.
 fn wins_last<B: Board, M: Memo<B>, G>(
     search: &mut Search<M, G>,
     ply: &mut Ply<B>,
@@ -410,7 +411,8 @@ fn wins_last<B: Board, M: Memo<B>, G>(
     wins_at_once(search, ply, position)
 }
 
-/// Counts a position with one move left, if the memo leaves its bounds out. That is a loss, which it counts.
+/// Returns whether the memo leaves out bounds of one move, and then counts the position as expanded. The memo counts it
+/// as a lost entry.
 fn leave_out<B: Board, M: Memo<B>, G>(search: &mut Search<M, G>) -> Result<bool, Stop>
     requires { CanSearch B.geometry M.content search.old }
     ensures searched { HasSearched B.geometry M.content M.dropped 1 search.old search.new result }
@@ -423,8 +425,8 @@ fn leave_out<B: Board, M: Memo<B>, G>(search: &mut Search<M, G>) -> Result<bool,
     Ok(true)
 }
 
-/// Returns the same, if the memo does not leave it out. Nothing else comes between the look at the memo and the note,
-/// so the bounds are looked up once.
+/// Returns the same for a memo that keeps the answer. Nothing comes between the look at the memo and the note, so the
+/// bounds are looked up once.
 fn wins_at_once<B: Board, M: Memo<B>, G>(
     search: &mut Search<M, G>,
     ply: &mut Ply<B>,
@@ -466,7 +468,7 @@ pub(crate) fn known<B: Board, M: Memo<B>, G>(
     }
 }
 
-/// Counts one more expanded position, or answers that the limit is reached.
+/// Counts one more expanded position, or returns `Stop::Limit` if the limit is reached.
 fn count<M, G>(search: &mut Search<M, G>) -> Result<(), Stop>
     requires { search.old.expanded ≤ search.old.limit }
     ensures memo { search.new.memo ≡ search.old.memo }
@@ -484,7 +486,7 @@ fn count<M, G>(search: &mut Search<M, G>) -> Result<(), Stop>
     Ok(())
 }
 
-/// Stores whether there is a win within `moves` moves, added to the present bounds of the position.
+/// Adds whether there is a win within `moves` moves, which must be right, to the bounds of the position in the memo.
 fn note<B: Board, M: Memo<B>, G>(
     search: &mut Search<M, G>,
     position: &Position<B>,
@@ -503,7 +505,7 @@ fn note<B: Board, M: Memo<B>, G>(
     search.memo.note(*position, joined(bounds, moves, won));
 }
 
-/// Returns the bounds of a position, which say nothing if it is not held.
+/// Returns the bounds of a position, which say nothing if the memo does not hold it.
 fn bounds_now<B: Board, M: Memo<B>>(memo: &mut M, position: &Position<B>) -> Bounds
     ensures map { IsMap (M.content memo.old) }
     ensures bounds { HasBounds (M.content memo.old) position.now result }

@@ -25,11 +25,11 @@ use std::marker::Model;
 /// The most moves of the attacker in a line.
 const MOST_MOVES: usize = 20;
 
-/// Moves of both sides in the longest line: those of the attacker with a reply to each, and one before them.
+/// The most moves of both sides in a line: those of the attacker with a reply to each, and one before them.
 const PLIES: usize = 2 * MOST_MOVES + 1;
 
-/// Answers in how many moves a side wins. What it finds out it notes in a memo, and it counts each position that it
-/// expands, that is whose moves it goes through, up to a limit.
+/// Answers within how many moves a side wins. It notes its results in a memo, and counts the positions that it expands,
+/// up to a limit. A position is expanded when the search goes through its moves.
 #[derive(Drop)]
 pub struct Solver<B: Board, M: Memo<B>, G: Guide<B>> {
     search: Search<M, G>,
@@ -54,8 +54,8 @@ impl<B: Board, M: Memo<B>, G: Guide<B>> Model for Solver<B, M, G> {
 }
 
 impl<B: Board, M: Memo<B>, G: Guide<B>> Solver<B, M, G> {
-    /// Returns a solver over a memo, all of whose bounds are right, as those of an empty one are. It may expand as many
-    /// positions as the limit says, at least 1.
+    /// Returns a solver over a memo, whose bounds must all be right, as those of an empty one are. It may expand
+    /// `limit` positions in all, which must be at least 1.
     pub fn new(memo: M, guide: G, limit: u64) -> Self
         requires right { AreTrue B.geometry (M.content memo) }
         requires some { 1 ≤ limit }
@@ -73,14 +73,14 @@ impl<B: Board, M: Memo<B>, G: Guide<B>> Solver<B, M, G> {
         }
     }
 
-    /// Returns how many positions were expanded so far.
+    /// Returns the number of positions expanded so far.
     pub fn expanded(&self) -> u64
         ensures { result ≡ self.now.expanded }
     {
         self.search.expanded
     }
 
-    /// Returns how many positions may be expanded in all.
+    /// Returns the number of positions that may be expanded in all.
     pub fn limit(&self) -> u64
         ensures limit { result ≡ self.now.limit }
         ensures within { self.now.expanded ≤ self.now.limit }
@@ -96,8 +96,8 @@ impl<B: Board, M: Memo<B>, G: Guide<B>> Solver<B, M, G> {
         let _ = &self.search;
     }
 
-    /// States that all bounds in a solver's memo are right, and that each position is there once. A law, which does
-    /// nothing.
+    /// States that all bounds in a solver's memo are right, and that each position has at most one entry. A law, which
+    /// does nothing.
     pub fn keeps_its_facts(&self)
         ensures right { AreTrue B.geometry (M.content self.now.memo) }
         ensures map { IsMap (M.content self.now.memo) }
@@ -105,7 +105,7 @@ impl<B: Board, M: Memo<B>, G: Guide<B>> Solver<B, M, G> {
         self.search.memo.keeps_its_map();
     }
 
-    /// Returns how many entries the memo has lost so far.
+    /// Returns the number of entries that the memo has lost so far.
     pub fn dropped(&self) -> u64
         ensures count { result ≡ M.dropped self.now.memo }
         ensures map { IsMap (M.content self.now.memo) }
@@ -113,7 +113,7 @@ impl<B: Board, M: Memo<B>, G: Guide<B>> Solver<B, M, G> {
         self.search.memo.dropped()
     }
 
-    /// Changes the limit. It becomes at least 1, and at least the number of expanded positions.
+    /// Sets the limit, which must be at least 1, and at least the number of positions expanded so far.
     pub fn set_limit(&mut self, limit: u64)
         requires some { 1 ≤ limit }
         requires enough { self.old.expanded ≤ limit }
@@ -133,9 +133,9 @@ impl<B: Board, M: Memo<B>, G: Guide<B>> Solver<B, M, G> {
         self.search.memo.forget();
     }
 
-    /// Returns whether the side to move wins within `moves` of its moves, 0 to 20. If the memo decides it or `moves` is
-    /// 0, this takes no search, no memory and no expansion. After a stop all bounds in the memo are right, and the call
-    /// can be repeated.
+    /// Returns whether the side to move wins within `moves` of its moves, which must be at most 20. If the memo decides
+    /// it or `moves` is 0, this takes no search, no memory and no expansion. After a stop all bounds in the memo are
+    /// right, and the call can be repeated.
     pub fn wins(&mut self, alloc: Global, position: &Position<B>, moves: u8) -> Result<bool, Stop>
         requires { moves ≤ 20 }
         ensures answer { IfOk result (λ yes. IsTrue yes ↔ Win B.geometry position.now moves) }
@@ -155,9 +155,9 @@ impl<B: Board, M: Memo<B>, G: Guide<B>> Solver<B, M, G> {
         answer
     }
 
-    /// Returns whether the side to move has lost: whatever it plays, the other side wins within `moves` of its moves, 0
-    /// to 20. If the memo decides each reply, nothing is counted, and the limit does not matter. With 0 moves it takes
-    /// no memory.
+    /// Returns whether the side to move has lost: whatever it plays, the other side wins within `moves` of its moves,
+    /// which must be at most 20. If the memo decides each reply, nothing is counted, and the limit does not matter.
+    /// With 0 moves it takes no memory.
     pub fn loses(&mut self, alloc: Global, position: &Position<B>, moves: u8) -> Result<bool, Stop>
         requires { moves ≤ 20 }
         ensures answer { IfOk result (λ yes. IsTrue yes ↔ Lost B.geometry position.now moves) }
@@ -174,9 +174,9 @@ impl<B: Board, M: Memo<B>, G: Guide<B>> Solver<B, M, G> {
         answer
     }
 
-    /// Returns the least number of moves, from 1 to the given one, within which the side to move wins, or `None` if it
-    /// has no win within that number, which is at most 20. It is answered without memory and without an expansion if
-    /// the memo decides each of these numbers.
+    /// Returns the least number of moves, from 1 to `most`, within which the side to move wins, or `None` if it has no
+    /// such win. `most` must be at most 20. This takes no memory and no expansion if the memo decides each of these
+    /// numbers.
     pub fn least(
         &mut self,
         alloc: Global,
@@ -203,8 +203,8 @@ impl<B: Board, M: Memo<B>, G: Guide<B>> Solver<B, M, G> {
         Ok(None)
     }
 
-    /// Takes up the legal moves of a position, in the order in which `loses` goes through replies while the attacker
-    /// has three moves or more: by rank, the lowest first. Nothing is searched.
+    /// Fills a list with the legal moves of a position by the guide's ranks, the lowest first. `loses` uses these ranks
+    /// for replies while the attacker has three moves or more. Nothing is searched.
     pub fn line_up(&self, position: &Position<B>, lineup: &mut Lineup<B>) -> Result<(), AllocError>
         ensures ranked { OnOk result (AreRanked B.geometry position.now lineup.new) }
         ensures order { OnOk result (IsNonDecreasingBy (λ r. r.0) lineup.new) }
@@ -278,7 +278,7 @@ fn ask_loses<B: Board, M: Memo<B>, G: Guide<B>>(
     answer
 }
 
-/// Makes sure that there are at least `needed` lists, and keeps the present ones.
+/// Returns at least `needed` lists, the spare ones among them.
 fn prepared<B: Board>(
     alloc: Global,
     spare: Option<Vec<Ply<B>>>,

@@ -5,7 +5,7 @@ ghost use Rattle.dw_solve.specs.declared.stop.Stop.TheVariants.{Memory};
 use std::alloc::AllocError;
 use thiserror::Error;
 
-/// Why a search ended without an answer. It can be asked again.
+/// Why a search ended without an answer. The question can be asked again.
 #[derive(Clone, Copy, Debug, PartialEq, Eq, Error)]
 pub enum Stop {
     /// Memory was refused.

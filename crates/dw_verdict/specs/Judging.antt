@@ -1,4 +1,4 @@
--- How keys, duals and tries are looked for.
+-- The verdict that a value of the code means.
 use Rattle.dw_verdict.specs.Verdict.{Verdict, unsolvable, cooked, dual, sound}
 use Rattle.dw_verdict.specs.declared.verdict.Verdict as verdicts
 use Rattle.dw_verdict.specs.declared.verdict.Verdict.TheVariants.{Unsolvable, Cooked, Dual, Sound}

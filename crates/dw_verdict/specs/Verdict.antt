@@ -8,7 +8,7 @@ use Rattle.dw_moves.specs.Order.{Precedes, IsListOf}
 use Rattle.dw_solve.specs.Wins.{Win, Lost}
 use Rattle.dw_solve.specs.Lines.{Line, Before}
 
--- a first move that wins within n
+-- m is a first move that wins within n moves
 abbrev pub IsWinning : Geometry → Placement → ℕ → Move → Type 0
 IsWinning g p zero m = ⊥
 IsWinning g p (suc n) m = Legal g p m × Lost g (play g p m) n
@@ -32,7 +32,7 @@ pub record IsDual (g : Geometry) (p : Placement) (n : ℕ) (beginning choices : 
   pub keys : Keys g (reach g p beginning) (n - turns) choices
   pub several : 2 ≤ length choices
 
--- the least number of moves within which there is a win
+-- n is the least number of moves within which there is a win
 pub record IsShortest (g : Geometry) (p : Placement) (n : ℕ) : Type 0 where
   pub wins : Win g p n
   pub none_less : (k : ℕ) → k < n → Win g p k → ⊥
@@ -48,7 +48,8 @@ pub data Verdict : Type 0 where
 abbrev pub HasOneKey : Geometry → Placement → ℕ → Move → Type 0
 HasOneKey g p n m = Keys g p n (m ∷ []) × (Win g p (n - 1) → ⊥)
 
--- no key; several keys or a shorter win; one key and choices later, the first of which is given; one key, no choice
+-- the verdict on a problem: unsolvable, if there is no key; cooked, if there are several keys or a shorter win; dual,
+-- if there is one key and choices later, the first of which is given; sound, if there is one key and no choice later
 abbrev pub IsVerdict : Geometry → Placement → ℕ → Verdict → Type 0
 IsVerdict g p n unsolvable = Keys g p n []
 IsVerdict g p n (cooked shortest keys) =

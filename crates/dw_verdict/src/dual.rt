@@ -25,7 +25,7 @@ pub(crate) struct Dual<B: Board> {
 }
 
 /// Returns the first choice after one of the keys of a position, in the order of lines, where a beginning comes before
-/// its continuations. The keys are all keys for `moves` moves.
+/// its continuations. `keys` must be all keys for `moves` moves, and `moves` at most 20.
 #[cycle(first_choice)]
 pub(crate) fn first_choice<B: Board, M: Memo<B>, G: Guide<B>>(
     alloc: Global,
@@ -106,7 +106,7 @@ fn choice_from<B: Board, M: Memo<B>, G: Guide<B>>(
     first_choice(alloc, solver, position, left, choices.as_slice())
 }
 
-/// Returns the choice, with one more move before it.
+/// Returns the choice with one more move before it. It must have fewer than 38 moves before it so far.
 fn with_first<B: Board>(mv: Move<B>, dual: Dual<B>) -> Dual<B>
     requires { length dual.at.items < 38 }
     ensures at { result.at.items ≡ mv ∷ dual.at.items }

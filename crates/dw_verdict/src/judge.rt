@@ -20,8 +20,8 @@ use dw_moves::Move;
 use dw_solve::{Guide, Solver, Stop};
 use std::alloc::Global;
 
-/// Returns the verdict on a position and its tries, for a win within `moves` moves of the side to move, 1 to 20. After
-/// a stop all bounds in the memo are right, and the call can be repeated.
+/// Returns the verdict on a position and its tries, for a win of the side to move within `moves` moves, which must be
+/// from 1 to 20. After a stop all bounds in the memo are right, and the call can be repeated.
 pub fn judge<B: Board, M: Memo<B>, G: Guide<B>>(
     alloc: Global,
     solver: &mut Solver<B, M, G>,
@@ -64,8 +64,8 @@ fn judged<B: Board, M: Memo<B>, G: Guide<B>>(
     Ok(Judged { verdict, tries })
 }
 
-/// Returns the verdict on a position without its tries, for a win within `moves` moves of the side to move, 1 to 20.
-/// After a stop all bounds in the memo are right, and the call can be repeated.
+/// Returns the verdict on a position without its tries, for a win of the side to move within `moves` moves, which must
+/// be from 1 to 20. After a stop all bounds in the memo are right, and the call can be repeated.
 pub fn verdict<B: Board, M: Memo<B>, G: Guide<B>>(
     alloc: Global,
     solver: &mut Solver<B, M, G>,
@@ -88,7 +88,7 @@ pub fn verdict<B: Board, M: Memo<B>, G: Guide<B>>(
     verdict
 }
 
-/// Returns the verdict, by how many first moves win.
+/// Returns the verdict, by the number of first moves that win.
 fn decided<B: Board, M: Memo<B>, G: Guide<B>>(
     alloc: Global,
     solver: &mut Solver<B, M, G>,
@@ -111,7 +111,7 @@ fn decided<B: Board, M: Memo<B>, G: Guide<B>>(
     }
 }
 
-/// Returns the verdict if one first move wins.
+/// Returns the verdict if exactly one first move wins.
 fn with_one_key<B: Board, M: Memo<B>, G: Guide<B>>(
     alloc: Global,
     solver: &mut Solver<B, M, G>,

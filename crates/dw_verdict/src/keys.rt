@@ -11,7 +11,7 @@ use dw_moves::play::play;
 use dw_solve::{Guide, Solver, Stop};
 use std::alloc::{AllocError, Global};
 
-/// Returns all moves after which the other side has lost, within `moves` moves of the side to move, in order.
+/// Returns all first moves that win within `moves` moves, which must be at most 20, in order.
 pub(crate) fn keys<B: Board, M: Memo<B>, G: Guide<B>>(
     alloc: Global,
     solver: &mut Solver<B, M, G>,

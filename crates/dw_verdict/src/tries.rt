@@ -12,8 +12,8 @@ use dw_moves::play::play;
 use dw_solve::{Guide, Lineup, Solver, Stop};
 use std::alloc::Global;
 
-/// Returns the tries of a position for `moves` moves, 1 to 20, in order: each legal move that exactly one reply
-/// refutes, and that reply.
+/// Returns the tries of a position for `moves` moves, which must be from 1 to 20, in order: each legal move that
+/// exactly one reply refutes, and that reply.
 pub(crate) fn tries<B: Board, M: Memo<B>, G: Guide<B>>(
     alloc: Global,
     solver: &mut Solver<B, M, G>,
@@ -39,8 +39,8 @@ pub(crate) fn tries<B: Board, M: Memo<B>, G: Guide<B>>(
     Ok(tries)
 }
 
-/// Returns the only reply after which the attacker has no win within `left` moves, 0 to 20, if there is exactly one.
-/// Replies come in the solver's order, because most refutations come early in it.
+/// Returns the only reply after which the attacker has no win within `left` moves, or `None` if there is not exactly
+/// one. `left` must be at most 20. Replies come in the solver's order, because most refutations come early in it.
 pub fn refutation<B: Board, M: Memo<B>, G: Guide<B>>(
     alloc: Global,
     solver: &mut Solver<B, M, G>,

@@ -1,4 +1,4 @@
-//! What is said of a problem.
+//! Verdicts on problems.
 use arrayvec::ArrayVec;
 use dw_board::Board;
 use dw_moves::Move;
@@ -9,7 +9,7 @@ pub const MAX_BEFORE: usize = 2 * 19;
 /// Whether the side to move wins within a number of its moves, and how well.
 #[derive(Drop)]
 pub enum Verdict<B: Board> {
-    /// It does not.
+    /// The side to move does not win.
     Unsolvable,
     /// Several first moves win, or there is a win in fewer moves.
     Cooked {

@@ -15,7 +15,7 @@ abbrev pub behind : List Token → List Token
 behind [] = []
 behind (t ∷ tokens) = tokens
 
--- what is left if the first token was taken
+-- the tokens left after the first one was taken, or not
 abbrev pub left_of : Bool → List Token → List Token
 left_of true tokens = behind tokens
 left_of false tokens = tokens

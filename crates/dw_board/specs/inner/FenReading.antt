@@ -10,6 +10,6 @@ use Rattle.dw_board.specs.Fen.{◌>>=◌, Listing, Item, with_item, read_from, A
 abbrev pub listing : Side → Bool → Placement → Listing
 listing side second p = record { side = side; is_second = second; placed = p }
 
--- what the tokens after an item that ends with this square say
+-- the result of reading on after an item that ends with this square
 abbrev pub read_behind : Geometry → ℕ → Listing → Item → ℕ → List Token → Result Placement FenFault
 read_behind g end list item to tokens = with_item g list item to >>= λ all. read_from g end (AfterItem all) tokens

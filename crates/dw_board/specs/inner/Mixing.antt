@@ -15,8 +15,8 @@ use Rattle.dw_board.specs.PieceSets.{standing}
 abbrev pub standing_word : Geometry → Placement → Side → Kind → ℕ
 standing_word g p side kind = word_of g (standing p.cells side kind)
 
--- Sealed: a number of the side to move and of what stands on the board, and nothing more is to be known of it. It is
--- the side to move and the four words, each times a factor of its own.
+-- Sealed: a number mixed from the side to move and the pieces on the board; proofs use nothing more of it. It is the
+-- sum of the side to move and the four words, each times its own factor, modulo 2^64.
 unfoldable pub mixed_word : Geometry → Placement → ℕ
 mixed_word g p =
     (side_code p.turn * TURN_FACTOR + standing_word g p White Man * WHITE_MEN_FACTOR

@@ -4,7 +4,7 @@ use Rattle.dw_board.specs.declared.board.Dir.{Dir}
 use Rattle.dw_board.specs.declared.board.Dir.TheVariants.{UpLeft, UpRight, DownLeft, DownRight}
 use Rattle.dw_board.specs.Geometry.{Geometry}
 
--- what a shift by one step makes of a padded word of 64 bits
+-- a padded word of 64 bits, shifted by one step
 abbrev pub shifted_word : Geometry → Dir → ℕ → ℕ
 shifted_word g UpLeft w = w / 2 ^ (g.per_row + 1)
 shifted_word g UpRight w = w / 2 ^ g.per_row

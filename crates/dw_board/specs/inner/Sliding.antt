@@ -16,15 +16,15 @@ stride g DownRight = g.per_row + 1
 abbrev pub moved_word : Bool → ℕ → ℕ → ℕ
 moved_word down by w = cond down (w * 2 ^ by % 2 ^ 64) (w / 2 ^ by)
 
--- what is reached by so many steps more, if as many squares before it are clear
+-- the squares reached, and those one shift further over clear squares
 abbrev pub further : Bool → ℕ → ℕ → ℕ → ℕ
 further down by reached clear = bit_or reached (bit_and clear (moved_word down by reached))
 
--- what is clear with as many squares before it
+-- the squares that are clear together with as many squares before them
 abbrev pub clearer : Bool → ℕ → ℕ → ℕ
 clearer down by clear = bit_and clear (moved_word down by clear)
 
--- what a slide of at most seven steps over the free squares reaches
+-- the squares that a slide of at most seven steps over free squares reaches
 abbrev pub near_word : Geometry → Dir → ℕ → ℕ → ℕ
 near_word g d word free =
     let down = is_down d in
@@ -33,7 +33,7 @@ near_word g d word free =
     let four = clearer down (2 * by) two in
     further down (4 * by) (further down (2 * by) (further down by word free) two) four
 
--- and of any number of steps
+-- the squares that a slide of at most fifteen steps over free squares reaches
 abbrev pub slid_word : Geometry → Dir → ℕ → ℕ → ℕ
 slid_word g d word free =
     let down = is_down d in

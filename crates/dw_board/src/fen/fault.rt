@@ -3,7 +3,7 @@
 use std::fmt;
 use thiserror::Error;
 
-/// What is wrong with a text that is no FEN text. Its number is that of the variant, from 1 on.
+/// The kinds of faults in a FEN text, numbered from 1 in this order.
 #[derive(Clone, Copy, Debug, PartialEq, Eq)]
 pub enum FenFaultKind {
     Turn,
@@ -44,8 +44,8 @@ impl fmt::Display for FenFaultKind {
     }
 }
 
-/// The earliest fault of a text, and the place of the token where it is found: the number, from 1 on, of that token's
-/// first byte; one more than the length at the text's end.
+/// The earliest fault of a text, and the place of the token where it is found. A place is the number, from 1 on, of the
+/// token's first byte. It is one more than the length at the text's end, and `MAX_FEN + 1` for a text that is too long.
 #[derive(Clone, Copy, Debug, PartialEq, Eq, Error)]
 #[error("{what} at {place}")]
 pub struct FenFault {

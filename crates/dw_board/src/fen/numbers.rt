@@ -5,7 +5,7 @@ ghost use Rattle.dw_board.specs.FenTokens.{AreDigits, begins_with_digit, number_
 use crate::board::Board;
 use crate::square::Square;
 
-/// Returns how many digits stand at the front.
+/// Returns the number of digits that the text begins with.
 pub fn digits_at(text: &[u8]) -> usize
     ensures within { result ≤ length text.now }
     ensures digits { AreDigits (take result text.now) }
@@ -18,7 +18,7 @@ pub fn digits_at(text: &[u8]) -> usize
     count
 }
 
-/// Returns the square that one or two digits number, and `None` for any other bytes.
+/// Returns the square numbered by one or two digits, or `None` if the bytes are others or the board has no such square.
 pub fn square_named<B: Board>(digits: &[u8]) -> Option<Square<B>>
     ensures { result ≡ number_named B.geometry digits.now }
 {

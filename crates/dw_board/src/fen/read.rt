@@ -23,7 +23,7 @@ use crate::square::Square;
 /// The most bytes of a FEN text.
 pub const MAX_FEN: usize = 1024;
 
-/// Reads a position: exactly if the text is a FEN text of one, and else its earliest fault.
+/// Reads the position that a FEN text of at most `MAX_FEN` bytes names, or returns the text's earliest fault.
 pub fn read_fen<B: Board>(text: &[u8]) -> Result<Position<B>, FenFault>
     ensures exact { result ≡ fen B.geometry text.now }
     ensures grammar { (p : Placement) → (result ≡ Ok p) ↔ Fen B.geometry text.now p }
@@ -38,7 +38,7 @@ pub fn read_fen<B: Board>(text: &[u8]) -> Result<Position<B>, FenFault>
     read_short_fen(text)
 }
 
-/// Reads a text that is not too long.
+/// Reads a text, which must be of at most `MAX_FEN` bytes.
 fn read_short_fen<B: Board>(text: &[u8]) -> Result<Position<B>, FenFault>
     requires { length text.now ≤ MAX_FEN }
     ensures { result ≡ short_fen B.geometry text.now }
@@ -228,7 +228,7 @@ fn read_range_end<B: Board>(tokens: &mut Tokens<'_>, from: Square<B>) -> Result<
     Ok(to)
 }
 
-/// Sets a piece on each square of a range, ascending. A fault has the given place.
+/// Puts a piece on each square of a range, ascending. A fault gets the given place.
 fn set_squares<B: Board>(
     position: &mut Position<B>,
     from: Square<B>,

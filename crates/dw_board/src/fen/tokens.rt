@@ -11,7 +11,7 @@ use crate::fen::read::MAX_FEN;
 use crate::piece::Side;
 use crate::square::Square;
 
-/// A text and the place in it up to which it is read. It never stands at a blank.
+/// A text, and the place up to which it has been read. No blank stands at that place.
 #[derive(Drop)]
 pub(super) struct Tokens<'a> {
     text: &'a [u8],
@@ -25,7 +25,7 @@ impl<'a> Tokens<'a> {
     ghost use Rattle.dw_board.specs.inner.FenReader.{tokens_of, end_of, left_of};
     ghost use Rattle.dw_board.specs.FenTokens.{place_of, first_is, first_named, is_empty};
 
-    /// Returns the first token of a text of at most `MAX_FEN` bytes.
+    /// Starts at the first token of a text, which must be of at most `MAX_FEN` bytes.
     pub(super) fn new(text: &'a [u8]) -> Tokens<'a>
         requires { length text.now ≤ MAX_FEN }
         ensures tokens { tokens_of result ≡ tokens_from 1 text.entry.now }
@@ -86,7 +86,7 @@ impl<'a> Tokens<'a> {
         self.byte() == Some(sign)
     }
 
-    /// Takes the next token if it is this sign.
+    /// Takes the next token if it is this sign, and returns whether it was. A sign must be no digit and no blank.
     pub(super) fn take(&mut self, sign: u8) -> bool
         requires { IsSignByte sign }
         ensures taken { result ≡ first_is (is_sign sign) (tokens_of self.old) }
@@ -100,7 +100,7 @@ impl<'a> Tokens<'a> {
         stands
     }
 
-    /// Takes the next token if it is this letter, in either case.
+    /// Takes the next token if it is this letter in either case, and returns whether it was.
     fn take_letter(&mut self, upper: u8, lower: u8) -> bool
         requires upper { IsSignByte upper }
         requires lower { IsSignByte lower }
@@ -115,7 +115,7 @@ impl<'a> Tokens<'a> {
         self.take(lower)
     }
 
-    /// Takes the next token if it is a K.
+    /// Takes the next token if it is a K in either case, and returns whether it was.
     #[tactic(auto, using(crate::proofs::FenTokenLemmas::first_is_king))]
     pub(super) fn take_king(&mut self) -> bool
         ensures taken { result ≡ first_is is_king_letter (tokens_of self.old) }
@@ -125,7 +125,7 @@ impl<'a> Tokens<'a> {
         self.take_letter(b'K', b'k')
     }
 
-    /// Takes the next token if it names a side.
+    /// Takes the next token if it names a side, and returns the side.
     pub(super) fn take_side(&mut self) -> Option<Side>
         ensures taken { result ≡ first_named side_named (tokens_of self.old) }
         ensures left { tokens_of self.new ≡ left_of (is_some result) (tokens_of self.old) }
@@ -140,7 +140,7 @@ impl<'a> Tokens<'a> {
         None
     }
 
-    /// Takes the next token if it gives the number of a square.
+    /// Takes the next token if it is the number of a square, and returns the square.
     pub(super) fn take_square<B: Board>(&mut self) -> Option<Square<B>>
         ensures taken { result ≡ first_named (number_named B.geometry) (tokens_of self.old) }
         ensures left { tokens_of self.new ≡ left_of (is_some result) (tokens_of self.old) }
@@ -153,7 +153,7 @@ impl<'a> Tokens<'a> {
     }
 }
 
-/// Returns the first place from this one on where no blank stands.
+/// Returns the first place from this one on that is not at a blank.
 fn past_blanks(text: &[u8], from: usize) -> usize
     requires { from ≤ length text.now }
     ensures low { from ≤ result }

@@ -11,7 +11,7 @@ use crate::square::Square;
 use arrayvec::ArrayString;
 use std::fmt;
 
-/// The bytes that suffice for each written text.
+/// Enough bytes for the FEN text of any position.
 pub const FEN_ROOM: usize = 192;
 
 /// Returns the FEN text of a position, as `W:WK7,31:B`: the turn, White's pieces and Black's, the squares of each
@@ -78,7 +78,7 @@ fn push_item<B: Board>(
     push_number(text, square.number());
 }
 
-/// Appends a number of at most two digits.
+/// Appends a number, which must have at most two digits.
 fn push_number(text: &mut ArrayString<FEN_ROOM>, number: u8)
     requires small { number < 100 }
     requires room { array_string_len text.old + 2 ≤ 192 }

@@ -7,12 +7,12 @@ use Rattle.json.specs.Written.{Written}
 use Rattle.dw_json.specs.Rows.{AreObjects, Member}
 use Rattle.dw_json.specs.Writing.{IsBegun, WritesMembers, member_tokens}
 
--- what follows of what succeeded
+-- from an `Ok` with P, and Q from P, follows an `Ok` with Q
 pub if_ok : {T E : Type 0} {P Q : T → Type 0} (r : Result T E) → IfOk r P → ((x : T) → P x → Q x) → IfOk r Q
 if_ok (Ok x) p f = f x p
 if_ok (Err e) p f = p
 
--- what follows from success
+-- if `Ok` gives P, and Q follows from P, then `Ok` gives Q
 pub then_ok : {T E P Q : Type 0} (r : Result T E) → OnOk r P → (P → Q) → OnOk r Q
 then_ok (Ok x) p f = f p
 then_ok (Err e) p f = p

@@ -47,7 +47,7 @@ pub record GoOnWith (g : Geometry) (levels : List Level) (m : Move) : Type 0 whe
   pub are : levels ≡ last ∷ outer
   pub next : IsNext g last.attacks last.position last.left m
 
--- what was found of a list of moves
+-- the result of a walk along a list of moves
 abbrev pub IsGivenLine : {B : Type 0} → Geometry → Placement → ℕ → List Move → GivenLine B → Type 0
 IsGivenLine g p n l (Along s) = IsAlong g p n l s
 IsGivenLine g p n l (Place k) = IsPlace g p n l k

@@ -12,7 +12,7 @@ abbrev pub AreLast : Geometry → Placement → Option (List Move) → Type 0
 AreLast g q None = Unit {0}
 AreLast g q (Some ahead) = (passed : List Move) × IsListOf (Precedes g q) (Legal g q) (passed ++ ahead)
 
--- those after one of them
+-- the moves ahead are those after a move m in the list of all legal moves in order
 abbrev pub AreBehind : Geometry → Placement → Move → Option (List Move) → Type 0
 AreBehind g q m None = ⊥
 AreBehind g q m (Some ahead) = (passed : List Move) × IsListOf (Precedes g q) (Legal g q) (passed ++ m ∷ ahead)

@@ -1,4 +1,4 @@
--- What a walk over a stack does.
+-- The effect of a walk over a stack.
 use Rattle.std.specs.Prelude.{◌≡◌, Bool, true, false, []}
 use Rattle.dw_board.specs.Geometry.{Geometry}
 use Rattle.dw_list.specs.declared.walk.Step.{Step}
@@ -7,7 +7,7 @@ use Rattle.dw_list.specs.LineStack.{LineStack}
 use Rattle.dw_list.specs.StackWalk.{GivesFirst, GivesNone}
 use Rattle.dw_list.specs.inner.Steps.{IsStep, IsGiven}
 
--- what one step does
+-- the effect of one step of a walk
 abbrev pub HasStepped : Geometry → Step → LineStack → LineStack → Type 0
 HasStepped g Over old new = (old.levels ≡ []) × (new ≡ old)
 HasStepped g Given old new = IsGiven g old new

@@ -39,7 +39,7 @@ pub record IsListing (g : Geometry) (old new : Level) : Type 0 where
   pub few : length moves < 2 ^ 64
   pub is : new ≡ with_ahead old moves
 
--- how many steps an unlisted level with so many plies below it may cost, if each list has at most so many moves
+-- a bound on the steps for an unlisted level with this number of plies below it, if each list has at most `most` moves
 unfoldable pub cost_of_all : ℕ → ℕ → ℕ
 cost_of_all most zero = 0
 cost_of_all most (suc plies) = most * (1 + cost_of_all most plies) + 2

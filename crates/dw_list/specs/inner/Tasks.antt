@@ -1,4 +1,4 @@
--- What is to be done with a stack.
+-- The next thing to do with a stack.
 use Rattle.std.specs.Prelude.{◌≡◌, ◌↔◌, Bool, false, IsTrue, Some, None, List, [], ◌∷◌}
 use Rattle.dw_board.specs.Geometry.{Geometry}
 use Rattle.dw_moves.specs.Moves.{play}
@@ -9,7 +9,7 @@ use Rattle.dw_list.specs.inner.Ways.{left_after}
 use Rattle.dw_list.specs.LineStack.{Level, LineStack}
 use Rattle.dw_list.specs.inner.Steps.{first_ahead, IsListing}
 
--- it is the first move ahead at the last level
+-- the candidate is the first move ahead at the last level
 pub record IsCandidate {B : Type 0} (g : Geometry) (levels : List Level) (candidate : Candidate B) : Type 0 where
   pub last : Level
   pub outer : List Level

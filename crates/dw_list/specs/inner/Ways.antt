@@ -21,7 +21,7 @@ IsNext g true p zero m = ⊥
 IsNext g true p (suc n) m = Legal g p m × Lost g (play g p m) n
 IsNext g false q n r = Legal g q r
 
--- how many moves the attacker has left after a move
+-- the number of moves that the attacker has left after a move
 abbrev pub left_after : Bool → ℕ → ℕ
 left_after true zero = zero
 left_after true (suc n) = n
@@ -31,7 +31,7 @@ left_after false n = n
 abbrev pub AreWays : Geometry → Bool → Placement → ℕ → List (List Move) → Type 0
 AreWays g attacks p n lists = IsListOf (Before g p) (GoesOn g attacks p n) lists
 
--- those that go on with one of these moves
+-- all ways that begin with one of these moves, in ascending order
 abbrev pub AreWaysAmong : Geometry → Bool → Placement → ℕ → List Move → List (List Move) → Type 0
 AreWaysAmong g attacks p n moves lists = IsListOf (Before g p) (λ l. GoesOn g attacks p n l × BeginsAmong moves l) lists
 

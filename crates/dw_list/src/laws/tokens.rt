@@ -1,7 +1,7 @@
 //! Laws of tokens, each the contract of a function that does nothing.
 ghost use Rattle.dw_list.specs.TokenLaws.{WrittenIsToken, OneLine, TokensHaveNoFault, Version1Keeps};
 
-/// What is written of a line is a token of it.
+/// The written token of a line is a token of it.
 pub fn written_is_token()
     ensures { WrittenIsToken }
 {}

@@ -6,7 +6,7 @@ use Rattle.dw_board.specs.Lists.{Member}
 use Rattle.dw_board.specs.Placement.{Placement}
 use Rattle.dw_memo.specs.Content.{Entry, Content, IsMap}
 
--- what the buckets hold, one after another
+-- the entries of the buckets, one after another
 abbrev pub held : {X : Type 0} → (X → Content) → List X → Content
 held entries [] = []
 held entries (x ∷ buckets) = entries x ++ held entries buckets

@@ -5,19 +5,19 @@ use Rattle.dw_board.specs.Lists.{Member}
 use Rattle.dw_memo.specs.Content.{Entry, Content, IsMap}
 use Rattle.dw_memo.specs.inner.Buckets.{bucket_of}
 
--- so many empty buckets stand after the old ones
+-- this number of empty buckets was added after the old ones
 pub record IsWidened {X : Type 0} (entries : X → Content) (count : ℕ) (old new : List X) : Type 0 where
   pub more : List X
   pub is : new ≡ old ++ more
   pub all : length more ≡ count
   pub empty : (k : ℕ) (x : X) → slice_get more k ≡ Some x → entries x ≡ []
 
--- of so many buckets, those before a number of them are empty
+-- of this number of buckets the first ones, up to a count, are empty
 pub record IsEmptied {X : Type 0} (entries : X → Content) (size count : ℕ) (buckets : List X) : Type 0 where
   pub all : length buckets ≡ size
   pub empty : (k : ℕ) (x : X) → k < count → slice_get buckets k ≡ Some x → entries x ≡ []
 
--- Among n buckets, of the entries of one bucket those whose bucket is the given one, and the others.
+-- The entries of one bucket, split in two: those of bucket k among n buckets, and the others.
 pub record IsSplit (g : Geometry) (n k : ℕ) (all low high : Content) : Type 0 where
   pub low_map : IsMap low
   pub high_map : IsMap high

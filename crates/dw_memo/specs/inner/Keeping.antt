@@ -1,4 +1,4 @@
--- What a memo keeps of bounds.
+-- The content of a slot, and bounds of which nothing is known.
 use Rattle.std.proofs.Common.{◌≡◌, refl, sym}
 use Rattle.std.specs.Prelude.{None, ℕ, List, Option, Some, not, cond}
 use Rattle.dw_memo.specs.declared.bounds.Bounds.{Bounds}
@@ -20,26 +20,26 @@ abbrev pub bounds_in : Place → Placement → Option Bounds
 bounds_in None p = None
 bounds_in (Some e) p = cond (same e.0 p) (Some e.1.bounds) None
 
--- how many entries are lost when a position comes into a slot: that of another position
+-- the number of entries lost when a position comes into a slot: 1 if another one is there
 abbrev pub lost : Place → Placement → ℕ
 lost None p = 0
 lost (Some e) p = from_bool (not (same e.0 p))
 
--- what stands on a board, and the side to move
+-- the pieces on a board, and the side to move
 abbrev pub at_turn : List (Option Piece) → Side → Placement
 at_turn cells turn = record { cells = cells; turn = turn }
 
--- what stands in a slot that keeps a position and a fact of it, if there is one
+-- the content of a slot that stores a position and a fact of it, if there is one
 abbrev pub stands : Placement → Option Fact → Place
 stands p None = None
 stands p (Some f) = Some (p, f)
 
--- the position that a slot keeps: if nothing stands there, that of the board without a piece
+-- the position that a slot stores: the empty board if it is free
 abbrev pub kept_position : Place → Placement
 kept_position None = empty White
 kept_position (Some e) = e.0
 
--- the fact that it keeps
+-- the fact that a slot stores
 abbrev pub kept_fact : Place → Option Fact
 kept_fact None = None
 kept_fact (Some e) = Some e.1

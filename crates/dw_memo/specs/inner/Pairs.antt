@@ -10,7 +10,7 @@ use Rattle.dw_memo.specs.declared.pair.Pair.{Pair}
 use Rattle.dw_memo.specs.Content.{entry, Content}
 use Rattle.dw_memo.specs.inner.Slots.{Place, standing}
 
--- what stands in the two places
+-- the entries of the two places
 abbrev pub pair_entries : {B : Type 0} → Pair B → Content
 pair_entries pair = standing pair.first ++ standing pair.second
 
@@ -19,11 +19,11 @@ abbrev pub moves : Option ℕ → ℕ
 moves None = 0
 moves (Some n) = n
 
--- of how many moves bounds tell: the greater of the two numbers
+-- the depth of bounds: the greater of their two numbers of moves, or 0
 abbrev pub depth : Bounds → ℕ
 depth b = max (moves b.fails) (moves b.wins)
 
--- what a fact is worth: the moves of which its bounds tell, less one for each sixteen that it has aged
+-- the value of a fact: the moves that its bounds decide, less one for each sixteen of age
 abbrev pub fact_worth : Fact → ℕ
 fact_worth f = depth f.bounds - f.age / 16
 
@@ -38,8 +38,8 @@ pub record MayGo (place other : Place) (b : Bounds) : Type 0 where
   pub lesser : worth place ≤ worth other
   pub shallow : (worth place ≤ 2) ⊎ (2 ≤ depth b)
 
--- What a pair gives up if bounds of a position come to it: an entry stays, or it is of that position, or it may go. The
--- bounds are kept, or they tell of one move at most, and both places are worth more.
+-- The losses of a pair to which bounds of a position come. An entry stays, or it is of that position, or it may go. The
+-- bounds are kept, unless they tell of one move at most, and both places are worth more.
 pub record IsChoice {B : Type 0} (old : Pair B) (p : Placement) (b : Bounds) (answer : Noted) (new : Pair B)
     : Type 0 where
   pub first : (e : Placement × Fact) → old.first ≡ Some e → Member (entry e.0 e.1.bounds) (pair_entries new)

@@ -51,12 +51,12 @@ abbrev pub JumpsTo : Geometry → Squares → Squares → ℕ → Dir → ℕ �
 JumpsTo g enemies occupied s d t =
     (c : ℕ) × (step g s d ≡ Some c) × In c enemies × (step g c d ≡ Some t) × (In t occupied → ⊥)
 
--- after an enemy that a man meets in this direction t is empty
+-- a man meets an enemy in this direction, and the next square after it, t, is empty
 abbrev pub MenTake : Geometry → Squares → Squares → Squares → Dir → ℕ → Type 0
 MenTake g men enemies occupied d t =
     (c : ℕ) × MenMeet g men enemies occupied d c × (step g c d ≡ Some t) × (In t occupied → ⊥)
 
--- after one that a king meets
+-- a king meets an enemy in this direction, and the next square after it, t, is empty
 abbrev pub KingsTake : Geometry → Squares → Squares → Squares → Dir → ℕ → Type 0
 KingsTake g kings enemies occupied d t =
     (c : ℕ) × KingsMeet g kings enemies occupied d c × (step g c d ≡ Some t) × (In t occupied → ⊥)
@@ -86,7 +86,7 @@ StepsOn g side men kings occupied d t =
 abbrev pub HasTwo : Squares → Type 0
 HasTwo v = (s : ℕ) × (t : ℕ) × In s v × In t v × (s ≡ t → ⊥)
 
--- some quiet move is there
+-- there is a quiet move
 abbrev pub CanStep : Geometry → Placement → Type 0
 CanStep g p = (from : ℕ) × (to : ℕ) × Quiet g p from to
 
@@ -95,7 +95,7 @@ abbrev pub CanTakeTowards : Geometry → Placement → Dir → ℕ → Type 0
 CanTakeTowards g p d s = (c : ℕ) × (t : ℕ) × (piece : Piece) × Stands g p s piece
     × Member (c, t) (takes_for piece.kind (placed p s None) piece.side (ray g s d))
 
--- after no step in this direction a reply is sure, but for those onto these squares
+-- no step in this direction, except those onto the squares `but`, is followed by a sure reply
 abbrev pub NoneSure : Geometry → Placement → Squares → Squares → Squares → Dir → Squares → Type 0
 NoneSure g p men kings occupied d but =
     (s t : ℕ) → StepsFrom g p.turn men kings occupied d s t → (In t but → ⊥)

@@ -30,7 +30,7 @@ abbrev pub free_front : Placement → List ℕ → List ℕ
 free_front cells [] = []
 free_front cells (t ∷ ts) = elim (at cells t) [ None ↦ t ∷ free_front cells ts | Some piece ↦ [] ]
 
--- the first of them, if there is one
+-- the first square as a list, if it is empty
 abbrev pub free_next : Placement → List ℕ → List ℕ
 free_next cells [] = []
 free_next cells (t ∷ ts) = elim (at cells t) [ None ↦ t ∷ [] | Some piece ↦ [] ]
@@ -44,7 +44,7 @@ over_enemy cells side kind_of None c cs = []
 over_enemy cells side kind_of (Some piece) c cs =
     elim (same_side piece.side (other side)) [ true ↦ map (λ t. (c, t)) (landings_for kind_of cells cs) | false ↦ [] ]
 
--- what a man, or a king, can take on a ray, and where it lands
+-- the pairs of a piece that a man, or a king, can take on a ray, and a square where it lands
 abbrev pub man_takes : Placement → Side → List ℕ → List (ℕ × ℕ)
 man_takes cells side [] = []
 man_takes cells side (c ∷ cs) = over_enemy cells side Man (at cells c) c cs
@@ -60,7 +60,7 @@ abbrev pub takes_for : Kind → Placement → Side → List ℕ → List (ℕ ×
 takes_for Man = man_takes
 takes_for King = king_takes
 
--- what a piece on s can take in a direction is c, and it lands after that
+-- a piece on s can take the one on c in a direction, and lands on free squares after it, if there are any
 abbrev pub TakesOver : Kind → Geometry → Placement → Side → ℕ → Dir → ℕ → Type 0
 TakesOver k g p side s d c = takes_for k p side (ray g s d) ≡ map (λ t. (c, t)) (landings_for k p (ray g c d))
 
@@ -77,15 +77,15 @@ abbrev pub may_go : Kind → Side → Dir → Bool
 may_go Man side d = is_forward side d
 may_go King side d = true
 
--- where a piece may go in one direction
+-- the squares where a piece may go in one direction
 abbrev pub goes : Kind → Geometry → Placement → Side → ℕ → Dir → List ℕ
 goes k g p side s d = cond (may_go k side d) (landings_for k p (ray g s d)) []
 
--- where a piece may go
+-- the squares where a piece may go
 abbrev pub quiet_for : Kind → Geometry → Placement → Side → ℕ → List ℕ
 quiet_for k g p side s = flat_map (goes k g p side s) dirs
 
--- where what stands on a square may go, if it is a piece of the side to move
+-- the squares where the content of a square may go, if it is a piece of the side to move
 abbrev pub targets_of : Geometry → Placement → ℕ → Option Piece → List ℕ
 targets_of g p s None = []
 targets_of g p s (Some piece) = cond (same_side piece.side p.turn) (quiet_for piece.kind g p p.turn s) []
@@ -101,12 +101,12 @@ quiet_pairs g p = flat_map (λ s. map (λ t. (s, t)) (targets g p s)) (numbers_t
 abbrev pub quiet_to : ℕ → ℕ → Move
 quiet_to from to = record { from = from; to = to; taken = set.empty }
 
--- P holds of these pairs alone, and none stands twice
+-- these are all pairs that P holds of, each once
 pub record AreThose (P : ℕ → ℕ → Type 0) (pairs : List (ℕ × ℕ)) : Type 0 where
   pub exactly : (s t : ℕ) → Member (s, t) pairs ↔ P s t
   pub once : NoRepeat pairs
 
--- a list, and after it what is made of the pairs that P holds of, each once
+-- new is old, and after it the elements made of all pairs that P holds of, each once
 pub record Adds {X : Type 0} (made : ℕ → ℕ → X) (P : ℕ → ℕ → Type 0) (old new : List X) : Type 0 where
   pub pairs : List (ℕ × ℕ)
   pub those : AreThose P pairs

@@ -37,7 +37,7 @@ pub record GoesOn (g : Geometry) (p : Placement) (piece : Piece) (b l : Listed) 
   pub taken : l.step.taken ≡ set.union b.step.taken (set.from_list over)
   pub path : l.path ≡ b.path ++ landings
 
--- and its next jump goes in this direction
+-- l is a capture so far with a chain of jumps after it, the first of them in this direction
 pub record GoesTowards (g : Geometry) (p : Placement) (piece : Piece) (b : Listed) (d : Dir) (l : Listed) : Type 0 where
   pub c : ℕ
   pub t : ℕ
@@ -46,7 +46,7 @@ pub record GoesTowards (g : Geometry) (p : Placement) (piece : Piece) (b : Liste
   pub rest : GoesOn g p piece (onward b c t) l
 
 -- ---- the captures of a position
--- the number of pieces that it takes
+-- the number of pieces that a capture takes
 abbrev pub number : Listed → ℕ
 number l = set.len l.step.taken
 
@@ -63,20 +63,20 @@ pub record Begins (g : Geometry) (p : Placement) (d : Dir) (from : ℕ) (l : Lis
   pub stands : Stands g p from piece
   pub goes : GoesTowards g (placed p from None) piece (so_far from from set.empty (from ∷ [])) d l
 
--- it begins on some square
+-- l begins on some square with a jump in this direction
 abbrev pub BeginsTowards : Geometry → Placement → Dir → Listed → Type 0
 BeginsTowards g p d l = (from : ℕ) × Begins g p d from l
 
--- ---- what a keeper holds: of what it was at first, of all captures that it was offered since, and of what it is now
--- that stays
+-- ---- the content of a keeper, by its first content, all captures offered since, and its present content
+-- the content stays
 abbrev pub Stays : {K : Type 0} → (K → List Listed → K → Type 0) → K → K → Type 0
 Stays {K} holds old new = (first : K) (xs : List Listed) → holds first xs old → holds first xs new
 
--- these captures are added
+-- these captures join those that were offered
 abbrev pub Gains : {K : Type 0} → (K → List Listed → K → Type 0) → List Listed → K → K → Type 0
 Gains {K} holds more old new = (first : K) (xs : List Listed) → holds first xs old → holds first (xs ++ more) new
 
--- just these captures are added, each once or more often
+-- exactly the captures with property E are offered, each once or more often
 pub record Offers {K : Type 0} (holds : K → List Listed → K → Type 0) (E : Listed → Type 0) (old new : K) : Type 0 where
   pub captures : List Listed
   pub exactly : (l : Listed) → Member l captures ↔ E l
@@ -105,7 +105,7 @@ Along path l = l.path ≡ path
 abbrev pub Is : Listed → Listed → Type 0
 Is l x = x ≡ l
 
--- k is the greatest number, and this is kept of the captures that take so many
+-- k is the greatest number of pieces that a capture takes, and Kept holds
 pub record Held (E : Listed → Type 0) (k : ℕ) (Kept : Type 0) : Type 0 where
   pub most : IsMost E k
   pub kept : Kept
@@ -165,7 +165,7 @@ abbrev pub PathsHeld : (Listed → Type 0) → ℕ → List Listed → Type 0
 PathsHeld E k list = Held E k (PathsKept E k list)
 
 -- ---- lists of moves with their paths
--- what listed moves are sorted by: the start, the end, and the path
+-- the numbers by which listed moves are sorted: the start, the end, and the path
 abbrev pub sorted_by : Listed → List ℕ
 sorted_by l = l.step.from ∷ l.step.to ∷ l.path
 

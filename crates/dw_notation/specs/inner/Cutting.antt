@@ -1,4 +1,4 @@
--- What a reader of problems holds, and how the pieces of a text are cut off and handed out.
+-- The progress of a reader of problems, and how the pieces of a text are cut off and handed out.
 use Rattle.std.specs.Prelude.{◌≡◌, ℕ, ◌≤◌, ◌==◌, ◌&&◌, ◌⊎◌, List, [], ◌++◌, length, Bool, true, false, not, Option}
 use Rattle.std.specs.Prelude.{option_to_list, Result, Ok, Err, nat_le}
 use Rattle.std.specs.Io.KnownBytes.{Consumes}
@@ -15,8 +15,8 @@ use Rattle.dw_notation.specs.declared.problems.reader.Pieces.{Pieces}
 use Rattle.dw_notation.specs.declared.streams.buffer.Buffer.{Buffer}
 use Rattle.dw_notation.specs.declared.problems.reader.Problems.{Problems}
 
--- how far a text was read: the bytes read and not yet cut, the piece begun, how many problems were handed out, and
--- whether the end was met
+-- the progress of reading a text: the bytes read and not yet cut, the piece begun, the number of problems handed out,
+-- and whether the end was met
 pub record Progress : Type 0 where
   pub rest : List ℕ
   pub pieces : Pieces
@@ -34,7 +34,7 @@ progress_at buffer pieces handed = record {
 abbrev pub progress_of : {B S : Type 0} → Problems B S → Progress
 progress_of problems = progress_at problems.buffer problems.pieces (handed_out problems.numbers)
 
--- what the piece begun, the rest and the bytes still to be read say
+-- the problems of the piece begun, the rest and the bytes still to be read
 abbrev pub found_ahead : Bool → Geometry → Progress → List ℕ → List Found
 found_ahead at_end g progress bytes = pieces_ahead at_end g progress.pieces (progress.rest ++ bytes)
 
@@ -45,7 +45,7 @@ problems_from at_end g progress bytes = number_from progress.handed (found_ahead
 abbrev pub to_come : Geometry → Progress → List ℕ → List Numbered
 to_come = problems_from true
 
--- those of them that end in these bytes
+-- the problems not yet handed out that end in these bytes
 abbrev pub ended : Geometry → Progress → List ℕ → List Numbered
 ended = problems_from false
 
@@ -56,7 +56,7 @@ IsStarved progress = (progress.rest ≡ []) × (progress.met_end ≡ false) × (
 abbrev pub is_starved : Progress → Bool
 is_starved progress = (length progress.rest == 0) && (not progress.met_end && nat_le progress.handed MAX_PROBLEMS)
 
--- how far a reader has come that holds this
+-- the reader at this progress
 abbrev pub reader_at : Progress → Reader
 reader_at progress = record {
   ahead = λ g over bytes. problems_from over g progress bytes;
@@ -65,11 +65,11 @@ reader_at progress = record {
   waits = is_starved progress;
 }
 
--- what the rest and the bytes still to be read say after the piece that was cut off
+-- the problems of the rest and the bytes still to be read, after the piece that was cut off
 abbrev pub found_behind : Bool → Geometry → Progress → List ℕ → List Found
 found_behind at_end g progress bytes = pieces_behind at_end g progress.pieces (progress.rest ++ bytes)
 
--- what the piece that was cut off says
+-- the problem of the piece that was cut off, if it has one
 abbrev pub found_cut : Geometry → Progress → List Found
 found_cut g progress = option_to_list (pieces_cut g progress.pieces)
 
@@ -104,7 +104,7 @@ pub record TakesLast (coming left : Option (List ℕ)) (old new : Progress) : Ty
   pub none : new.rest ≡ []
   pub over : (g : Geometry) → pieces_behind true g new.pieces [] ≡ []
 
--- what reading up to the end of a piece did
+-- the effect of reading up to the end of a piece
 abbrev pub ReadsPiece : Option (List ℕ) → Option (List ℕ) → Progress → Progress → Result Bool ReadFault → Type 0
 ReadsPiece coming left old new (Ok true) = TakesPiece coming left old new
 ReadsPiece coming left old new (Ok false) = TakesLast coming left old new × (new.met_end ≡ true)

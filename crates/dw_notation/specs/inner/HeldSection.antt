@@ -1,4 +1,4 @@
--- What is held of a section, and what decides what it says.
+-- The parts that are held of a section, which decide its problem.
 use Rattle.std.specs.Prelude.{◌≡◌, ℕ, ◌==◌, ◌+◌, ◌-◌, ◌*◌, ◌<◌, ◌||◌, if◌then◌else◌, not, min, List, [], ◌∷◌, ◌++◌}
 use Rattle.std.specs.Prelude.{length, take, Bool, true, false, Option, Some, None, option_to_list, Err, nat_lt}
 use Rattle.std.specs.Char.{is_ascii_digit}
@@ -25,7 +25,7 @@ use Rattle.dw_notation.specs.declared.problems.pdn.Sections.{Sections}
 use Rattle.dw_notation.specs.declared.problems.pdn.Cut.{Cut}
 use Rattle.dw_notation.specs.declared.problems.pdn.Cut.TheVariants.{Nothing, Section, Comment}
 
--- what is held of a section; bytes are counted up to one more than it may have, and the tags of FEN texts up to two
+-- the parts held of a section; bytes are counted up to one more than it may have, and FEN tags up to two
 pub record Held : Type 0 where
   pub read : ℕ
   pub size : ℕ
@@ -99,7 +99,7 @@ tag_on FenTag h = record h { fens = counted 2 h.fens }
 tag_on GameTag h = record h { has_game = true; is_wrong = not (number_held h.game == 20) || h.is_wrong }
 tag_on OtherTag h = h
 
--- what a byte does to what is held
+-- the effect of a byte on the parts held of a section
 abbrev pub held_after : Action → Held → Held
 held_after Keep h = h
 held_after Open h = record held_bare { read = 1 }
@@ -124,14 +124,14 @@ is_wrong_held g h = if g.rows == 10 then h.is_wrong else h.has_game
 abbrev pub fens_held : Geometry → ℕ → List ℕ → Found
 fens_held g fens text = if fens == 0 then Err NoFen else (if fens == 1 then fen_found (fen g text) else Err TwoFens)
 
--- what is held says
+-- the problem of a section, from the parts that are held
 abbrev pub held_found : Geometry → Held → Found
 held_found g h =
     if nat_lt MAX_SECTION h.size then Err SectionTooLong
     else (if h.is_unclosed then Err UnclosedTag
     else (if is_wrong_held g h then Err WrongGame else fens_held g h.fens h.fen_text))
 
--- what is held and then the bytes say
+-- the problems of the section held and of the bytes after it
 abbrev pub held_from : Bool → Geometry → State → Held → List ℕ → List Found
 held_from at_end g state h [] = if at_end then found_at_end state (held_found g h) (held_found g (held_after EndLine h))
     else []
@@ -139,11 +139,11 @@ held_from at_end g state h (byte ∷ bytes) =
     found_by (transition state byte).action (held_found g h)
     ++ held_from at_end g (transition state byte).state (held_after (transition state byte).action h) bytes
 
--- the section begun and then the bytes
+-- the problems of the section begun and of the bytes after it
 abbrev pub sections_ahead : Bool → Geometry → Sections → List ℕ → List Found
 sections_ahead at_end g s bytes = held_from at_end g s.state (held_of s.section) bytes
 
--- what was cut off and is to be handed out
+-- the problem of the piece that was cut off, if it has one
 abbrev pub cut_found : Geometry → Cut → Held → Option Found
 cut_found g Nothing h = None
 cut_found g Section h = Some (held_found g h)

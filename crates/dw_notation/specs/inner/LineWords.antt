@@ -11,7 +11,7 @@ abbrev pub spaced : List (List ℕ) → List ℕ
 spaced [] = []
 spaced (w ∷ words) = 32 ∷ (w ++ spaced words)
 
--- what words add to the text of a line at a ply
+-- the bytes that words add to the text of a line at a ply
 abbrev pub onto : ℕ → List (List ℕ) → List ℕ
 onto zero words = join_with_byte 32 words
 onto (suc ply) words = spaced words

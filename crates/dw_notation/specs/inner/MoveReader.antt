@@ -1,4 +1,4 @@
--- What the parts of reading a move's text find.
+-- The results of the parts of reading a move's text.
 use Rattle.std.specs.Prelude.{◌≡◌, ℕ, ◌<◌, false, Result, Ok, Err, List, ◌++◌}
 use Rattle.std.specs.FinSet as set
 use Rattle.dw_board.specs.Geometry.{Geometry}
@@ -16,7 +16,7 @@ pub record Begins (g : Geometry) (text : List ℕ) (s : ℕ) (rest : List ℕ) :
   pub number : IsNumber g front s
   pub ends : begins_with_digit rest ≡ false
 
--- they give the number of none
+-- no number of a square stands at the front
 abbrev pub BeginsNowhere : Geometry → List ℕ → Type 0
 BeginsNowhere g text = (s : ℕ) (rest : List ℕ) → Begins g text s rest → ⊥
 
@@ -28,12 +28,12 @@ Takes from to m = Between from to m × (0 < set.len m.taken)
 abbrev pub IsOneOf : List Move → ℕ → ℕ → Move → Type 0
 IsOneOf moves from to m = Member m moves × Takes from to m
 
--- m is the only one
+-- m is the only one of these moves that takes something between two squares
 pub record IsOnlyOne (moves : List Move) (from to : ℕ) (m : Move) : Type 0 where
   pub one : IsOneOf moves from to m
   pub alone : (other : Move) → IsOneOf moves from to other → other ≡ m
 
--- there are two
+-- two of these moves take something between two squares
 pub record AreTwo (moves : List Move) (from to : ℕ) : Type 0 where
   pub first : Move
   pub second : Move
@@ -41,7 +41,7 @@ pub record AreTwo (moves : List Move) (from to : ℕ) : Type 0 where
   pub another : IsOneOf moves from to second
   pub differ : first ≡ second → ⊥
 
--- the one, that there is none, or that there are two
+-- the result for the captures between two squares: the only one, that there is none, or that there are two
 abbrev pub IsOnly : List Move → ℕ → ℕ → Result Move MoveFault → Type 0
 IsOnly moves from to (Ok m) = IsOnlyOne moves from to m
 IsOnly moves from to (Err Syntax) = ⊥

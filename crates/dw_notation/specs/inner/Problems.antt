@@ -1,4 +1,4 @@
--- What the problems of a text are found to be, byte by byte, and a problem as it is handed out.
+-- The problems of a text, as they are computed byte by byte, and a problem as it is handed out.
 use Rattle.std.specs.Prelude.{ℕ, List, [], ◌∷◌, Bool, true, Option, Some, None}
 use Rattle.dw_board.specs.Geometry.{Geometry}
 use Rattle.dw_notation.specs.TextLines.{Found}
@@ -10,7 +10,7 @@ use Rattle.dw_notation.specs.declared.problems.Form.{Form}
 use Rattle.dw_notation.specs.declared.problems.Form.TheVariants.{Fens, Pdn}
 use Rattle.dw_notation.specs.declared.problems.pdn.automaton.State.TheVariants.{Outside}
 
--- what a text is found to say, by its form; if it is not over, what has ended in it
+-- the problems of a text, by its form; if more bytes may come, only those that have ended in it
 abbrev pub found_of : Bool → Geometry → Form → List ℕ → List Found
 found_of over g Fens bytes = found_from over g true [] bytes
 found_of over g Pdn bytes = sections_found over g Outside bare bytes

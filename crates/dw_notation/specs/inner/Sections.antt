@@ -1,5 +1,4 @@
--- The sections of a text of tags, byte by byte: where the text stands, what its next byte does, what a section is found
--- to say.
+-- The sections of a text of tags, byte by byte: the states, the effect of the next byte, and the problem of a section.
 use Rattle.std.specs.Prelude.{ℕ, ◌==◌, ◌+◌, ◌||◌, if◌then◌else◌, List, [], ◌∷◌, ◌++◌, Bool, true, false, Err, nat_lt}
 use Rattle.std.specs.Prelude.{codes}
 use Rattle.dw_board.specs.Geometry.{Geometry}
@@ -31,7 +30,7 @@ at state action = record { state = state; action = action }
 abbrev pub broken_by : ℕ → Transition
 broken_by byte = if ends_line byte then at Between EndLine else at Rest Break
 
--- where a byte leads, and what it does
+-- the next state after a byte, and its effect
 abbrev pub transition : State → ℕ → Transition
 transition Outside byte =
     if byte == open_bracket then at BeforeName Open
@@ -90,7 +89,7 @@ with_tag FenTag s = record s { fens = s.value ∷ s.fens }
 with_tag GameTag s = record s { games = game_of s.value ∷ s.games }
 with_tag OtherTag s = s
 
--- what a byte does to a section
+-- the section after a byte with this effect
 abbrev pub after : Action → Section → Section
 after Keep s = s
 after Open s = record bare { read = 1 }
@@ -105,32 +104,32 @@ after EndLine s = record s { read = s.read + 1; size = s.read; is_unclosed = tru
 after NextTag s = record s { read = s.read + 1; name = [] }
 after End s = s
 
--- what the values of the FEN tags say
+-- the problem of a section with these values of FEN tags
 abbrev pub fens_found : Geometry → List (List ℕ) → Found
 fens_found g [] = Err NoFen
 fens_found g (text ∷ []) = fen_found (fen g text)
 fens_found g (text ∷ other ∷ fens) = Err TwoFens
 
--- what a section says
+-- the problem of a section, as far as it was read
 abbrev pub section_found : Geometry → Section → Found
 section_found g s =
     if nat_lt MAX_SECTION s.size then Err SectionTooLong
     else (if s.is_unclosed then Err UnclosedTag
     else (if is_wrong g s.games then Err WrongGame else fens_found g s.fens))
 
--- what is found if a byte does this in a section that says so
+-- the problem that a byte with this effect ends, given the problem of the section
 abbrev pub found_by : Action → Found → List Found
 found_by End found = found ∷ []
 found_by _ found = []
 
--- what is found where the text ends, by what the section says as it stands and with its tag unclosed
+-- the problem that the end of the text ends, given that of the section as it stands and with its tag unclosed
 abbrev pub found_at_end : State → Found → Found → List Found
 found_at_end Outside whole unclosed = []
 found_at_end Comment whole unclosed = Err UnclosedComment ∷ []
 found_at_end Between whole unclosed = whole ∷ []
 found_at_end _ whole unclosed = unclosed ∷ []
 
--- what the section begun and then the bytes say; a line ends where the text does
+-- the problems of the section begun and of the bytes after it; a line ends where the text does
 abbrev pub sections_found : Bool → Geometry → State → Section → List ℕ → List Found
 sections_found at_end g state s [] = if at_end
     then found_at_end state (section_found g s) (section_found g (after EndLine s)) else []

@@ -9,13 +9,13 @@ use Rattle.dw_notation.specs.declared.problems.pdn.automaton.Action.TheVariants.
 use Rattle.dw_notation.specs.declared.problems.pdn.automaton.Action.TheVariants.{AddValue, AddBoth, Close, Break}
 use Rattle.dw_notation.specs.declared.problems.pdn.automaton.Action.TheVariants.{EndLine, NextTag, End}
 
--- what is read of a tag, and what stands after it
+-- the name and the value read of a tag, and the bytes after it
 pub record TagRead : Type 0 where
   pub name : List ℕ
   pub value : List ℕ
   pub more : List ℕ
 
--- what a byte does to a tag, before these bytes, by what is read of it if it goes on
+-- the tag read after a byte with this effect, which stands before these bytes, given the tag read if it goes on
 abbrev pub read_by : Action → Section → List ℕ → (Section → Option TagRead) → Option TagRead
 read_by Keep s bytes further = None
 read_by Open s bytes further = None
@@ -30,7 +30,7 @@ read_by EndLine s bytes further = None
 read_by NextTag s bytes further = None
 read_by End s bytes further = None
 
--- the tag that goes on so
+-- the whole tag read of these bytes, from a state and the part read so far, if there is one
 abbrev pub tag_from : State → Section → List ℕ → Option TagRead
 tag_from state s [] = None
 tag_from state s (byte ∷ bytes) =
@@ -40,7 +40,8 @@ tag_from state s (byte ∷ bytes) =
 abbrev pub begun : Section
 begun = record bare { read = 1 }
 
--- so far these bytes of a tag were read, after its bracket: so many of its name, and this value
+-- after i bytes of a tag, from its bracket on, the automaton is in this state, and has read a name of this length and
+-- this value
 pub record ReadsTag (inside : List ℕ) (i : ℕ) (state : State) (named : ℕ) (value : List ℕ) : Type 0 where
   pub section : Section
   pub is_named : length section.name ≡ named

@@ -1,4 +1,4 @@
--- What a text of tags is found to say byte by byte, and what its sections are found to say.
+-- The problems of a text of tags and of its sections, byte by byte.
 use Rattle.std.specs.Prelude.{◌≡◌, ◌⊎◌, ℕ, ◌==◌, ◌||◌, if◌then◌else◌, List, [], ◌∷◌, ◌++◌, length, Bool, true, false}
 use Rattle.std.specs.Prelude.{nat_lt, not, Err}
 use Rattle.dw_board.specs.Geometry.{Geometry}
@@ -15,19 +15,19 @@ use Rattle.dw_notation.specs.declared.problems.pdn.automaton.State.TheVariants.{
 use Rattle.dw_notation.specs.declared.problems.pdn.section.TagKind.{TagKind}
 use Rattle.dw_notation.specs.declared.problems.pdn.section.TagKind.TheVariants.{FenTag, GameTag, OtherTag}
 
--- opens a tag or a comment
+-- whether a byte opens a tag or a comment
 abbrev pub opens : ℕ → Bool
 opens byte = (byte == open_bracket) || (byte == open_brace)
 
--- any byte that neither opens a tag nor stands between two
+-- whether a byte ends a section: it neither opens a tag nor stands between two
 abbrev pub ends_section : ℕ → Bool
 ends_section byte = not ((byte == open_bracket) || is_space byte)
 
--- closes a comment
+-- whether a byte closes a comment
 abbrev pub closes : ℕ → Bool
 closes byte = byte == close_brace
 
--- changes nothing, by where the text stands
+-- whether a byte changes nothing in a state
 abbrev pub passes : State → ℕ → Bool
 passes Outside byte = not (opens byte)
 passes Comment byte = not (closes byte)
@@ -53,18 +53,18 @@ abbrev pub games_of : List Tag → List ℕ
 games_of [] = []
 games_of (tag ∷ tags) = with_game (kind_of tag.name) tag.value (games_of tags)
 
--- what a section of these tags says that has so many bytes, by whether a tag of it is unclosed
+-- the problem of a section with these tags and this number of bytes, given whether a tag of it is unclosed
 abbrev pub tags_found : Geometry → ℕ → Bool → List Tag → Found
 tags_found g size some tags =
     if nat_lt MAX_SECTION size then Err SectionTooLong
     else (if some then Err UnclosedTag
     else (if is_wrong g (games_of tags) then Err WrongGame else fens_found g (fens_of tags)))
 
--- what a text says from outside any section
+-- the problems of a text that begins outside any section
 abbrev pub outside_found : Bool → Geometry → List ℕ → List Found
 outside_found at_end g bytes = sections_found at_end g Outside bare bytes
 
--- a section says what its tags say, and the byte that ends it is outside
+-- a section has the problem that its tags give, and the byte that ends it is outside
 abbrev pub SectionsAreFound : Type 0
 SectionsAreFound =
     (at_end : Bool) (g : Geometry) (text gap more : List ℕ) (tags : List Tag) (some last : Bool) (byte : ℕ)
@@ -72,23 +72,23 @@ SectionsAreFound =
     → outside_found at_end g (text ++ (gap ++ byte ∷ more))
     ≡ tags_found g (length text) some tags ∷ outside_found at_end g (byte ∷ more)
 
--- at the end of the text it needs no byte after it, and an unclosed tag no end of its line
+-- at the end of the text a section needs no byte after it, and an unclosed tag no end of its line
 abbrev pub LastSectionIsFound : Type 0
 LastSectionIsFound =
     (g : Geometry) (text gap : List ℕ) (tags : List Tag) (some last : Bool) → IsSection text tags some last
     → IsGap last gap ⊎ (gap ≡ []) → outside_found true g (text ++ gap) ≡ tags_found g (length text) some tags ∷ []
 
--- a comment says nothing, whatever stands in it up to the first closing brace
+-- a comment has no problem, whatever stands in it up to the first closing brace
 abbrev pub CommentsSayNothing : Type 0
 CommentsSayNothing = (at_end : Bool) (g : Geometry) (text more : List ℕ) → IsOpen text
     → outside_found at_end g (open_brace ∷ (text ++ close_brace ∷ more)) ≡ outside_found at_end g more
 
--- but a fault is found if the text ends in it
+-- a comment that the end of the text leaves open is a fault
 abbrev pub OpenCommentIsFound : Type 0
 OpenCommentIsFound = (g : Geometry) (text : List ℕ) → IsOpen text
     → outside_found true g (open_brace ∷ text) ≡ Err UnclosedComment ∷ []
 
--- any other byte outside says nothing
+-- any other byte outside has no problem
 abbrev pub OthersSayNothing : Type 0
 OthersSayNothing = (at_end : Bool) (g : Geometry) (byte : ℕ) (more : List ℕ) → opens byte ≡ false
     → outside_found at_end g (byte ∷ more) ≡ outside_found at_end g more
@@ -97,7 +97,7 @@ OthersSayNothing = (at_end : Bool) (g : Geometry) (byte : ℕ) (more : List ℕ)
 abbrev pub OpenCommentGivesNothing : Type 0
 OpenCommentGivesNothing = (g : Geometry) (text : List ℕ) → IsOpen text → outside_found false g (open_brace ∷ text) ≡ []
 
--- nor has a section that more tags may follow
+-- while more bytes may come, a section that more tags may follow has given nothing
 abbrev pub OpenSectionGivesNothing : Type 0
 OpenSectionGivesNothing =
     (g : Geometry) (text gap : List ℕ) (tags : List Tag) (some last : Bool) → IsSection text tags some last

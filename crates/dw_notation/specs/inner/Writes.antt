@@ -1,4 +1,4 @@
--- What is written of a text: all of it, or a beginning if a write failed.
+-- The written bytes of a text: all of it, or a beginning if a write failed.
 use Rattle.std.specs.Prelude.{ℕ, List, Option}
 use Rattle.dw_notation.specs.Writes.{StopsShort}
 

@@ -26,7 +26,7 @@ abbrev pub after_moves : Geometry → Placement → List Move → Placement
 after_moves g p [] = p
 after_moves g p (m ∷ moves) = after_moves g (play g p m) moves
 
--- how long the text of so many of them is, after a text of some length
+-- the length of the text of the first moves, after a text of some length
 abbrev pub len_to : {B : Type 0} → ℕ → ℕ → List (WrittenMove B) → ℕ
 len_to base zero [] = base
 len_to base zero (x ∷ plies) = base

@@ -15,7 +15,8 @@ use dw_board::{Board, Position, read_fen};
 /// The byte-order mark of UTF-8, which may stand at the front of a text.
 const BYTE_ORDER_MARK: &[u8] = b"\xEF\xBB\xBF";
 
-/// How many bytes of a line are held: a mark, and enough to tell that the line is too long, with a carriage return too.
+/// The number of bytes held of a line: a mark, and enough to tell that the line is too long, with a carriage return
+/// too.
 const LINE_HELD: usize = 3 + MAX_LINE + 2;
 
 fn is_blank_text(text: &[u8]) -> bool
@@ -68,12 +69,12 @@ fn line_feed_at(bytes: &[u8]) -> Option<usize>
     bytes.iter().position(|byte| *byte == b'\n')
 }
 
-/// How far a text of lines was read.
+/// The progress of reading a text of lines.
 #[derive(Drop)]
 pub(super) struct TextLines {
     /// Whether the line is the first one, before which a byte-order mark may stand.
     is_first: bool,
-    /// What was read of the line, as far as it is held.
+    /// The bytes read of the line, as far as they are held.
     line: ArrayVec<u8, LINE_HELD>,
 }
 
@@ -91,7 +92,7 @@ impl TextLines {
         }
     }
 
-    /// Puts a piece after the line.
+    /// Adds a piece to the line, as far as the line is held.
     fn push(&mut self, piece: &[u8])
         ensures line { SaysSame self.old.is_first (self.old.line.items ++ piece.now) self.new.line.items }
         ensures first { self.new.is_first ≡ self.old.is_first }
@@ -100,7 +101,7 @@ impl TextLines {
         let _fits = self.line.try_extend_from_slice(&piece[..count]);
     }
 
-    /// Reads up to the first line feed, and answers its place; all bytes, if there is none.
+    /// Reads up to the first line feed, and returns its place, or `None` after all bytes.
     pub(super) fn cut(&mut self, bytes: &[u8]) -> Option<usize>
         ensures some { IfSome result (λ k. (k < length bytes.now) × ((g : Geometry) (at_end : Bool) (more : List ℕ) →
             lines_ahead at_end g self.old (bytes.now ++ more)

@@ -14,21 +14,22 @@ pub struct Numbering {
 impl Numbering {
     ghost use Rattle.dw_notation.specs.Numbering.{handed_out};
 
-    /// Makes a numbering before the first problem.
+    /// Returns a numbering before the first problem.
     pub fn new() -> Numbering
         ensures { handed_out result ≡ 0 }
     {
         Numbering { handed: 0 }
     }
 
-    /// Returns whether the last problem was numbered that there may be.
+    /// Returns whether the last problem was numbered, the one that is `TooManyProblems`.
     pub fn is_over(self) -> bool
         ensures { MatchBool result (MAX_PROBLEMS < handed_out self) (handed_out self ≤ MAX_PROBLEMS) }
     {
         self.handed > MAX_PROBLEMS
     }
 
-    /// Returns the next problem, which says this, or that it is one too many. After the last one it is that one again.
+    /// Returns the next problem with this content, or as `TooManyProblems` if it is one too many. After that one it
+    /// returns the same again.
     pub fn hand_out<B: Board>(&mut self, found: Result<Position<B>, ProblemFault>) -> Problem<B>
         ensures more { handed_out self.old ≤ MAX_PROBLEMS → handed_out self.new ≡ handed_out self.old + 1 }
         ensures last { MAX_PROBLEMS < handed_out self.old → handed_out self.new ≡ handed_out self.old }

@@ -11,7 +11,7 @@ use automaton::{Action, State};
 use dw_board::{Board, Position};
 use section::HeldSection;
 
-/// What was cut off of a text of tags.
+/// The piece that was cut off last from a text of tags.
 #[derive(Clone, Copy)]
 enum Cut {
     Nothing,
@@ -42,7 +42,7 @@ impl Sections {
         }
     }
 
-    /// Reads a byte, and answers whether it ends a section, which is then cut off.
+    /// Reads a byte, and returns whether it ends a section, which is then cut off.
     fn add(&mut self, byte: u8) -> bool
         ensures cut { result ≡ true → self.new.cut ≡ Cut.Section }
         ensures said { (g : Geometry) (at_end : Bool) (more : List ℕ) → sections_ahead at_end g self.old (byte ∷ more)
@@ -59,7 +59,7 @@ impl Sections {
         false
     }
 
-    /// Reads up to the byte that ends a section, and answers its place; all bytes, if there is none.
+    /// Reads up to the byte that ends a section, and returns its place, or `None` after all bytes.
     pub(super) fn cut(&mut self, bytes: &[u8]) -> Option<usize>
         ensures some { IfSome result (EndsAt self.old self.new bytes.now) }
         ensures none { IfNone result ((g : Geometry) (at_end : Bool) (more : List ℕ) →
@@ -76,7 +76,7 @@ impl Sections {
         None
     }
 
-    /// Ends the section that the end of the text ends.
+    /// Ends the section or the comment that is open at the end of the text, if there is one.
     pub(super) fn finish(&mut self)
         ensures found { (g : Geometry) → sections_ahead true g self.old [] ≡ option_to_list (sections_cut g self.new) }
         ensures over { (g : Geometry) → sections_ahead true g self.new [] ≡ [] }
@@ -93,7 +93,7 @@ impl Sections {
         self.state = State::Outside;
     }
 
-    /// Returns the problem of the section that ended last.
+    /// Returns the problem of the section or the open comment that was cut off last, if there is one.
     pub(super) fn found<B: Board>(&self) -> Option<Result<Position<B>, ProblemFault>>
         ensures { result ≡ sections_cut B.geometry self.now }
     {

@@ -11,7 +11,7 @@ use crate::streams::{Buffer, Source};
 use dw_board::{Board, Position};
 use std::marker::PhantomData;
 
-/// How far a text was read, by its form.
+/// The progress of reading a text, by its form.
 #[derive(Drop)]
 enum Pieces {
     InLines(TextLines),
@@ -33,7 +33,7 @@ impl Pieces {
         }
     }
 
-    /// Reads up to the end of a piece, and answers its place; all bytes, if there is none.
+    /// Reads up to the end of a piece, and returns the place where it ends, or `None` after all bytes.
     fn cut(&mut self, bytes: &[u8]) -> Option<usize>
         ensures some { IfSome result (λ k. (k < length bytes.now) × ((g : Geometry) (at_end : Bool) (more : List ℕ) →
             pieces_ahead at_end g self.old (bytes.now ++ more)
@@ -81,8 +81,8 @@ impl Pieces {
     }
 }
 
-/// The problems of a source, each cut out of the bytes as they are read. It takes no memory. Of its input it holds one
-/// read and one line at most.
+/// The problems of a source, each cut out of the bytes as they are read. It allocates nothing. Of its input it holds
+/// one read and one line at most.
 #[derive(Drop)]
 pub struct Problems<'a, B: Board, S> {
     source: &'a mut S,
@@ -104,7 +104,7 @@ impl<'a, B: Board, S: Source> Problems<'a, B, S> {
     ghost use Rattle.dw_notation.specs.inner.Cutting.{IsStarved, ReadsPiece};
     ghost use Rattle.dw_notation.specs.inner.Readers.{reader_of};
 
-    /// Returns a reader of all problems that the source has still to give.
+    /// Returns a reader of all problems that the source has still to give. The source must not have failed.
     #[tactic(auto, unfolding(crate::specs::inner::Readers::reader_of))]
     pub fn new(source: &'a mut S, form: Form) -> Problems<'a, B, S>
         requires { S.is_failed source.old ≡ false }
@@ -152,7 +152,7 @@ impl<'a, B: Board, S: Source> Problems<'a, B, S> {
         }
     }
 
-    /// Reads up to the end of a piece, and answers whether it ends before the text does.
+    /// Reads up to the end of a piece, and returns whether it ends before the text does.
     fn next_piece(&mut self) -> Result<bool, ReadFault>
         ensures lender { lender self.new ≡ lender self.old }
         ensures numbers { self.new.numbers ≡ self.old.numbers }
@@ -201,7 +201,7 @@ impl<'a, B: Board, S: Source> Problems<'a, B, S> {
     }
 
     /// Returns the next problem, or `None` if the text has no more. `Failed` is the source's fault: no problem that was
-    /// read whole is lost by it, and each later call answers `Failed` too.
+    /// read whole is lost by it, and each later call returns `Failed` too.
     #[tactic(auto, unfolding(crate::specs::inner::Readers::reader_of))]
     pub fn next(&mut self) -> Result<Option<Problem<B>>, ReadFault>
         ensures lender { lender self.new ≡ lender self.old }

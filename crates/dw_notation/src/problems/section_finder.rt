@@ -15,21 +15,21 @@ pub struct SectionFinder {
 impl SectionFinder {
     ghost use Rattle.dw_notation.specs.Between.{in_comment};
 
-    /// Returns the text begins outside a comment.
+    /// Returns a finder for a text that begins outside a comment.
     pub fn new() -> SectionFinder
         ensures { in_comment result ≡ false }
     {
         SectionFinder { is_comment: false }
     }
 
-    /// Returns whether the text stands in a comment.
+    /// Returns whether the text read so far ends in a comment.
     pub fn is_in_comment(self) -> bool
         ensures { result ≡ in_comment self }
     {
         self.is_comment
     }
 
-    /// Returns the place of the bracket that begins the next section. It passes over all bytes if there is none.
+    /// Returns the place of the bracket that begins the next section, or `None` after all bytes were passed over.
     pub fn find(&mut self, bytes: &[u8]) -> Option<usize>
         ensures some { IfSome result (λ k. (k < length bytes.now) × (in_comment self.new ≡ false)
             × IsBetween (in_comment self.old) false (take k bytes.now)
@@ -49,7 +49,7 @@ impl SectionFinder {
         None
     }
 
-    /// Returns where the text stands.
+    /// Returns the state of the automaton after the text read so far.
     fn state(self) -> State
         ensures { result ≡ (if self.is_comment then state.Comment else state.Outside) }
     {

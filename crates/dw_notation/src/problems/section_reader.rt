@@ -19,7 +19,7 @@ pub struct SectionReader<B: Board> {
 }
 
 impl<B: Board> SectionReader<B> {
-    /// Returns a reader that was given nothing.
+    /// Returns a reader that was given no byte yet.
     #[tactic(auto, unfolding(crate::specs::inner::Readers::ahead_of))]
     pub fn new() -> SectionReader<B>
         ensures said { (over : Bool) (bytes : List ℕ)
@@ -33,8 +33,8 @@ impl<B: Board> SectionReader<B> {
         }
     }
 
-    /// Reads up to the byte that ends a section, and returns its place. That byte is no part of the section. It reads
-    /// all bytes if none ends it.
+    /// Reads up to the byte that ends a section, and returns its place, or `None` after all bytes. That byte is no part
+    /// of the section.
     #[tactic(auto, unfolding(crate::specs::inner::Readers::ahead_of))]
     pub fn cut(&mut self, bytes: &[u8]) -> Option<usize>
         ensures some { IfSome result (λ k. (found : Found) × (k < length bytes.now)
@@ -57,7 +57,7 @@ impl<B: Board> SectionReader<B> {
         self.sections.found()
     }
 
-    /// Returns the problem that the end of the text ends, if there is one.
+    /// Ends the text, and returns the problem of a section or a comment that is open there, if there is one.
     #[tactic(auto, unfolding(crate::specs::inner::Readers::ahead_of))]
     pub fn finish(&mut self) -> Option<Result<Position<B>, ProblemFault>>
         ensures { ahead_of self.old B.geometry true [] ≡ option_to_list result }

@@ -27,11 +27,11 @@ pub record HasLines (g : Geometry) (p : Placement) (stack : LineStack) : Type 0 
   pub lines : List (List Move)
   pub to_come : AreToCome g stack lines
 
--- how many moves there are, and how many pieces each of them takes
+-- the last line of a list of moves: their number, and the number of pieces that each of them takes
 abbrev pub count_line : ℕ → ℕ → List ℕ
 count_line moves taken = codes "moves " ++ decimal moves ++ codes " taking " ++ decimal taken ++ codes "\n"
 
--- that a list of moves is no line, with the place at which it leaves all lines
+-- the refusal of a list of moves that is no line, with the place at which it leaves all lines
 abbrev pub refused_line : ℕ → List ℕ
 refused_line place = codes "refused token: 1 not a line at " ++ decimal place ++ codes "\n"
 

@@ -1,4 +1,4 @@
--- What the parts of a run do.
+-- The effect of the parts of a run.
 use Rattle.std.specs.Prelude.{◌≡◌, ℕ, ◌+◌, ◌≤◌, ◌<◌, List, [], ◌∷◌, ◌++◌, length, Bool, true, Option, Result, Ok, Err}
 use Rattle.dw_board.specs.Geometry.{Geometry}
 use Rattle.dw_board.specs.Placement.{Placement}
@@ -22,7 +22,7 @@ use Rattle.dw_report.specs.declared.problem.TextFault.{TextFault}
 use Rattle.dw_report.specs.declared.problem.TextFault.TheVariants.{Stopped, Sink}
 use Rattle.dw_report.specs.Running.{AreRefused, AreLinesOf}
 
--- what a run can be asked for: 1 to 20 moves, and at least one line
+-- the request is within its ranges: 1 to 20 moves, and at least one line
 pub record IsSound (g : Geometry) (request : Request) : Type 0 where
   pub some : 1 ≤ request.moves
   pub few : request.moves ≤ 20
@@ -41,7 +41,7 @@ pub record CountsOne (g : Geometry) (request : Request) (old new : Summary) (pro
   pub refused : (count : ℕ) × AreRefused g request (chosen request.only (problem ∷ [])) count
       × (new.refused ≡ old.refused + count)
 
--- what a problem's text has after its first line that is known at once: the diagram, if the position is shown
+-- the part of a problem's text after its first line that is known at once: the diagram, if the position is shown
 abbrev pub at_once : Geometry → Found → Command → List ℕ
 at_once g (Err fault) command = []
 at_once g (Ok p) asked.Show = diagram_text g p
@@ -49,7 +49,7 @@ at_once g (Ok p) asked.Moves = []
 at_once g (Ok p) asked.Judge = []
 at_once g (Ok p) asked.List = []
 
--- and what is said after that
+-- the part of a problem's text after that
 abbrev pub IsSaidThen : Geometry → Command → Request → Placement → List ℕ → Type 0
 IsSaidThen g asked.Show request p text = text ≡ []
 IsSaidThen g asked.Moves request p text = IsSaid g asked.Moves request p text
@@ -59,14 +59,14 @@ IsSaidThen g asked.List request p text = IsSaid g asked.List request p text
 abbrev pub IsRest : Geometry → Request → Placement → List ℕ → Type 0
 IsRest g request p text = IsSaidThen g request.command request p text
 
--- what writing a text did: it was written; after a stop a part of it; after a fault of the sink some beginning
+-- the effect of writing a text: it was written; after a stop a part of it; after a fault of the sink some beginning
 abbrev pub TextEnds : {X : Type 0} → (List ℕ → Type 0) → (List ℕ → Type 0) → Option (List ℕ) → Option (List ℕ)
     → Result X TextFault → Type 0
 TextEnds P Part old new (Ok x) = Writes P old new
 TextEnds P Part old new (Err (Stopped why)) = Writes Part old new
 TextEnds P Part old new (Err Sink) = WritesShort P old new
 
--- the sink has failed exactly if it is the fault
+-- the sink fails in this call exactly if it is the fault
 abbrev pub SinkEnds : {X : Type 0} → Bool → Bool → Result X TextFault → Type 0
 SinkEnds old new (Ok x) = new ≡ old
 SinkEnds old new (Err (Stopped why)) = new ≡ old
@@ -84,7 +84,7 @@ SearchesFor asked.Moves old new result = (new ≡ old) × ((why : Stop) → resu
 SearchesFor asked.Judge old new result = Spends old new result
 SearchesFor asked.List old new result = Spends old new result
 
--- how a run ends if a text was not written to its end
+-- the fault of a run that did not write a text to its end
 abbrev pub ended_by : TextFault → ℕ → RunFault
 ended_by (Stopped why) expanded = ends.Stopped why expanded
 ended_by Sink expanded = ends.Write

@@ -1,4 +1,4 @@
--- What a search finds out from a list of moves.
+-- The results of a search from a list of moves.
 use Rattle.std.specs.Prelude.{◌≡◌, ◌⊎◌, ◌↔◌, ℕ, Bool, IsTrue, List, Option, Some, None}
 use Rattle.dw_board.specs.Geometry.{Geometry}
 use Rattle.dw_board.specs.Placement.{Placement}
@@ -14,11 +14,11 @@ use Rattle.dw_solve.specs.Work.{Moment, NothingLost}
 use Rattle.dw_solve.specs.declared.replies.Tried.{Tried}
 use Rattle.dw_solve.specs.declared.replies.Tried.TheVariants.{Answered, PutOff}
 
--- the position after a legal move, if who made it has a reply to whatever the other side plays then
+-- the position after a legal move, after which its side has a reply to every move of the other side
 abbrev pub IsSureReply : Geometry → Placement → Placement → Type 0
 IsSureReply g p after = (m : Move) × Legal g p m × (after ≡ play g p m) × AlwaysReply g after
 
--- it says whether some legal move leaves the other side without one, or each leaves it a reply
+-- the answer says whether some legal move leaves the other side without one; if not, each leaves it a reply
 pub record IsLastWin (g : Geometry) (p : Placement) (answer : Bool) : Type 0 where
   pub when : IsTrue answer → (m : Move) × Legal g p m × ((r : Move) → Legal g (play g p m) r → ⊥)
   pub unless : (IsTrue answer → ⊥) → (m : Move) → Legal g p m → (r : Move) × Legal g (play g p m) r
@@ -27,12 +27,12 @@ pub record IsLastWin (g : Geometry) (p : Placement) (answer : Bool) : Type 0 whe
 abbrev pub AreAllLegal : Geometry → Placement → List Move → Type 0
 AreAllLegal g p moves = (m : Move) → Member m moves → Legal g p m
 
--- at the last move of the attacker: a reply is sure to refute, or the legal moves are taken up
+-- at the last move of the attacker: a reply surely refutes, or all legal moves are listed
 abbrev pub AreLinedUpLast : Geometry → Placement → List (ℕ × Move) → Option Placement → Type 0
 AreLinedUpLast g q ranked (Some after) = IsSureReply g q after
 AreLinedUpLast g q ranked None = AreRanked g q ranked
 
--- so it is of the answer that was found for a reply, if it was not put off
+-- P holds of the answer for a reply, if it was not put off
 abbrev pub IfAnswered : (Bool → Type 0) → Tried → Type 0
 IfAnswered P (Answered wins) = P wins
 IfAnswered P (PutOff rank) = Unit {0}
@@ -57,8 +57,8 @@ pub record SaysAll (g : Geometry) (c : Content) (q : Placement) (n : ℕ) (ranke
   pub when : IsTrue answer → (r : Move) → Member r (moves_of ranked) → KnownWin c (play g q r) n
   pub unless : (IsTrue answer → ⊥) → (r : Move) × Legal g q r × ((n ≡ 0) ⊎ KnownFail c (play g q r) n)
 
--- What looks at the memo tell of a loss: whether there is one, and that the memo says so; or that it does not decide
--- each reply.
+-- The result of looks at the memo for a loss: whether there is one, as the memo says; or that it does not decide each
+-- reply.
 abbrev pub IsLossLookedUp : Geometry → Content → Content → Placement → ℕ → Option Bool → Type 0
 IsLossLookedUp g before after q n (Some answer) = (IsTrue answer ↔ Lost g q n) × SaysLost g after q n answer
 IsLossLookedUp g before after q n None = RepliesAreDecided g before q n → ⊥

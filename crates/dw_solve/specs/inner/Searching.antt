@@ -1,4 +1,4 @@
--- What the parts of a search do.
+-- The effect of the parts of a search.
 use Rattle.std.specs.Prelude.{◌≡◌, ◌⊎◌, ◌↔◌, ℕ, ◌≤◌, Bool, cond, IsTrue, Option, Some, None, Result, IsErrOf}
 use Rattle.dw_memo.specs.declared.bounds.Bounds.{Bounds}
 use Rattle.dw_memo.specs.inner.Keeping.{nothing}
@@ -23,13 +23,13 @@ use Rattle.dw_solve.specs.declared.stop.Stop.TheVariants.{Limit}
 abbrev pub at_time : {M G : Type 0} → (M → Content) → (M → ℕ) → Search M G → Moment
 at_time content lost s = moment content lost s.memo s.expanded
 
--- it can go on: all bounds in its memo are right, and it has expanded no more positions than it may
+-- a search can go on: all bounds in its memo are right, and it has expanded no more positions than it may
 pub record CanSearch {M G : Type 0} (g : Geometry) (content : M → Content) (s : Search M G) : Type 0 where
   pub right : AreTrue g (content s.memo)
   pub within : s.expanded ≤ s.limit
 
--- It went on for wins within n moves: all bounds are still right, each expansion is counted, up to the limit, and the
--- memo is as searches leave it.
+-- A search went on for wins within n moves: all bounds are still right, each expansion is counted, up to the limit, and
+-- the memo is as searches leave it.
 pub record HasSearched {M G A : Type 0} (g : Geometry) (content : M → Content) (lost : M → ℕ) (n : ℕ)
     (old new : Search M G) (answer : Result A Stop) : Type 0 where
   pub right : AreTrue g (content new.memo)
@@ -52,13 +52,13 @@ pub record IsUndecided (c : Content) (p : Placement) (n : ℕ) : Type 0 where
   pub undecided : IsDecided c p n → ⊥
   pub map : IsMap c
 
--- a memo that held the one content decides whether there is a win within n moves, and with the other it still says so
+-- a memo with the first content decides whether there is a win within n moves, and with the second it still says so
 pub record IsKnown (g : Geometry) (before after : Content) (p : Placement) (n : ℕ) (won : Bool) : Type 0 where
   pub answer : IsTrue won ↔ Win g p n
   pub sure : (n ≡ 0) ⊎ IsDecided before p n
   pub says : SaysWin after p n won
 
--- what a look at the memo tells of a win within n moves: whether there is one, or that the memo does not decide it
+-- the result of a look at the memo for a win within n moves: whether there is one, or that the memo does not decide it
 abbrev pub IsLookedUp : Geometry → Content → Content → Placement → ℕ → Option Bool → Type 0
 IsLookedUp g before after p n (Some won) = IsKnown g before after p n won
 IsLookedUp g before after p n None = IsUndecided after p n
@@ -84,7 +84,8 @@ pub record IsNoted (p : Placement) (n : ℕ) (won : Bool) (before after : Moment
       after.lost
   pub expanded : before.expanded ≡ after.expanded
 
--- it says of some move that after every reply there is a win within n, or of each that after some reply there is none
+-- the memo says of some move that after every reply there is a win within n moves, or of each that after some reply
+-- there is none
 pub record SaysMove (g : Geometry) (c : Content) (p : Placement) (n : ℕ) (answer : Bool) : Type 0 where
   pub when : IsTrue answer → (m : Move) × Legal g p m
       × ((r : Move) → Legal g (play g p m) r → KnownWin c (play g (play g p m) r) n)

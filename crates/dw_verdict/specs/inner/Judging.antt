@@ -31,23 +31,23 @@ LeadsToChoices g (suc n) p (m ∷ r ∷ s ∷ l) choices =
     Legal g p m × Lost g (play g p m) n × Legal g (play g p m) r
     × LeadsToChoices g n (play g (play g p m) r) (s ∷ l) choices
 
--- at once, or later
+-- the attacker, who has n moves left, has choices at once, or moves lead to choices later
 abbrev pub ComesToChoices : Geometry → ℕ → Placement → List Move → List Move → Type 0
 ComesToChoices g n p [] choices = Keys g p n choices × (2 ≤ length choices)
 ComesToChoices g n p (m ∷ l) choices = LeadsToChoices g n p (m ∷ l) choices
 
--- after a reply
+-- moves that begin with a reply lead to choices of the attacker, who has n moves left
 abbrev pub RepliesToChoices : Geometry → ℕ → Placement → List Move → List Move → Type 0
 RepliesToChoices g n q [] choices = ⊥
 RepliesToChoices g n q (r ∷ l) choices = Legal g q r × ComesToChoices g n (play g q r) l choices
 
--- it holds of this beginning and these choices, and of no beginning that comes before
+-- P holds of this beginning and these choices, and of no beginning that comes before
 pub record IsLeast (Less : List Move → List Move → Type 0) (P : List Move → List Move → Type 0)
     (l choices : List Move) : Type 0 where
   pub is : P l choices
   pub least : (other others : List Move) → P other others → Less other l → ⊥
 
--- the least one of all, or that there is none
+-- the beginning found is the least for which P holds; or there is none
 abbrev pub FindsLeast : (Less : List Move → List Move → Type 0) (P : List Move → List Move → Type 0) →
     Option (List Move × List Move) → Type 0
 FindsLeast Less P None = (l choices : List Move) → P l choices → ⊥

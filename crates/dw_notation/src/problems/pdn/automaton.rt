@@ -17,23 +17,23 @@ use crate::bytes::{ends_line, is_blank, is_name_byte, is_space};
 pub(crate) enum State {
     Outside,
     Comment,
-    /// Behind a tag of a section.
+    /// After a tag of a section.
     Between,
     BeforeName,
     InName,
     BehindName,
     InValue,
-    /// Behind a backslash in a value.
+    /// After a backslash in a value.
     Escaped,
     BehindValue,
     /// In the line of an unclosed tag, after the byte that broke it.
     Rest,
 }
 
-/// What a byte does to a section.
+/// The effect of a byte on a section.
 #[derive(Clone, Copy)]
 pub(crate) enum Action {
-    /// It is none of the section.
+    /// It is no part of a section.
     Keep,
     /// It opens a section.
     Open,
@@ -69,7 +69,7 @@ fn at(state: State, action: Action) -> Transition
     Transition { state, action }
 }
 
-/// Returns the step by a byte that has no place in a tag.
+/// Returns the transition by a byte that has no place in a tag.
 fn broken_by(byte: u8) -> Transition
     ensures { result ≡ broken_by byte }
 {
@@ -215,7 +215,7 @@ fn closing_at(bytes: &[u8]) -> Option<usize>
 }
 
 impl State {
-    /// Returns how many bytes change nothing here, and may be passed over at once.
+    /// Returns a number of first bytes that change nothing in this state, and may be passed over at once.
     pub(crate) fn passed(self, bytes: &[u8]) -> usize
         ensures within { result ≤ length bytes.now }
         ensures passed { list_all (passes self) (take result bytes.now) ≡ true }

@@ -10,19 +10,19 @@ use crate::bytes::is_blank;
 use arrayvec::ArrayVec;
 use dw_board::{Board, Position, read_fen};
 
-/// How many bytes of a tag's name are kept: one more than the longest name that matters has.
+/// The number of bytes kept of a tag's name: one more than the longest name that matters has.
 const NAME: usize = 9;
 
-/// How far bytes are counted: one more than a section may have.
+/// The greatest number of bytes that is counted: one more than a section may have.
 const SECTION_COUNTED: usize = MAX_SECTION + 1;
 
 /// The game of the problems that are read.
 const GAME: u8 = 20;
 
-/// What each greater number of a game is held as.
+/// The number that stands for all greater games.
 const GREATER_GAME: u8 = GAME + 1;
 
-/// What a tag is, by its name.
+/// The kind of a tag, by its name.
 #[derive(Clone, Copy)]
 enum TagKind {
     FenTag,
@@ -55,7 +55,7 @@ enum Game {
     Before,
     /// Digits were read.
     Within(u8),
-    /// What follows them, too.
+    /// A byte that is no digit was read, so the number is known.
     Behind(u8),
 }
 
@@ -115,14 +115,14 @@ fn counted(most: usize, count: usize) -> usize
 /// The parts of a section that decide its problem.
 #[derive(Drop)]
 pub(super) struct HeldSection {
-    /// The bytes read from its first bracket on, as far as they are counted.
+    /// The number of bytes read from its first bracket on, as far as they are counted.
     read: usize,
-    /// Those of them up to the end of its last tag.
+    /// The number of them up to the end of its last tag.
     size: usize,
     is_unclosed: bool,
     name: ArrayVec<u8, NAME>,
     kind: TagKind,
-    /// How many FEN tags it has: none, one, or two and more.
+    /// The number of its FEN tags, 2 for two and more.
     fens: usize,
     /// The value of the first of them, up to one byte more than a FEN text may have.
     fen_text: ArrayVec<u8, PAST_FEN>,
@@ -152,7 +152,7 @@ impl HeldSection {
         }
     }
 
-    /// Returns a new section after its first bracket.
+    /// Begins a new section after its first bracket.
     fn open(&mut self)
         ensures { held_of self.new ≡ record held_bare { read = 1 } }
     {
