@@ -51,7 +51,7 @@ abbrev pub line_fault_of : MovetextFault → LineFault
 line_fault_of (text.Refused what place) = Refused (Movetext what) place
 line_fault_of text.Memory = Memory
 
--- after the tokens before, this one is at fault: it begins a variation, or it is at fault in any movetext
+-- after these tokens, the next one has a fault of this kind: it begins a variation, or it is at fault in any movetext
 pub data LineFaultAt (g : Geometry) (p : Placement) : List Token → Token → MovetextFaultKind → Type 0 where
   begins_variation : {ts : List Token} {moves : List Move} {t : Token} → IsStraight g p ts moves → t.what ≡ Opens
       → LineFaultAt g p ts t Variation

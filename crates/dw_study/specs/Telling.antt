@@ -40,8 +40,8 @@ cut_short (Ok (Judged k it)) n = 0
 cut_short (Ok (Undecided k)) n = n
 cut_short (Err stop) n = n
 
--- a position stays undecided only if there is a bound and as many positions were expanded, and at no lower number of
--- moves than up to which the memo said all that there is to know
+-- A position stays undecided only if there is a bound and exactly that many positions were expanded. If the memo knew
+-- before, for each number of moves up to j, whether there is a win, then the answer is at least j.
 pub record StaysOpen {M B : Type 0} (content : M → Content) (p : Placement) (each : Option ℕ) (old new : Solving M)
     (answer : Result (findings.Finding B) Stop) : Type 0 where
   pub undecided : (k : ℕ) → answer ≡ Ok (Undecided k)
