@@ -73,8 +73,8 @@ IsTextOfFirst g heading first many text =
     IsTextOf g first.start (verdict_comment heading)
     (last_words (is_cut first many) (result_of first.start.turn first.lines)) (take many first.lines) text
 
--- The movetext of first lines, and how many of them it has: all, or as many as do not pass 1,000,000 bytes, where with
--- one line more it would.
+-- The movetext of first lines, and how many of them it has: all, or as many as fit in 1,000,000 bytes. With one line
+-- more the text would be longer.
 pub record IsMovetext (g : Geometry) (heading : Heading) (first : LinesFrom) (many : ℕ) (text : List ℕ) : Type 0 where
   pub within : many ≤ length first.lines
   pub is : IsTextOfFirst g heading first many text
