@@ -16,7 +16,7 @@ abbrev pub entry_text : Geometry → Entry → List ℕ
 entry_text g e = written g e.position ++ codes " fails " ++ bound_text e.bounds.fails
     ++ codes " wins " ++ bound_text e.bounds.wins
 
--- the answer
+-- the line of the answer
 abbrev pub answer_text : (win : Bool) → ℕ → List ℕ
 answer_text true n = codes "win in " ++ decimal n
 answer_text false n = codes "no win in " ++ decimal n
