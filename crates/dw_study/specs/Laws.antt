@@ -11,7 +11,7 @@ use Rattle.dw_study.specs.Finding.{judged, undecided, IsFinding}
 use Rattle.dw_study.specs.RemarkText.{CanBeTold}
 use Rattle.dw_study.specs.Remarks.{Remark, fails, also, leaves_open, ends, AreRemarks}
 
--- each position is judged in one way, and only in one; if it is undecided, then at a lower number of moves
+-- each position has exactly one judged finding, and an undecided one has a lower number of moves
 pub record OneFinding : Type 0 where
   pub some : (g : Geometry) → IsBoard g → (p : Placement) (most : ℕ) →
       (k : ℕ) × (v : Verdict) × (tries : List (Move × Move)) × IsFinding g p most (judged k v tries)

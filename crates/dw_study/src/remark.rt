@@ -29,9 +29,9 @@ pub enum Remark<B: Board> {
         /// All of them, in order.
         replies: Vec<Move<B>>,
     },
-    /// The solution does not go on, though the attacker is to move, or the defender is and can move.
+    /// The solution stops here, though the attacker is to move, or the defender is and can move.
     Ends {
-        /// The node after which it has no moves.
+        /// The beginning after which it has no legal move.
         at: Option<Node>,
     },
 }

@@ -1,4 +1,4 @@
-//! Searches are cut into slices, so that a program can show how far it is.
+//! Slices of searches, so that a program can show how far a search is.
 ghost use Rattle.std.specs.Prelude.{◌≡◌, ℕ, ◌+◌, ◌-◌, ◌^◌, ◌<◌, ◌≤◌, ◌↔◌, min, max, IsTrue};
 ghost use Rattle.std.specs.Result.{IsErrOf};
 ghost use Rattle.dw_solve.specs.declared.stop.Stop.TheVariants.{Limit};
@@ -34,7 +34,7 @@ impl Watcher for Unwatched {
 pub struct Slices<W> {
     /// How many positions the first slice expands, at least 1.
     pub first: u64,
-    /// How many positions the solver had expanded before it.
+    /// How many positions the solver had expanded before the first slice.
     pub start: u64,
     /// Learns between two slices how far the search is.
     pub watcher: W,
@@ -87,7 +87,8 @@ impl<W: Watcher> Slices<W> {
             .min(most)
     }
 
-    /// Tells the watcher how far a search is, by the number of moves and by all positions that the solver has expanded.
+    /// Tells the watcher the number of moves, and how many positions were expanded since the slices began. `expanded`
+    /// is the count of the solver.
     pub fn tell(&mut self, moves: u8, expanded: u64)
         ensures told { W.told self.old.watcher moves (expanded - self.old.start) self.new.watcher }
         ensures first { self.new.first ≡ self.old.first }
