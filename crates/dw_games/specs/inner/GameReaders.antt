@@ -18,7 +18,7 @@ use Rattle.dw_games.specs.declared.games.Stage.TheVariants.{Reading, Open, Over,
 use Rattle.dw_games.specs.declared.play.PlayEnd.{PlayEnd}
 use Rattle.dw_games.specs.declared.play.PlayEnd.TheVariants.{Section, Text, Open as LeftOpen}
 
--- the source of a reader of games as it stands, and what was read of it
+-- the source of a reader of games as it stands, with the bytes read of it
 abbrev pub input_in : {B S : Type 0} → Games B S → Input S
 input_in games = input_of games.source.now games.buffer
 

@@ -1,4 +1,4 @@
--- What is kept of a text.
+-- The kept part of a text.
 use Rattle.std.specs.Prelude.{◌≡◌, ◌+◌, ◌-◌, ℕ, List, [], ◌∷◌, ◌++◌, length, take, if◌then◌else◌, Ok, Err}
 use Rattle.std.specs.Str.{IsTrimAsciiEnd}
 use Rattle.dw_notation.specs.TextLines.{Found}

@@ -1,4 +1,4 @@
--- What a reader of a written line holds.
+-- The state of a reader of a written line.
 use Rattle.std.specs.Prelude.{◌≡◌, ◌≢◌, ◌⊎◌, ◌<◌, ◌+◌, ◌%◌, ℕ, Bool, true, false, Result, Ok, Err, List, [], ◌∷◌, ◌++◌}
 use Rattle.std.specs.Prelude.{length}
 use Rattle.dw_board.specs.Geometry.{Geometry}
