@@ -45,7 +45,7 @@ pub struct Task<'a, B: Board> {
 /// The values of a problem's tags that a page shows.
 #[derive(Clone, Copy)]
 pub struct Heading<'a> {
-    /// Who made the problem.
+    /// The author of the problem.
     pub author: Option<&'a [u8]>,
     /// Up to three values that say where and when it was published.
     pub source: [Option<&'a [u8]>; 3],
