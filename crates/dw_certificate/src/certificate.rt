@@ -66,7 +66,7 @@ fn answer_of<B: Board, M: Memo<B>>(
     memo.look(position)?.decide(moves)
 }
 
-/// Returns whether a win within `bound` moves, or no win, means the same for `moves` moves.
+/// Returns whether the fact for `bound` moves, a win or no win, implies the same fact for `moves` moves.
 fn suffices(win: bool, bound: u8, moves: u8) -> bool
     ensures { IsTrue result ↔ Suffices win bound moves }
 {
@@ -155,7 +155,7 @@ impl<B: Board> Certificate<B> {
         Err(CertificateFault::Missing)
     }
 
-    /// Adds the rows that a missing win needs: after each move the position after some reply.
+    /// Adds the rows that a row of no win needs: after each move the position after some reply.
     fn support_no_win<M: Memo<B>>(
         &mut self,
         alloc: Global,

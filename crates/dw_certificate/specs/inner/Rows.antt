@@ -8,7 +8,7 @@ use Rattle.dw_memo.specs.Content.{Content}
 use Rattle.dw_solve.specs.Facts.{KnownWin, KnownFail}
 use Rattle.dw_certificate.specs.Certificate.{Row, Step, Stepped, AreSteps, IsAfterReply, IsComeTo, positions_of, claims}
 
--- a win within one number of moves, or no win, means the same for another number
+-- a fact for one number of moves, a win or no win, implies the same fact for another number
 abbrev pub Suffices : (win : Bool) → (bound moves : ℕ) → Type 0
 Suffices true bound moves = bound ≤ moves
 Suffices false bound moves = moves ≤ bound
