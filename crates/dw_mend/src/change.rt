@@ -16,7 +16,7 @@ pub enum Change<B: Board> {
     },
     /// A piece is put on an empty square.
     With {
-        /// Where it comes to stand.
+        /// The square for the piece.
         square: Square<B>,
         /// The piece.
         piece: Piece,

@@ -33,7 +33,7 @@ use thiserror::Error;
 /// The neighbours to look at, and the bounds of the search.
 #[derive(Clone, Copy, Debug, PartialEq, Eq)]
 pub struct MendBounds {
-    /// The number of moves within which the win is, 1 to 20.
+    /// The number of moves in which a neighbour must be sound, 1 to 20.
     pub moves: u8,
     /// The most positions to expand for each neighbour, at least 1. `None` sets no bound.
     pub each: Option<u64>,
@@ -186,7 +186,7 @@ enum Soundness<B: Board> {
     /// It is sound, by this key.
     Sound(Move<B>),
     Unsound,
-    /// As many positions were expanded as the bound allows for one neighbour.
+    /// All positions that the bound allows for one neighbour were expanded.
     Undecided,
 }
 
