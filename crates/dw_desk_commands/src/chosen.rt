@@ -51,7 +51,7 @@ impl<'a, B: Board, S: Source> Chosen<'a, B, S> {
         self.portion.first
     }
 
-    /// Returns whether these problems were asked for by their numbers.
+    /// Returns whether it is an error if none of these problems is there.
     pub(crate) fn is_asked(&self) -> bool
         ensures { result ≡ self.now.portion.is_asked }
     {

@@ -90,7 +90,7 @@ unfoldable pub AreToCome : {B S : Type 0} → Geometry → (S → Option (List �
     → List NumberedGame → Type 0
 AreToCome g coming has_ended chosen found = AreComing g coming has_ended chosen.portion chosen.left chosen.text found
 
--- what a text still gives is known, and its end too if that was met
+-- the bytes that a text still gives are known, and its end too if that was met
 abbrev pub IsTextKnown : {B S : Type 0} → (S → Option (List ℕ)) → (S → Bool) → Text B S → Type 0
 IsTextKnown coming has_ended text =
     ((bytes : List ℕ) × (coming (source_of text) ≡ Some bytes)) × EndIsKnown coming has_ended text

@@ -1,4 +1,4 @@
--- Why a problem was not reported to its end, by the fault of what was called.
+-- The fault of a command, by the fault of a call that it made.
 use Rattle.std.specs.Prelude.{◌≡◌, ℕ, Bool, false, Result, IfErr, ⊤}
 use Rattle.dw_commands.specs.declared.ending.Ending.{Ending}
 use Rattle.dw_commands.specs.declared.ending.Ending.TheVariants as end
