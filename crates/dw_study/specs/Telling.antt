@@ -73,11 +73,11 @@ remark_in tree (Also at keys) = option_map (λ b. also b keys.items) (beginning_
 remark_in tree (Open at replies) = option_map (λ b. leaves_open b replies.items) (beginning_at tree (place_of at))
 remark_in tree (Ends at) = option_map (λ b. ends b) (beginning_at tree (place_of at))
 
--- these remarks on a tree are right
+-- remarks on a tree have values for which a statement holds
 abbrev pub Say : {B : Type 0} → List (List Move) → List (remarks.Remark B) → (List Remark → Type 0) → Type 0
 Say tree items Holds = (said : List Remark) × (map (remark_in tree) items ≡ map (λ r. Some r) said) × Holds said
 
--- the texts that the words of a remark have
+-- the value of the words of a remark
 abbrev pub texts_in : RemarkWords → Words
 texts_in words = record {
   line = string_bytes words.line;

@@ -1,10 +1,10 @@
--- How many moves of the attacker a tree has.
+-- The number of moves that the attacker makes in a tree.
 use Rattle.std.specs.Prelude.{◌≡◌, ◌⊎◌, ℕ, ◌+◌, ◌/◌, ◌≤◌, List, length}
 use Rattle.dw_board.specs.Lists.{Member}
 use Rattle.dw_moves.specs.Moves.{Move}
 use Rattle.dw_notation.specs.declared.line_text.TheConstants.{MAX_MOVES}
 
--- the moves of the attacker among these
+-- the number of moves of the attacker among these
 abbrev pub turns_in : List Move → ℕ
 turns_in moves = (length moves + 1) / 2
 

@@ -1,4 +1,4 @@
-//! How many moves of the attacker an author's solution has.
+//! The number of moves that the attacker makes in an author's solution.
 ghost use Rattle.std.specs.Prelude.{◌≤◌};
 ghost use Rattle.dw_study.specs.Turns.{HasTurns};
 
