@@ -56,13 +56,13 @@ IsComeTo g p all row = (row.0 ≡ p)
     ⊎ ((from : Stepped) × (m : Move) × Member from all × Legal g from.row.0 m × Member (m, row.0) from.steps
     × (row.1 < from.row.1))
 
--- each position occurs once, with 1 to n moves
+-- rows in which each position occurs once, with 1 to n moves
 pub record AreRows (n : ℕ) (rows : List Row) : Type 0 where
   pub once : NoRepeat (positions_of rows)
   pub some : (r : Row) → Member r rows → 1 ≤ r.1
   pub few : (r : Row) → Member r rows → r.1 ≤ n
 
--- each row takes steps, and from the position that was asked for just these lead to all of them
+-- each row takes steps, and these lead from the position of the question to all rows
 pub record AreNeeded (g : Geometry) (p : Placement) (win : Bool) (rows : List Row) : Type 0 where
   pub all : List Stepped
   pub are : rows ≡ map (λ s. s.row) all
