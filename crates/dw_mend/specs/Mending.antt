@@ -1,4 +1,4 @@
--- The neighbours of a position that are sound.
+-- The sound neighbours of a position.
 use Rattle.std.specs.Prelude.{◌≡◌, ℕ, ◌+◌, ◌*◌, ◌≤◌, ◌⊎◌, Option, Some, None, List, [], ◌∷◌}
 use Rattle.std.specs.Prelude.{◌++◌, length, take}
 use Rattle.dw_board.specs.Geometry.{Geometry}
@@ -43,7 +43,7 @@ pub record IsMendText (w : Wording) (g : Geometry) (p : Placement) (n i m all so
   pub count : all ≡ length (part_of i m neighbours)
   pub is : text ≡ lines ++ last_line w all sound undecided
 
--- the output after a stop: the lines of the first neighbours, some of them
+-- the output after a stop: the lines of the sound ones among some first neighbours
 pub record IsMendStop (w : Wording) (g : Geometry) (n : ℕ) (neighbours : List (Change × Placement))
     (text : List ℕ) : Type 0 where
   pub some : ℕ
