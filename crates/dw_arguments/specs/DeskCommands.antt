@@ -21,7 +21,7 @@ use Rattle.dw_arguments.specs.declared.desk.DeskArgs.{DeskArgs}
 use Rattle.dw_arguments.specs.declared.desk.Task.{Task}
 use Rattle.dw_arguments.specs.declared.desk.Task.TheVariants as tasks
 
--- how many lines a solution is written with at most
+-- the most lines of a solution: as --lines says, or else 1000
 abbrev pub lines_given : List Row → ℕ
 lines_given options = unwrap_or (number_given 1 1000000 options (codes "lines")) 1000
 

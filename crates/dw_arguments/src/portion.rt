@@ -1,4 +1,4 @@
-//! The problems that a command speaks of.
+//! The problems that a command works on.
 ghost use Rattle.std.specs.Prelude.{◌≡◌, ◌≤◌, IfSome, Some, is_some, option_map, true};
 ghost use Rattle.dw_arguments.specs.Numbers.{problem_in};
 ghost use Rattle.std.specs.Option.{option_copied};

@@ -14,7 +14,7 @@ use std::alloc::{AllocError, Global};
 pub struct SolutionArgs {
     /// The number of moves within which a win is looked for, `FEWEST_MOVES` to `MOST_MOVES`.
     pub moves: u8,
-    /// Whether the least number of moves up to that one is looked for, too.
+    /// Whether `moves` is only the most, and the least number of moves with a win is looked for.
     pub is_least: bool,
     /// The most lines to write of each solution, 1 to 1,000,000.
     pub lines: usize,
