@@ -102,7 +102,7 @@ pub fn end_unread<'a, K: Sink>(error: &'a CliError, sink: &mut K) -> Ending<&'a 
     }
 }
 
-/// The line that a program writes to standard error at an ending, after its name.
+/// The text that a program writes to standard error at an ending. It is empty if the output says everything.
 #[derive(Drop)]
 pub struct Message<'a, T> {
     pub program: &'a str,
