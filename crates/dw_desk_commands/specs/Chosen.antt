@@ -1,4 +1,4 @@
--- The problems that a command speaks of, each as a game.
+-- The problems that a command works on, each as a game.
 use Rattle.std.specs.Prelude.{◌≡◌, ◌&&◌, ⊤, ℕ, Bool, true, List, [], Option, Some, None, filter, map, nat_le}
 use Rattle.dw_board.specs.Geometry.{Geometry}
 use Rattle.dw_arguments.specs.declared.portion.Portion.{Portion}

@@ -14,7 +14,7 @@ abbrev pub is_open : Finding → Bool
 is_open (judged k verdict tries) = false
 is_open (undecided k) = true
 
--- if any number of positions may be expanded, the number of moves is found
+-- a finding may leave the number of moves open only if there is a bound on positions
 abbrev pub MayStayOpen : (each : Option ℕ) → Finding → Type 0
 MayStayOpen None finding = is_open finding ≡ false
 MayStayOpen (Some bound) finding = Unit {0}
