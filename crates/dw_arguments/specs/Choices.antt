@@ -1,4 +1,4 @@
--- What the words stand for that users name: boards, memos, languages, and where solutions stand.
+-- The meaning of the words that users name: boards, memos, languages, and where solutions stand.
 use Rattle.std.specs.Prelude.{ℕ, if◌then◌else◌, Option, Some, None, List, codes}
 use Rattle.std.specs.Str.{bytes_eq}
 use Rattle.dw_arguments.specs.declared.choices.BoardSize.{BoardSize}
@@ -35,7 +35,7 @@ placing_named (Some name) = if bytes_eq name (codes "end") then places.End else 
     then places.None else places.After
 placing_named None = places.After
 
--- the tries of a name, all if it is not the one of none
+-- the tries of a name: none for `none`, else all
 abbrev pub tries_named : (name : Option (List ℕ)) → PageTries
 tries_named (Some name) = if bytes_eq name (codes "none") then tries.None else tries.All
 tries_named None = tries.All

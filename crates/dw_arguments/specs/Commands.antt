@@ -1,4 +1,4 @@
--- What the commands of both programs ask for, by their options.
+-- The parts of a request that both programs have, by the options of a command.
 use Rattle.std.specs.Prelude.{◌≡◌, ℕ, Option, unwrap_or, List, codes}
 use Rattle.std.specs.Borrow.{Bor}
 use Rattle.std.specs.Option.{option_copied}
@@ -13,18 +13,18 @@ use Rattle.dw_notation.specs.declared.problems.Form.{Form}
 abbrev pub problem_asked : List Row → Option ℕ
 problem_asked options = number_given 1 1000000 options (codes "problem")
 
--- the number of moves of -n; it has to be there
+-- the number of moves of -n, which the parser requires
 abbrev pub moves_within : List Row → ℕ
 moves_within options = unwrap_or (number_given 1 20 options (codes "n")) 1
 
--- the board, how the problems stand in the file, and the file
+-- the board, the form of the problems in the file, and the file
 pub record ReadsFrom (options : List Row) (rows : BoardSize) (how : Form) (from : Option (Bor (List ℕ))) : Type 0
   where
     pub board : rows ≡ board_named (text_given options (codes "board"))
     pub form : how ≡ form_given options
     pub file : option_copied from ≡ text_given options (codes "FILE")
 
--- the memo, and how many positions it keeps: as many as it usually does, if nothing is said
+-- the memo, and how many positions it keeps: as --cache says, or else the program's default
 pub record Keeps (options : List Row) (usually : ℕ) (kind : MemoKind) (kept : ℕ) : Type 0 where
   pub memo : kind ≡ memo_named (text_given options (codes "memo"))
   pub cache : kept ≡ unwrap_or (number_given 1 4000000 options (codes "cache")) usually

@@ -21,7 +21,7 @@ use Rattle.dw_arguments.specs.declared.desk.DeskArgs.{DeskArgs}
 use Rattle.dw_arguments.specs.declared.desk.Task.{Task}
 use Rattle.dw_arguments.specs.declared.desk.Task.TheVariants as tasks
 
--- how many lines a solution is written with at most
+-- the most lines of a solution: as --lines says, or else 1000
 abbrev pub lines_given : List Row → ℕ
 lines_given options = unwrap_or (number_given 1 1000000 options (codes "lines")) 1000
 
@@ -29,17 +29,19 @@ lines_given options = unwrap_or (number_given 1 1000000 options (codes "lines"))
 abbrev pub each_given : List Row → Option ℕ
 each_given options = number_given 1 1000000000000 options (codes "each")
 
+-- the request of `find`
 pub record AsksFind (options : List Row) (asked : FindArgs) : Type 0 where
   pub most : asked.most ≡ unwrap_or (number_given 1 20 options (codes "most")) 20
   pub each : asked.each ≡ each_given options
   pub json : asked.json ≡ flag_given options (codes "json")
 
+-- the request of `check`
 pub record AsksCheck (options : List Row) (asked : CheckArgs) : Type 0 where
   pub n : asked.n ≡ number_given 1 20 options (codes "n")
   pub faults : asked.faults ≡ flag_given options (codes "faults")
   pub json : asked.json ≡ flag_given options (codes "json")
 
--- -n or --most, one of which is required
+-- the request of `solution`; the parser requires either -n or --most
 pub record AsksSolution (options : List Row) (asked : SolutionArgs) : Type 0 where
   pub moves : asked.moves ≡ unwrap_or (option_or (number_given 1 20 options (codes "n"))
       (number_given 1 20 options (codes "most"))) 1
@@ -47,7 +49,7 @@ pub record AsksSolution (options : List Row) (asked : SolutionArgs) : Type 0 whe
   pub lines : asked.lines ≡ lines_given options
   pub json : asked.json ≡ flag_given options (codes "json")
 
--- -n or --most, one of which is required
+-- the request of `page`; the parser requires either -n or --most
 pub record AsksPage (options : List Row) (asked : PageArgs) : Type 0 where
   pub moves : asked.moves ≡ unwrap_or (option_or (number_given 1 20 options (codes "n"))
       (number_given 1 20 options (codes "most"))) 1
@@ -59,25 +61,28 @@ pub record AsksPage (options : List Row) (asked : PageArgs) : Type 0 where
   pub solutions : asked.solutions ≡ placing_named (text_given options (codes "solutions"))
   pub tries : asked.tries ≡ tries_named (text_given options (codes "tries"))
 
+-- the request of `certify`
 pub record AsksCertify (options : List Row) (asked : CertifyArgs) : Type 0 where
   pub n : asked.n ≡ moves_within options
 
+-- the request of `mend`
 pub record AsksMend (options : List Row) (asked : MendArgs) : Type 0 where
   pub n : asked.n ≡ moves_within options
   pub each : asked.each ≡ each_given options
   pub part : part_named (text_given options (codes "part")) ≡ Some (asked.part, asked.parts)
   pub json : asked.json ≡ flag_given options (codes "json")
 
+-- the request of `moves`
 pub record AsksMoves (options : List Row) (asked : MovesArgs) : Type 0 where
   pub n : asked.n ≡ moves_within options
   pub part : part_named (text_given options (codes "part")) ≡ Some (asked.part, asked.parts)
   pub json : asked.json ≡ flag_given options (codes "json")
 
--- the request of every command
+-- the part of a request that every command has: the board, the form of the problems, and the file
 abbrev pub Reads : List Row → DeskArgs → Type 0
 Reads options args = ReadsFrom options args.board args.form args.file
 
--- the request of a command that searches
+-- the part of a request that every command with a search has: the memo and the progress line, too
 pub record Searches (options : List Row) (args : DeskArgs) : Type 0 where
   pub reads : Reads options args
   pub keeps : Keeps options 1000000 args.memo args.cache
@@ -94,28 +99,35 @@ pub record IsOneProblem (options : List Row) (portion : Portion) : Type 0 where
   pub last : portion.last ≡ Some portion.first
   pub is_asked : portion.is_asked ≡ true
 
+-- the task of `find`
 abbrev pub IsFind : List Row → Task → Type 0
 IsFind options task = (asked : FindArgs) × (task ≡ tasks.Find asked) × AsksFind options asked
 
+-- the task of `check`
 abbrev pub IsCheck : List Row → Task → Type 0
 IsCheck options task = (asked : CheckArgs) × (task ≡ tasks.Check asked) × AsksCheck options asked
 
+-- the task of `solution`
 abbrev pub IsSolution : List Row → Task → Type 0
 IsSolution options task = (asked : SolutionArgs) × (task ≡ tasks.Solution asked) × AsksSolution options asked
 
+-- the task of `page`
 abbrev pub IsPage : List Row → Task → Type 0
 IsPage options task = (asked : PageArgs) × (task ≡ tasks.Page asked) × AsksPage options asked
 
+-- the task of `certify`
 abbrev pub IsCertify : List Row → Task → Type 0
 IsCertify options task = (asked : CertifyArgs) × (task ≡ tasks.Certify asked) × AsksCertify options asked
 
+-- the task of `mend`
 abbrev pub IsMend : List Row → Task → Type 0
 IsMend options task = (asked : MendArgs) × (task ≡ tasks.Mend asked) × AsksMend options asked
 
+-- the task of `moves`
 abbrev pub IsMoves : List Row → Task → Type 0
 IsMoves options task = (asked : MovesArgs) × (task ≡ tasks.Moves asked) × AsksMoves options asked
 
--- the line of --line; it has to be there
+-- the task of `token`: the line of --line, which the parser requires
 abbrev pub IsToken : List Row → Task → Type 0
 IsToken options task = (line : Bor (List ℕ)) × (task ≡ tasks.Token line)
     × (line.now ≡ unwrap_or (text_given options (codes "line")) [])

@@ -12,7 +12,7 @@ parts_at mark text = option_map (λ i. (take i text, drop (i + 1) text)) (positi
 abbrev pub problem_in : List ℕ → Option ℕ
 problem_in text = number_within 1 1000000 text
 
--- from one number to another, unless that is less
+-- the numbers of a portion from the first to the last, if both are there and the last is not less
 abbrev pub from_to : Option ℕ → Option ℕ → Option (ℕ × Option ℕ)
 from_to (Some first) (Some last) = if nat_le first last then Some (first, Some last) else None
 from_to (Some first) None = None

@@ -1,4 +1,4 @@
--- What the options of a command say. They are rows that the parser of the command line has found, each with its name.
+-- The values of the options of a command. The parser of the command line returns them as rows, each with its name.
 use Rattle.std.specs.Prelude.{ℕ, Bool, false, ◌&&◌, nat_lt, nat_le, if◌then◌else◌, Option, Some, None, option_and_then}
 use Rattle.std.specs.Prelude.{List, length, codes}
 use Rattle.std.specs.Option.{option_map_or}
@@ -42,6 +42,6 @@ text_given options name = first_of name options
 abbrev pub flag_given : List Row → (name : List ℕ) → Bool
 flag_given options name = option_map_or (λ text. bytes_eq text (codes "true")) (one_of name options) false
 
--- how the problems stand in the file: as --pdn says
+-- the form of the problems in the file: tags with --pdn, else FEN texts
 abbrev pub form_given : List Row → Form
 form_given options = if flag_given options (codes "pdn") then Pdn else Fens

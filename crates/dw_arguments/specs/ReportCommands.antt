@@ -8,11 +8,11 @@ use Rattle.dw_arguments.specs.Options.{number_given, text_given}
 use Rattle.dw_arguments.specs.declared.report.ReportCommand.TheVariants as commands
 use Rattle.dw_arguments.specs.declared.report.ReportArgs.{ReportArgs}
 
--- the request of every command
+-- the part of a request that every command has: the board, the form of the problems, and the file
 abbrev pub Reads : List Row → ReportArgs → Type 0
 Reads options args = ReadsFrom options args.board args.form args.file
 
--- the request of a command that searches for wins; -n is required
+-- the part of a request that every command with a search has; the parser requires -n
 pub record Searches (options : List Row) (args : ReportArgs) : Type 0 where
   pub reads : Reads options args
   pub n : args.n ≡ moves_within options
@@ -20,7 +20,7 @@ pub record Searches (options : List Row) (args : ReportArgs) : Type 0 where
       ≡ unwrap_or (number_given 1 1000000000000 options (codes "positions")) 1000000000000
   pub keeps : Keeps options 100000 args.memo args.cache
 
--- the request of the command that lists lines; a token without the number of a problem belongs to the first problem
+-- the request of `list`; a token without the number of a problem belongs to the first problem
 pub record Lists (options : List Row) (args : ReportArgs) : Type 0 where
   pub searches : Searches options args
   pub only : args.only
@@ -28,18 +28,22 @@ pub record Lists (options : List Row) (args : ReportArgs) : Type 0 where
   pub lines : args.lines ≡ unwrap_or (number_given 1 1000000000 options (codes "lines")) 1000000000
   pub after : option_copied args.after ≡ text_given options (codes "after")
 
+-- the request of `show`
 abbrev pub IsShow : List Row → ReportArgs → Type 0
 IsShow options args =
     (args.command ≡ commands.Show) × (args.only ≡ problem_asked options) × Reads options args
 
+-- the request of `moves`
 abbrev pub IsMoves : List Row → ReportArgs → Type 0
 IsMoves options args =
     (args.command ≡ commands.Moves) × (args.only ≡ problem_asked options) × Reads options args
 
+-- the request of `judge`
 abbrev pub IsJudge : List Row → ReportArgs → Type 0
 IsJudge options args =
     (args.command ≡ commands.Judge) × (args.only ≡ problem_asked options) × Searches options args
 
+-- the request of `list`, with its command
 abbrev pub IsList : List Row → ReportArgs → Type 0
 IsList options args = (args.command ≡ commands.List) × Lists options args
 

@@ -9,7 +9,7 @@ use std::alloc::{AllocError, Global};
 /// The request of the command `certify`.
 #[derive(Clone, Copy)]
 pub struct CertifyArgs {
-    /// The number of moves within which the win is, `FEWEST_MOVES` to `MOST_MOVES`.
+    /// The number of moves within which there is a win or none, `FEWEST_MOVES` to `MOST_MOVES`.
     pub n: u8,
     pub ghost some_moves: { 1 ≤ n },
     pub ghost few_moves: { n ≤ 20 },

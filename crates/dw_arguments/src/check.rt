@@ -11,7 +11,8 @@ use std::alloc::{AllocError, Global};
 /// The request of the command `check`.
 #[derive(Clone, Copy)]
 pub struct CheckArgs {
-    /// The number of moves within which the win is, `FEWEST_MOVES` to `MOST_MOVES`, or as many as the solution has.
+    /// The number of moves within which a win is looked for, `FEWEST_MOVES` to `MOST_MOVES`; `None` stands for as many
+    /// as the solution has.
     pub n: Option<u8>,
     /// Whether problems without remarks are left out.
     pub faults: bool,

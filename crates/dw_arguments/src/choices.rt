@@ -1,4 +1,4 @@
-//! What a user names by a word: the board, the memo, the language of a page, and where its solutions stand.
+//! The choices that a user names by a word: the board, the memo, the language of a page, and its solutions and tries.
 ghost use Rattle.std.specs.Prelude.{◌≡◌};
 ghost use Rattle.std.specs.Option.{option_copied};
 
@@ -25,14 +25,14 @@ impl BoardSize {
     }
 }
 
-/// What keeps the bounds that a search has found.
+/// The kinds of memos for the bounds that a search finds.
 #[derive(Clone, Copy, Debug, PartialEq, Eq)]
 pub enum MemoKind {
-    /// Nothing.
+    /// It keeps nothing.
     None,
     /// A cache of the positions used last, an `LruMemo`.
     Lru,
-    /// A table in which each position has its one place.
+    /// A table in which each position has its one place, a `SlotMemo`.
     Slots,
     /// A table with two places for each position, in which deeper results stay, a `DeepMemo`.
     Deep,
@@ -82,9 +82,9 @@ impl PageLanguage {
 /// The place of the solutions.
 #[derive(Clone, Copy, Debug, PartialEq, Eq)]
 pub enum Placing {
-    /// Behind each problem.
+    /// After each problem.
     After,
-    /// Behind all problems.
+    /// After all problems.
     End,
     /// Nowhere.
     None,

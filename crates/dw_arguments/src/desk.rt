@@ -12,7 +12,7 @@ use crate::portion::Portion;
 use crate::solution::SolutionArgs;
 use dw_notation::Form;
 
-/// What is done.
+/// The task of a command.
 #[derive(Clone, Copy)]
 pub enum Task<'a> {
     /// The number of moves and the verdict are found.
@@ -21,19 +21,19 @@ pub enum Task<'a> {
     Check(CheckArgs),
     /// The problem is written as a game, with its solution.
     Solution(SolutionArgs),
-    /// What each first move of the first of the chosen problems does is written.
+    /// The effect of each first move of the first chosen problem is written.
     Moves(MovesArgs),
     /// The problems are put on a page.
     Page(PageArgs<'a>),
-    /// The certificate of the first of the chosen problems is written.
+    /// The certificate of the first chosen problem is written.
     Certify(CertifyArgs),
-    /// The neighbours of the first of the chosen problems that are sound are written.
+    /// The sound neighbours of the first chosen problem are written.
     Mend(MendArgs),
-    /// The token of this line of the first of the chosen problems is written.
+    /// The token of this line of the first chosen problem is written.
     Token { line: &'a str },
 }
 
-/// What the arguments of `dw-desk` ask for.
+/// The request that the arguments of `dw-desk` make.
 #[derive(Clone, Copy)]
 pub struct DeskArgs<'a> {
     pub task: Task<'a>,
@@ -45,7 +45,7 @@ pub struct DeskArgs<'a> {
     pub cache: usize,
     /// Whether the progress line was asked for.
     pub progress: bool,
-    /// The file to read, or standard input.
+    /// The file to read; `None` stands for standard input.
     pub file: Option<&'a str>,
     pub ghost some_kept: { 1 ≤ cache },
     pub ghost few_kept: { cache ≤ 4_000_000 },

@@ -77,11 +77,11 @@ impl<'a> DeskArgs<'a> {
     ghost use Rattle.clap.specs.declared.parser.matches.ArgMatches.{ArgMatches};
     ghost use Rattle.std.specs.Prelude.{IfOk, Ok};
 
-    /// Reads the words of a command line, the program's name first.
+    /// Parses the words of a command line, the program's name first.
     ///
     /// # Errors
     ///
-    /// They are no command, they ask for help, or memory was refused.
+    /// The words are no command or ask for help, or memory was refused.
     pub fn parse(alloc: Global, words: &'a [String]) -> Result<Self, CliError>
         ensures { IfOk result (λ args. (matches : ArgMatches) × IsAsked (subcommand_rows_of matches) (Ok args)) }
     {

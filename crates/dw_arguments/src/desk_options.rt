@@ -31,7 +31,7 @@ pub(crate) fn lines<'a>(alloc: Global) -> Arg<'a> {
     option(alloc, "lines", "K", numbers, help)
 }
 
-/// Returns how many lines are written at most, `FEWEST_LINES` to `MOST_LINES`.
+/// Returns the most lines to write, `FEWEST_LINES` to `MOST_LINES`: as `--lines` says, or else `USUAL_LINES`.
 pub(crate) fn lines_of(matches: &ArgMatches<'_>) -> usize
     ensures value { result ≡ lines_given (options_of matches.now) }
     ensures some { 1 ≤ result }
@@ -40,7 +40,7 @@ pub(crate) fn lines_of(matches: &ArgMatches<'_>) -> usize
     count_given(matches, "lines", FEWEST_LINES, MOST_LINES).unwrap_or(USUAL_LINES) as usize
 }
 
-/// Returns the number of moves of `-n`, which has to be there.
+/// Returns the number of moves of `-n`, which the parser requires.
 pub(crate) fn moves_of(matches: &ArgMatches<'_>) -> u8
     ensures value { result ≡ moves_within (options_of matches.now) }
     ensures some { 1 ≤ result }

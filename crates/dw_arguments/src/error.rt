@@ -1,17 +1,17 @@
-//! Why a command line is not obeyed.
+//! The errors of a command line.
 use clap::Error;
 use clap::error::ErrorKind;
 use std::alloc::{AllocError, Global};
 use std::io;
 
-/// Why a command line is not obeyed.
+/// The reason why a command line makes no request.
 #[derive(Drop)]
 pub enum CliError {
     /// Help was asked for; the text is for standard output.
     Help(String),
     /// The words are no command; the text for standard error says why, with its own line ends.
     NoCommand(String),
-    /// As `NoCommand`, if the parser knows the words and yet they ask for nothing.
+    /// As `NoCommand`, with a fixed text: the parser accepts the words, but they make no request.
     Refused(&'static str),
     /// Memory was refused.
     Memory,
@@ -24,8 +24,8 @@ impl From<AllocError> for CliError {
 }
 
 impl CliError {
-    /// Tells why the words could not be fetched: one is not UTF-8, or memory was refused. `program` is the program's
-    /// name.
+    /// Returns the error for words that could not be fetched: one is not UTF-8, or memory was refused. `program` is the
+    /// program's name.
     pub fn unreadable(alloc: Global, program: &str, kind: io::ErrorKind) -> CliError {
         match kind {
             io::ErrorKind::InvalidData => not_utf8(alloc, program),
@@ -33,7 +33,7 @@ impl CliError {
         }
     }
 
-    /// Takes over the error of a parser.
+    /// Converts an error of the parser. Help that was asked for is one too.
     pub(crate) fn of(alloc: Global, error: &Error) -> CliError {
         if error.kind() == ErrorKind::OutOfMemory {
             return CliError::Memory;
@@ -49,7 +49,7 @@ impl CliError {
     }
 }
 
-/// Returns the message for arguments that are not UTF-8, in the form of the other messages.
+/// Returns the error for arguments that are not UTF-8, in the form of the parser's messages.
 fn not_utf8(alloc: Global, program: &str) -> CliError {
     match format!(in alloc;
         "error: invalid UTF-8 was detected in one or more arguments\n\nUsage: {program} \

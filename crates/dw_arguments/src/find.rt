@@ -16,8 +16,8 @@ use std::alloc::{AllocError, Global};
 pub struct FindArgs {
     /// The most moves within which a win is looked for, `FEWEST_MOVES` to `MOST_MOVES`.
     pub most: u8,
-    /// How many positions may be expanded for each problem until its number of moves is known, `FEWEST_POSITIONS` to
-    /// `MOST_POSITIONS`.
+    /// The most positions to expand for each problem until its number of moves is known, `FEWEST_POSITIONS` to
+    /// `MOST_POSITIONS`; `None` sets no bound.
     pub each: Option<u64>,
     /// Whether a line of JSON is written for each problem.
     pub json: bool,

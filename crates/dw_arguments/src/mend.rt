@@ -14,9 +14,9 @@ use std::alloc::{AllocError, Global};
 /// The request of the command `mend`.
 #[derive(Clone, Copy)]
 pub struct MendArgs {
-    /// The number of moves within which the win is, `FEWEST_MOVES` to `MOST_MOVES`.
+    /// The number of moves within which a neighbour must be sound, `FEWEST_MOVES` to `MOST_MOVES`.
     pub n: u8,
-    /// How many positions may be expanded for each neighbour, `FEWEST_POSITIONS` to `MOST_POSITIONS`.
+    /// The most positions to expand for each neighbour, `FEWEST_POSITIONS` to `MOST_POSITIONS`; `None` sets no bound.
     pub each: Option<u64>,
     /// Which part of the neighbours is looked at, from 1 to `parts`.
     pub part: u32,

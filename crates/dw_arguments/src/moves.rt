@@ -11,7 +11,7 @@ use std::alloc::{AllocError, Global};
 /// The request of the command `moves`.
 #[derive(Clone, Copy)]
 pub struct MovesArgs {
-    /// The number of moves within which the win is, `FEWEST_MOVES` to `MOST_MOVES`.
+    /// The number of moves within which a win is looked for, `FEWEST_MOVES` to `MOST_MOVES`.
     pub n: u8,
     /// Which part of the moves is looked at, from 1 to `parts`.
     pub part: u32,

@@ -1,6 +1,6 @@
 //! Options of the command line that both programs have, and how they are read.
 //!
-//! A number that is read is the one that was written, and within the range of its option: others are no command.
+//! A number is read as it is written. One that is outside the range of its option is refused.
 ghost use Rattle.std.specs.Prelude.{◌≡◌, ◌≤◌, IfSome, codes, option_map};
 ghost use Rattle.dw_arguments.specs.Options.{flag_given, form_given, number_given, number_within};
 ghost use Rattle.dw_arguments.specs.Options.{options_of, text_given};
@@ -17,10 +17,10 @@ pub const FEWEST_MOVES: u8 = 1;
 /// The most moves within which a win is looked for.
 pub const MOST_MOVES: u8 = 20;
 
-/// The fewest positions that a run may expand.
+/// The least number of positions that an option may set as a bound.
 pub const FEWEST_POSITIONS: u64 = 1;
 
-/// The most positions that a run may expand.
+/// The greatest number of positions that an option may set as a bound.
 pub const MOST_POSITIONS: u64 = 1_000_000_000_000;
 
 /// The number of the first problem.
@@ -57,7 +57,7 @@ pub fn pdn<'a>(alloc: Global) -> Arg<'a> {
     )
 }
 
-/// Returns how the problems stand in the file: as `--pdn` says.
+/// Returns the form of the problems in the file: tags with `--pdn`, else FEN texts.
 pub fn form_given(matches: &ArgMatches<'_>) -> Form
     ensures { result ≡ form_given (options_of matches.now) }
 {
@@ -103,7 +103,7 @@ pub fn cache<'a>(alloc: Global, help: &'a str) -> Arg<'a> {
     option(alloc, "cache", "C", numbers, help)
 }
 
-/// Returns how many positions the memo keeps at most, `FEWEST_KEPT` to `MOST_KEPT`: as `--cache` says, if it is given.
+/// Returns the most positions that the memo keeps, `FEWEST_KEPT` to `MOST_KEPT`, if `--cache` is given.
 pub fn kept_given(matches: &ArgMatches<'_>) -> Option<usize>
     ensures value { result ≡ number_given 1 4_000_000 (options_of matches.now) (codes "cache") }
     ensures some { IfSome result (λ kept. 1 ≤ kept) }
@@ -143,7 +143,7 @@ pub fn moves_given(matches: &ArgMatches<'_>, name: &str) -> Option<u8>
         .then_some(moves)
 }
 
-/// Returns an option with a number of positions, `FEWEST_POSITIONS` to `MOST_POSITIONS`.
+/// Makes an option with a number of positions, `FEWEST_POSITIONS` to `MOST_POSITIONS`.
 pub fn positions<'a>(alloc: Global, name: &'a str, help: &'a str) -> Arg<'a> {
     let numbers = value_parser!(u64).range(FEWEST_POSITIONS as i64..=MOST_POSITIONS as i64);
     option(alloc, name, "L", numbers, help)
@@ -169,7 +169,7 @@ pub fn count_given(matches: &ArgMatches<'_>, name: &str, least: u64, most: u64) 
     (least..=most).contains(&count).then_some(count)
 }
 
-/// Returns the number that a text writes, if it writes one and that is within these bounds.
+/// Returns the number that a text writes in digits, if it is one and within these bounds.
 pub fn number_within(text: &str, least: u32, most: u32) -> Option<u32>
     ensures value { result ≡ number_within least most text.now }
     ensures some { IfSome result (λ number. least ≤ number) }
@@ -193,7 +193,7 @@ pub fn flag_given(matches: &ArgMatches<'_>, name: &str) -> bool
     matches.get_one::<bool>(name).unwrap_or(false)
 }
 
-/// Returns an argument that is named `--name` and has a value.
+/// Makes an argument that is named `--name` and has a value.
 pub fn option<'a>(
     alloc: Global,
     name: &'a str,
@@ -208,7 +208,7 @@ pub fn option<'a>(
         .help(help)
 }
 
-/// Returns an argument that is named `--name` and has no value.
+/// Makes an argument that is named `--name` and has no value.
 pub fn flag<'a>(alloc: Global, name: &'a str, help: &'a str) -> Arg<'a> {
     Arg::new(alloc, name)
         .long(name)

@@ -15,11 +15,11 @@ use std::alloc::{AllocError, Global};
 /// The request of the command `page`.
 #[derive(Clone, Copy)]
 pub struct PageArgs<'a> {
-    /// The number of moves within which the win is, `FEWEST_MOVES` to `MOST_MOVES`.
+    /// The number of moves within which a win is looked for, `FEWEST_MOVES` to `MOST_MOVES`.
     pub moves: u8,
-    /// Whether the least number of moves up to that one is looked for.
+    /// Whether `moves` is only the most, and the least number of moves with a win is looked for.
     pub is_least: bool,
-    /// How many lines are written at most, 1 to 1,000,000.
+    /// The most lines to write of each solution, 1 to 1,000,000.
     pub lines: usize,
     pub title: &'a str,
     pub language: PageLanguage,

@@ -29,7 +29,7 @@ pub(crate) fn part<'a>(alloc: Global) -> Arg<'a> {
     option(alloc, "part", "I/M", ValueParser::string(), help)
 }
 
-/// Returns the part of `--part`, and of how many; none, if the text is no part.
+/// Returns the part that `--part` names and the number of parts, or `None` if its text is not valid.
 pub(crate) fn part_given(matches: &ArgMatches<'_>) -> Option<(u32, u32)>
     ensures value { result ≡ part_named (of.text_given (options_of matches.now) (codes "part")) }
     ensures some { IfSome result (λ named. 1 ≤ named.0) }
@@ -39,7 +39,7 @@ pub(crate) fn part_given(matches: &ArgMatches<'_>) -> Option<(u32, u32)>
     part_named(text_given(matches, "part"))
 }
 
-/// Returns the part that a text names, and of how many: `I/M`; the only one, if there is no text.
+/// Returns the part and the number of parts that a text `I/M` names; the only part, if there is no text.
 fn part_named(text: Option<&str>) -> Option<(u32, u32)>
     ensures value { result ≡ part_named (option_copied text.entry) }
     ensures some { IfSome result (λ named. 1 ≤ named.0) }
@@ -52,7 +52,7 @@ fn part_named(text: Option<&str>) -> Option<(u32, u32)>
     }
 }
 
-/// Returns the part that a text names, and of how many.
+/// Returns the part and the number of parts that a text `I/M` names, or `None` if it is not valid.
 fn part_in(text: &str) -> Option<(u32, u32)>
     ensures value { result ≡ part_named (Some text.now) }
     ensures some { IfSome result (λ named. 1 ≤ named.0) }

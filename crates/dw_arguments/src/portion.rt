@@ -1,4 +1,4 @@
-//! The problems that a command speaks of.
+//! The problems that a command works on.
 ghost use Rattle.std.specs.Prelude.{◌≡◌, ◌≤◌, IfSome, Some, is_some, option_map, true};
 ghost use Rattle.dw_arguments.specs.Numbers.{problem_in};
 ghost use Rattle.std.specs.Option.{option_copied};
@@ -15,9 +15,10 @@ use std::alloc::Global;
 pub struct Portion {
     /// The number of the first, `FIRST_PROBLEM` to `MAX_PROBLEMS`.
     pub first: u32,
-    /// The number of the last, if reading ends after it: `first` to `MAX_PROBLEMS`.
+    /// The number of the last, `first` to `MAX_PROBLEMS`; `None` if all up to the end are chosen.
     pub last: Option<u32>,
-    /// Whether these numbers were given.
+    /// Whether it is an error if none of them is there: always for a command on one problem, else if `--problem` is
+    /// given.
     pub is_asked: bool,
     pub ghost some: { 1 ≤ first },
     pub ghost few: { first ≤ 1_000_000 },
@@ -51,7 +52,7 @@ impl Portion {
     ghost use Rattle.dw_arguments.specs.Numbers.{portion_named};
     ghost use Rattle.dw_arguments.specs.Options.{options_of};
 
-    /// Returns the portion of the one problem that is named, or else of the first.
+    /// Returns the portion of the one problem that `--problem` names, or else of the first.
     pub(crate) fn of_one(matches: &ArgMatches<'_>) -> Self
         ensures { IsOneProblem (options_of matches.now) result }
     {
@@ -63,7 +64,8 @@ impl Portion {
         }
     }
 
-    /// Returns the problems that a text names: `I`, or `I-J` from I to J; all, if there is no text.
+    /// Returns the problems that a text names: `I`, or `I-J` from I to J; all, if there is no text. It is `None` for
+    /// any other text.
     pub(crate) fn named(text: Option<&str>) -> Option<Self>
         ensures numbers { option_map (λ portion. (portion.first, portion.last)) result
             ≡ portion_named (option_copied text.entry) }
@@ -79,7 +81,7 @@ impl Portion {
         }
     }
 
-    /// Returns the problems that a text names.
+    /// Returns the problems that a text `I` or `I-J` names, or `None` if it is not valid.
     fn in_text(text: &str) -> Option<Self>
         ensures numbers { option_map (λ portion. (portion.first, portion.last)) result
             ≡ portion_named (Some text.now) }
@@ -99,7 +101,7 @@ impl Portion {
     }
 }
 
-/// Returns a problem's number, `FIRST_PROBLEM` to `MAX_PROBLEMS`.
+/// Returns the problem's number that a text writes, `FIRST_PROBLEM` to `MAX_PROBLEMS`.
 fn number_in(text: &str) -> Option<u32>
     ensures value { result ≡ problem_in text.now }
     ensures some { IfSome result (λ number. 1 ≤ number) }

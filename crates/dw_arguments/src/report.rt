@@ -29,15 +29,15 @@ pub enum ReportCommand {
     List,
 }
 
-/// What the arguments of `dw` ask for.
+/// The request that the arguments of `dw` make.
 #[derive(Clone, Copy)]
 pub struct ReportArgs<'a> {
     pub command: ReportCommand,
     pub form: Form,
-    /// The number of the one problem to report, `FIRST_PROBLEM` to `MAX_PROBLEMS`, or all.
+    /// The number of the one problem to report, `FIRST_PROBLEM` to `MAX_PROBLEMS`; `None` stands for all.
     pub only: Option<u32>,
     pub board: BoardSize,
-    /// Within how many moves a win is looked for, `FEWEST_MOVES` to `MOST_MOVES`.
+    /// The number of moves within which a win is looked for, `FEWEST_MOVES` to `MOST_MOVES`.
     pub n: u8,
     /// The most positions to expand, `FEWEST_POSITIONS` to `MOST_POSITIONS`.
     pub positions: u64,
@@ -46,9 +46,9 @@ pub struct ReportArgs<'a> {
     pub cache: usize,
     /// The most lines to list, `FEWEST_LINES` to `MOST_LINES`.
     pub lines: u64,
-    /// The token of the line after which the list begins.
+    /// The token of the line after which the list begins, if it does not begin at the first line.
     pub after: Option<&'a str>,
-    /// The file to read, or standard input.
+    /// The file to read; `None` stands for standard input.
     pub file: Option<&'a str>,
     pub ghost some_number: { IfSome only (λ number. 1 ≤ number) } by { Prim.hlevel props },
     pub ghost few_number: { IfSome only (λ number. number ≤ 1_000_000) } by { Prim.hlevel props },
@@ -179,7 +179,7 @@ fn subcommands<'a>(alloc: Global) -> Result<Vec<Command<'a>>, AllocError> {
     Ok(commands)
 }
 
-/// Returns a command with its arguments: it reads problems, and may search for wins too, and list lines as well.
+/// Returns a command with its arguments.
 fn subcommand<'a>(alloc: Global, command: ReportCommand) -> Result<Command<'a>, AllocError> {
     match command {
         ReportCommand::Show | ReportCommand::Moves => reader(alloc, command),
@@ -210,7 +210,7 @@ fn lister<'a>(alloc: Global) -> Result<Command<'a>, AllocError> {
     searcher(alloc, ReportCommand::List)?.args(arguments)
 }
 
-/// Returns the name of a command, its description, and its usage.
+/// Returns the name of a command, its description, and its explanation with examples.
 fn texts<'a>(command: ReportCommand) -> [&'a str; 3] {
     match command {
         ReportCommand::Show => ["show", SHOW_ABOUT, SHOW_EXAMPLES],
@@ -263,11 +263,11 @@ impl<'a> ReportArgs<'a> {
     ghost use Rattle.dw_arguments.specs.Commands.{problem_asked};
     ghost use Rattle.dw_arguments.specs.ReportCommands.{IsAsked, IsAskedBy, Lists, Reads, Searches};
 
-    /// Reads the words of a command line, the program's name first.
+    /// Parses the words of a command line, the program's name first.
     ///
     /// # Errors
     ///
-    /// They are no command, they ask for help, or memory was refused.
+    /// The words are no command or ask for help, or memory was refused.
     pub fn parse(alloc: Global, words: &'a [String]) -> Result<Self, CliError>
         ensures { IfOk result (λ args. (matches : ArgMatches) × IsAsked (subcommand_rows_of matches) (Some args)) }
     {
@@ -280,7 +280,7 @@ impl<'a> ReportArgs<'a> {
         }
     }
 
-    /// Returns the request of parsed arguments.
+    /// Returns the request of parsed arguments, or `None` if they have no command.
     pub fn requested(matches: &ArgMatches<'a>) -> Option<Self>
         ensures { IsAsked (subcommand_rows_of matches.now) result }
     {
@@ -368,7 +368,7 @@ impl<'a> ReportArgs<'a> {
     }
 }
 
-/// Returns the problem whose lines are listed: a token without the number of a problem is one of the first problem.
+/// Returns the number of the one problem to list, if any: as `--problem` says, or else the first if a token is given.
 fn problem_or_first(matches: &ArgMatches<'_>) -> Option<u32>
     ensures value { result ≡ option_or (number_given 1 1_000_000 (options_of matches.now) (codes "problem"))
         (option_map (λ token. 1) (text_given (options_of matches.now) (codes "after"))) }

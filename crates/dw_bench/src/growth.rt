@@ -1,4 +1,4 @@
-//! How the number of positions grows that are expanded for one move more.
+//! How the number of expanded positions grows with the number of moves.
 ghost use Rattle.std.specs.Prelude.{◌≤◌};
 ghost use Rattle.dw_solve.specs.Facts.{AreTrue};
 
@@ -32,7 +32,7 @@ const POSITIONS: [&str; 21] = [
     "W:WK39,41,50:B5,12,29",
 ];
 
-/// So many moves are asked for, and each number up to the next.
+/// The fewest moves that are asked for; each number up to `MOST_MOVES` follows.
 const FEWEST_MOVES: u8 = 3;
 
 const MOST_MOVES: u8 = 10;
@@ -42,10 +42,10 @@ const RECENT: usize = 100_000;
 
 const DEEP: usize = 1_000_000;
 
-/// How many positions are expanded for one question.
+/// The most positions to expand for one question.
 const LIMIT: u64 = 1_000_000_000;
 
-/// Writes of each position how many others are expanded, with two memos, to find whether it is won within 3 to 10
+/// Writes for each position how many positions are expanded, with two memos, to find whether it is won within 3 to 10
 /// moves. Solver and memo are new for each question.
 pub(crate) fn count_growth(rt: &HostRuntime) -> anyhow::Result<()> {
     for text in POSITIONS {

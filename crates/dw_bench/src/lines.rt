@@ -14,7 +14,7 @@ use std::time::Instant;
 /// How many positions a memo holds.
 const HELD: usize = 100_000;
 
-/// How many positions are expanded for one list.
+/// The most positions to expand for one list.
 const LIMIT: u64 = 1_000_000_000_000;
 
 /// No list has more lines.
@@ -30,7 +30,7 @@ pub(crate) fn list_lines(rt: &HostRuntime) -> anyhow::Result<()> {
     list_text(rt, "W:W6,8,35,39,42,44:B4,7,10", 7, 165_761)
 }
 
-/// Lists the lines of a position, and continues after the last but one. Another number of lines is an error.
+/// Lists the lines of a position, and continues after the last but one. It is an error if their number is another.
 fn list_text(rt: &HostRuntime, text: &str, moves: u8, lines: u64) -> anyhow::Result<()>
     requires some { 1 ≤ moves }
     requires few { moves ≤ 20 }
@@ -80,7 +80,8 @@ fn count_lines(alloc: Global, lister: &mut Slots<'_>) -> anyhow::Result<(u64, u6
     anyhow::bail!("too many lines")
 }
 
-/// Writes how fast a new lister continues after the line of this number. It is an error if more than one line follows.
+/// Writes how fast a new lister continues after the line of this number. It is an error unless exactly one line
+/// follows.
 fn go_on_after(
     rt: &HostRuntime,
     position: &Position<Ten>,
@@ -100,8 +101,8 @@ fn go_on_after(
     Ok(())
 }
 
-/// Returns the line of this number, counted from 1, and how many lists of moves the lines up to it were taken from: one
-/// for the position, and one after each move that is not one of those with which the line before it begins, too.
+/// Returns the line of this number, counted from 1, and the number of move lists that the lines up to it need: one for
+/// the position, and one after each move of a line beyond its common beginning with the line before.
 fn line_at(
     alloc: Global,
     position: &Position<Ten>,

@@ -23,7 +23,7 @@ use std::env;
 use std::time::Instant;
 use timing::{micros_since, speed};
 
-/// A position, to how many plies its lines are counted, and to how many where many are asked for.
+/// A position, the number of plies to which its lines are counted, and that number for `deep`.
 type Case = (&'static str, usize, usize);
 
 /// The opening, and two positions with many captures.
@@ -44,7 +44,7 @@ const CASES: [Case; 3] = [
 /// The most plies that are added.
 const MOST_ADDED: usize = 4;
 
-/// The number of moves of the problems that are solved without an argument.
+/// The greatest number of moves of a problem that is solved without an argument.
 const FEW_MOVES: u8 = 3;
 
 /// The greatest number of moves of a problem.
@@ -81,7 +81,7 @@ fn count_all(rt: &HostRuntime, added: usize) -> anyhow::Result<()> {
     Ok(())
 }
 
-/// Counts the lines of all cases to many plies, and says how long it took.
+/// Counts the lines of all cases to many plies, and writes how long it took.
 fn count_deep(rt: &HostRuntime) -> anyhow::Result<()> {
     for (text, _, plies) in CASES {
         count_many(rt, text, plies)?;
@@ -99,7 +99,7 @@ fn count_many(rt: &HostRuntime, text: &str, plies: usize) -> anyhow::Result<()> 
     Ok(())
 }
 
-/// Writes a FEN text, and answers its position.
+/// Writes a FEN text, and returns its position.
 pub(crate) fn written_position(rt: &HostRuntime, text: &str) -> anyhow::Result<Position<Ten>> {
     let position = read_fen::<Ten>(text.as_bytes()).context("no FEN text")?;
     println!(rt; "{text}")?;

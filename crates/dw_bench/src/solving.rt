@@ -9,13 +9,13 @@ use dw_memo::{DeepMemo, LruMemo, Memo, NoMemo, SlotMemo};
 use dw_solve::{ByTrial, Solver, Stop};
 use std::time::Instant;
 
-/// Within how many moves wins are looked for.
+/// The number of moves within which wins are looked for.
 const MOST_MOVES: u8 = 6;
 
 /// How many positions a memo holds.
 const HELD: usize = 100_000;
 
-/// How many positions are expanded for one problem.
+/// The most positions to expand for one problem.
 const LIMIT: u64 = 500_000;
 
 /// Solves the problems whose least number of moves is not over the given one, with each memo.

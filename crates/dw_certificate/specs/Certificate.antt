@@ -17,12 +17,12 @@ Row = Placement × ℕ
 abbrev pub positions_of : List Row → List Placement
 positions_of rows = map (λ r. r.0) rows
 
--- there is a win in a number of moves, or there is none
+-- the bounds that state a win within a number of moves, or no win
 abbrev pub bounds_of : (win : Bool) → ℕ → Bounds
 bounds_of true n = record { fails = None; wins = Some n }
 bounds_of false n = record { fails = Some n; wins = None }
 
--- the statement of rows: their positions are won in their numbers of moves, or they are not
+-- the statement of rows: each position has a win within its number of moves, or each has none
 abbrev pub claims : (win : Bool) → List Row → Content
 claims win rows = map (λ r. entry r.0 (bounds_of win r.1)) rows
 
@@ -34,8 +34,9 @@ IsAfterReply g p m q = (r : Move) × Legal g (play g p m) r × (q ≡ play g (pl
 abbrev pub Step : Type 0
 Step = Move × Placement
 
--- The steps that a row takes. One of a win takes one move, and all replies to it, after which the rows tell of a win in
--- one move less. One of no win takes one reply to every move, after which the rows tell of no win in one move less.
+-- The steps that a row takes. A row of a win takes one move and all replies to it; for the positions after them the
+-- rows state a win in one move less. A row of no win takes one reply to every move; for the positions after them the
+-- rows state no win in one move less.
 abbrev pub AreSteps : Geometry → (win : Bool) → Content → Row → List Step → Type 0
 AreSteps g true c row steps =
     (m : Move) × Legal g row.0 m × ((s : Step) → Member s steps → (s.0 ≡ m) × IsAfterReply g row.0 m s.1)
@@ -55,13 +56,13 @@ IsComeTo g p all row = (row.0 ≡ p)
     ⊎ ((from : Stepped) × (m : Move) × Member from all × Legal g from.row.0 m × Member (m, row.0) from.steps
     × (row.1 < from.row.1))
 
--- each position occurs once, with 1 to n moves
+-- rows in which each position occurs once, with 1 to n moves
 pub record AreRows (n : ℕ) (rows : List Row) : Type 0 where
   pub once : NoRepeat (positions_of rows)
   pub some : (r : Row) → Member r rows → 1 ≤ r.1
   pub few : (r : Row) → Member r rows → r.1 ≤ n
 
--- each row takes steps, and from the position that was asked for just these lead to all of them
+-- each row takes steps, and these lead from the position of the question to all rows
 pub record AreNeeded (g : Geometry) (p : Placement) (win : Bool) (rows : List Row) : Type 0 where
   pub all : List Stepped
   pub are : rows ≡ map (λ s. s.row) all
@@ -69,7 +70,7 @@ pub record AreNeeded (g : Geometry) (p : Placement) (win : Bool) (rows : List Ro
   pub come_to : (r : Row) → Member r rows → IsComeTo g p all r
 
 -- A certificate that there is a win within n moves, or none: each row follows from other rows, by one move and its
--- replies; the rows answer the question; and no row is there that nothing needs.
+-- replies; the rows answer the question; and each row is needed.
 pub record IsCertificate (g : Geometry) (p : Placement) (n : ℕ) (win : Bool) (rows : List Row) : Type 0 where
   pub are : AreRows n rows
   pub needed : AreNeeded g p win rows

@@ -16,7 +16,7 @@ abbrev pub entry_text : Geometry → Entry → List ℕ
 entry_text g e = written g e.position ++ codes " fails " ++ bound_text e.bounds.fails
     ++ codes " wins " ++ bound_text e.bounds.wins
 
--- the answer
+-- the line of the answer
 abbrev pub answer_text : (win : Bool) → ℕ → List ℕ
 answer_text true n = codes "win in " ++ decimal n
 answer_text false n = codes "no win in " ++ decimal n
@@ -29,6 +29,6 @@ lines_text lines = flat_map (λ line. line ++ 10 ∷ []) lines
 abbrev pub head_lines : Geometry → Placement → ℕ → (win : Bool) → List (List ℕ)
 head_lines g p n win = codes "certificate 1" ∷ (codes "board " ++ decimal g.rows) ∷ written g p ∷ answer_text win n ∷ []
 
--- the whole text
+-- the text of a certificate
 abbrev pub certificate_text : Geometry → Placement → ℕ → (win : Bool) → Content → List ℕ
 certificate_text g p n win content = lines_text (head_lines g p n win ++ map (entry_text g) content)

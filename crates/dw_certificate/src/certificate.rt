@@ -22,13 +22,13 @@ use std::alloc::{AllocError, Global};
 pub struct Certificate<B: Board> {
     /// Whether it says that there is a win.
     pub win: bool,
-    /// Positions, and in how many moves each has a win, or in how many it has none: 1 to 20.
+    /// The positions, each with the number of moves within which it has a win, or has none: 1 to 20.
     pub rows: IndexMap<Position<B>, u8>,
 }
 
-/// Returns the certificate for a win within `moves` moves, 1 to 20, or for no win, as far as a memo knows. Its rows are
-/// the position, and the positions reached by one winning move of each row and all replies to it; or by all moves of
-/// each row and one reply to each.
+/// Takes the certificate for a win within `moves` moves, or for no win, out of a memo. `moves` must be 1 to 20. Its
+/// rows are the position, and the positions reached by one winning move of each row and all replies to it; or by all
+/// moves of each row and one reply to each. The error `Missing` means that the memo lacks a bound that is needed.
 pub fn certify<B: Board, M: Memo<B>>(
     alloc: Global,
     memo: &mut M,
@@ -56,7 +56,8 @@ pub fn certify<B: Board, M: Memo<B>>(
     Ok(certificate)
 }
 
-/// Returns whether a memo states a win within `moves` moves, or states that there is none.
+/// Returns `true` if a memo states a win within `moves` moves, `false` if it states that there is none, and else
+/// `None`.
 fn answer_of<B: Board, M: Memo<B>>(
     memo: &mut M,
     position: &Position<B>,
@@ -65,14 +66,15 @@ fn answer_of<B: Board, M: Memo<B>>(
     memo.look(position)?.decide(moves)
 }
 
-/// Returns whether a bound suffices for `moves` moves.
+/// Returns whether the fact for `bound` moves, a win or no win, implies the same fact for `moves` moves.
 fn suffices(win: bool, bound: u8, moves: u8) -> bool
     ensures { IsTrue result ↔ Suffices win bound moves }
 {
     if win { bound <= moves } else { moves <= bound }
 }
 
-/// Returns the bound for a row: the memo's own number for a win, else `moves`.
+/// Returns the bound for a row: the memo's own number for a win, else `moves`. It is `None` if the memo states too
+/// little, or if the bound is 0.
 fn bound_in<B: Board, M: Memo<B>>(
     memo: &mut M,
     win: bool,
@@ -153,7 +155,7 @@ impl<B: Board> Certificate<B> {
         Err(CertificateFault::Missing)
     }
 
-    /// Adds the rows that a missing win needs: after each move the position after some reply.
+    /// Adds the rows that a row of no win needs: after each move the position after some reply.
     fn support_no_win<M: Memo<B>>(
         &mut self,
         alloc: Global,
@@ -175,7 +177,7 @@ impl<B: Board> Certificate<B> {
         Ok(())
     }
 
-    /// Returns whether all positions stand already, or may be put in.
+    /// Returns whether all positions are rows already, or may become rows.
     fn has_all<M: Memo<B>>(&self, memo: &mut M, nexts: &[Position<B>], left: u8) -> bool {
         'nexts: for next in nexts {
             if !self.holds(next, left) && bound_in(memo, self.win, next, left).is_none() {
@@ -185,7 +187,7 @@ impl<B: Board> Certificate<B> {
         true
     }
 
-    /// Puts in all positions.
+    /// Adds all of some positions, unless they are rows already.
     fn put_all<M: Memo<B>>(
         &mut self,
         memo: &mut M,
@@ -204,7 +206,7 @@ impl<B: Board> Certificate<B> {
         Ok(())
     }
 
-    /// Puts in one of some positions, or none if there is no move left to win within.
+    /// Adds one of some positions, or none if there is no move left to win within.
     fn put_one<M: Memo<B>>(
         &mut self,
         memo: &mut M,
@@ -249,7 +251,7 @@ impl<B: Board> Certificate<B> {
         }
     }
 
-    /// Adds a position, unless it is a row already.
+    /// Adds a position, unless it is a row already with a bound that suffices.
     fn put<M: Memo<B>>(
         &mut self,
         memo: &mut M,
@@ -269,7 +271,7 @@ impl<B: Board> Certificate<B> {
         }
     }
 
-    /// Puts in a position that does not stand yet.
+    /// Adds a position, which must not be a row yet.
     fn put_new<M: Memo<B>>(
         &mut self,
         memo: &mut M,
@@ -291,7 +293,7 @@ impl<B: Board> Certificate<B> {
     }
 }
 
-/// Appends a row for a position that has none.
+/// Appends a row for a position, which must have none.
 fn push_row<B: Board>(
     rows: &mut IndexMap<Position<B>, u8>,
     position: &Position<B>,
@@ -304,7 +306,7 @@ fn push_row<B: Board>(
     Ok(())
 }
 
-/// Returns the first of some positions for which a memo states it.
+/// Returns the first of some positions for which a memo gives a bound.
 fn first_known<B: Board, M: Memo<B>>(
     memo: &mut M,
     win: bool,

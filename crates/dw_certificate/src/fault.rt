@@ -11,7 +11,7 @@ pub enum CertificateFault {
     /// Memory was refused.
     #[error("1 memory")]
     Memory,
-    /// The memo does not have something that is needed.
+    /// The memo lacks a bound that is needed.
     #[error("2 missing")]
     Missing,
 }

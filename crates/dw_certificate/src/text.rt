@@ -67,7 +67,7 @@ fn answer(win: bool) -> &'static str
     if win { "win in " } else { "no win in " }
 }
 
-/// Returns the text of a row's bounds.
+/// Returns the bounds that a row states.
 fn bounds_of(win: bool, bound: u8) -> Bounds
     ensures { result ≡ of.bounds_of win bound }
 {
@@ -107,7 +107,7 @@ fn line_of<B: Board>(
     .concat(alloc)
 }
 
-/// Returns a bound, or a dash.
+/// Returns the digits of a bound, or a dash if there is none.
 fn bound_text(bound: Option<u8>, digits: &mut Buffer) -> &str
     ensures { result.now ≡ text.bound_text bound }
 {

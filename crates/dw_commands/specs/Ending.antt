@@ -14,20 +14,21 @@ use Rattle.dw_commands.specs.declared.ending.Ending.{Ending}
 use Rattle.dw_commands.specs.declared.ending.Ending.TheVariants as end
 use Rattle.dw_commands.specs.declared.ending.Exit.{Exit}
 
--- memory was refused before the run
+-- the ending if memory was refused before the run
 abbrev pub no_memory : {T : Type 0} → Ending T
 no_memory = end.Failed (Stopped Memory 0)
 
--- standard output failed
+-- the ending if standard output failed
 abbrev pub write_failed : {T : Type 0} → Ending T
 write_failed = end.Failed Write
 
--- if the problem that was asked for was not shown, there is none
+-- the ending after a run without refusals: if one problem was asked for and none was shown, it is not there
 abbrev pub asked_of : {T : Type 0} → ℕ → Option ℕ → Ending T
 asked_of shown None = end.Done
 asked_of shown (Some number) = if shown == 0 then end.NoProblem number else end.Done
 
--- something was refused, or the problem asked for is not there, or all was done
+-- the ending after a run that ended by itself: something was refused, or the problem asked for is not there, or all was
+-- done
 abbrev pub done_of : {T : Type 0} → Summary → Option ℕ → Ending T
 done_of summary only = if nat_lt 0 summary.refused then end.Refused else asked_of summary.shown only
 
@@ -36,17 +37,17 @@ abbrev pub ending_of : {T : Type 0} → Result Summary RunFault → Option ℕ �
 ending_of (Err fault) only = end.Failed fault
 ending_of (Ok summary) only = done_of summary only
 
--- no line is written
+-- an exit without a line on standard error
 abbrev pub quiet : ℕ → Exit
 quiet status = record { status = status; is_told = false }
 
--- the line of the ending is written
+-- an exit with the line of its ending on standard error
 abbrev pub told : ℕ → Exit
 told status = record { status = status; is_told = true }
 
--- 0: all was done; 1: something was refused, is undecided or is not there; 2: the words are no command; 3: the program
--- was stopped, the memo was too small, or a file could not be opened, read or written. All endings have a line but the
--- first and a refusal that the output says.
+-- The exit of each ending. The status is 0 if all was done; 1 if something was refused, is undecided or is not there; 2
+-- if the words are no command; 3 if the program was stopped, the memo was too small, or a file could not be opened,
+-- read or written. All endings have a line but the first and a refusal that the output says.
 abbrev pub outcome_of : {T : Type 0} → Ending T → Exit
 outcome_of end.Done = quiet 0
 outcome_of end.Refused = quiet 1
@@ -59,12 +60,12 @@ outcome_of end.TooManyPositions = told 3
 outcome_of (end.NotOpened file) = told 3
 outcome_of (end.Failed fault) = told 3
 
--- the arguments are no command, for a reason that is given
+-- an ending that says that the arguments are no command, with this text
 abbrev pub SaysWhy : List ℕ → Ending (Bor (List ℕ)) → Type 0
 SaysWhy why (end.NoCommand text) = text.now ≡ why
 SaysWhy why ending = ⊥
 
--- The ending if words are not obeyed. The help that was asked for is written, unless the sink fails; of other words
+-- The ending if a command line makes no request. Help that was asked for is written, unless the sink fails; otherwise
 -- nothing is written.
 abbrev pub EndsUnread : (before after : Option (List ℕ)) → (failed : Bool) → CliError → Ending (Bor (List ℕ)) → Type 0
 EndsUnread before after failed (words.Help text) ending =

@@ -43,7 +43,7 @@ abbrev pub fault_of : Geometry → (token : Option (List ℕ)) → Option TokenF
 fault_of g None = None
 fault_of g (Some token) = token_fault g token
 
--- before the run a program ends only if the token has a fault, which it names, or if memory was refused
+-- a program that ends before the run: the token has a fault, which the ending names, or memory was refused
 abbrev pub EndsBefore : {T : Type 0} → Geometry → (token : Option (List ℕ)) → Ending T → Type 0
 EndsBefore g token (end.TokenRefused fault) = fault_of g token ≡ Some fault
 EndsBefore g token ending = ending ≡ no_memory

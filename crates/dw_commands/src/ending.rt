@@ -21,13 +21,14 @@ const NO_MEMORY: RunFault = RunFault::Stopped {
 pub enum Ending<T> {
     /// All was done, and nothing refused.
     Done,
-    /// A problem was refused, or stayed undecided. The output says so.
+    /// A problem or a solution was refused, a problem stayed undecided, or a solution does not hold. The output says
+    /// so.
     Refused,
     /// The problem that was asked for is not there.
     NoProblem(u32),
     /// The token of the line to begin after cannot be read.
     TokenRefused(TokenFault),
-    /// The problem of the given line is refused.
+    /// The problem that a line was given for is refused.
     ProblemRefused(ProblemFault),
     /// A line is refused for the fault of this number and name, found at this place.
     LineRefused {
@@ -84,7 +85,8 @@ impl<T> Ending<T> {
     }
 }
 
-/// Writes the requested help to a sink, and returns the ending of a program whose arguments are no command.
+/// Writes help that was asked for to a sink, and returns the ending of a program whose command line makes no request.
+/// The sink must not have failed.
 pub fn end_unread<'a, K: Sink>(error: &'a CliError, sink: &mut K) -> Ending<&'a str>
     requires { K.is_failed sink.old ≡ false }
     ensures { EndsUnread (K.taken sink.old) (K.taken sink.new) (K.is_failed sink.new) error.now result }
@@ -100,7 +102,7 @@ pub fn end_unread<'a, K: Sink>(error: &'a CliError, sink: &mut K) -> Ending<&'a 
     }
 }
 
-/// The line that a program writes to standard error at an ending, after its name.
+/// The text that a program writes to standard error at an ending. It is empty if the output says everything.
 #[derive(Drop)]
 pub struct Message<'a, T> {
     pub program: &'a str,
@@ -160,8 +162,9 @@ pub struct Exit {
 
 /// Returns the status of an ending, and whether its line is written.
 ///
-/// Status 0 is done, 1 that something was refused, undecided or is not there, 2 that the arguments are no command, 3
-/// that the program was stopped or a stream failed.
+/// Status 0 means that all was done, 1 that something was refused, is undecided or is not there, 2 that the arguments
+/// are no command, and 3 that the program was stopped, the memo was too small, or a file could not be opened, read or
+/// written.
 pub fn outcome<T>(ending: &Ending<T>) -> Exit
     ensures { result ≡ of.outcome_of ending.now }
 {

@@ -8,8 +8,8 @@ use dw_memo::{AnyMemo, Bounds, DeepMemo, LruMemo, Memo, NoMemo, Noted, SlotMemo}
 use std::alloc::{AllocError, Global};
 use std::marker::Model;
 
-/// A memo whose memory is not given back. A program that is done with it is about to end, and then the system takes all
-/// memory at once: to give back that of each entry before takes longer.
+/// A memo that is never freed. A program that is done with it is about to end, and then the system takes all memory at
+/// once. Freeing each entry before that would take longer.
 pub struct LeakedMemo<B: Board> {
     memo: AnyMemo<B>,
 }
@@ -23,7 +23,7 @@ impl<B: Board> Model for LeakedMemo<B> {
 }
 
 impl<B: Board> LeakedMemo<B> {
-    /// Returns this memo, to the end of the program.
+    /// Wraps a memo, which then stays until the program ends.
     pub fn new(memo: AnyMemo<B>) -> Self
         ensures { result ≡ memo }
     {
@@ -66,7 +66,7 @@ impl<B: Board> Memo<B> for LeakedMemo<B> {
     }
 }
 
-/// Returns an empty memo of this kind for 1 to 4,000,000 positions.
+/// Returns an empty memo of this kind for `cache` positions, which must be 1 to 4,000,000.
 ///
 /// # Errors
 ///

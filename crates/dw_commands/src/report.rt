@@ -62,7 +62,8 @@ impl<B: Board> Job<B> {
         })
     }
 
-    /// Writes the report on the problems of a source to a sink, and returns how the program ends.
+    /// Writes the report on the problems of a source to a sink, and returns how the program ends. The source and the
+    /// sink must not have failed.
     pub fn run<T, S: Source, K: Sink>(
         self,
         alloc: Global,

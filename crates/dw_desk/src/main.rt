@@ -20,7 +20,7 @@ use std::process::ExitCode;
 /// The program's name in its messages.
 const PROGRAM: &str = "dw-desk";
 
-/// How many positions the first slice of a search expands that is shown.
+/// How many positions the first slice of a search expands if its progress is shown.
 const FIRST_SLICE: u64 = 50_000;
 
 fn main(rt: HostRuntime) -> ExitCode {
@@ -69,7 +69,7 @@ fn run_with<'a, B: Board>(
     run_on::<B, _, _, _>(rt.alloc(), &mut slices, args, &mut source, &mut sink)
 }
 
-/// Returns the slices of the searches and their watcher. If nobody watches, a search is one slice.
+/// Returns the slices of the searches and their watcher. If the progress is not shown, a search is one slice.
 fn slices_of<'a>(rt: &'a HostRuntime, args: &DeskArgs<'_>) -> Slices<Progress<'a>> {
     let is_shown = args.progress || rt.stderr().is_terminal();
     let first = if is_shown { FIRST_SLICE } else { u64::MAX };

@@ -9,11 +9,11 @@ const PATIENCE: u64 = 500;
 /// How many milliseconds the line stays as it is.
 const PAUSE: u64 = 100;
 
-/// Shows how far the search for one problem is, in a line on standard error that each new one takes the place of.
+/// Shows how far the search for one problem is, in a line on standard error. Each new line replaces the one before.
 #[derive(Drop)]
 pub(crate) struct Progress<'a> {
     rt: &'a HostRuntime,
-    /// Whether somebody looks on.
+    /// Whether the line may be shown at all.
     is_shown: bool,
     /// The problem that is searched.
     problem: u32,
@@ -24,7 +24,7 @@ pub(crate) struct Progress<'a> {
 }
 
 impl<'a> Progress<'a> {
-    /// Returns the line before any search. It is never shown if nobody watches.
+    /// Returns a line that is not yet visible. It never becomes so unless `is_shown`.
     pub(crate) fn new(rt: &'a HostRuntime, is_shown: bool) -> Progress<'a> {
         Progress {
             rt,
@@ -76,7 +76,7 @@ impl Watcher for Progress<'_> {
 }
 
 impl DeskWatcher for Progress<'_> {
-    /// Starts the search for a problem. Without a clock it is not shown.
+    /// Notes that the search for a problem begins. Without a clock its progress is not shown.
     fn begin(&mut self, problem: u32) {
         self.problem = problem;
         self.begun = if self.is_shown {
@@ -86,7 +86,7 @@ impl DeskWatcher for Progress<'_> {
         };
     }
 
-    /// Ends the search, and removes the line.
+    /// Notes that the search is over, and removes the line.
     fn end(&mut self) {
         self.begun = None;
         self.make_way();

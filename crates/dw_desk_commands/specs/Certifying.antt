@@ -1,4 +1,4 @@
--- What `certify` does with a problem.
+-- The effect of `certify` on a problem.
 use Rattle.std.specs.Prelude.{◌≡◌, ℕ, Bool, List, []}
 use Rattle.dw_board.specs.Geometry.{Geometry}
 use Rattle.dw_board.specs.Placement.{Placement}
@@ -23,6 +23,6 @@ Certifies g n p TooManyPositions text = text ≡ []
 Certifies g n p (Failed fault) text = text ≡ []
 Certifies g n p other text = ⊥
 
--- the effect of the command on a problem
+-- the effect of `certify` on a problem
 abbrev pub IsCertifyOf : {T : Type 0} → Geometry → (n : ℕ) → Numbered → Ending T → List ℕ → Type 0
 IsCertifyOf g n problem ending text = IsDoneWith (Certifies g n) (first_line g problem) problem.found ending text

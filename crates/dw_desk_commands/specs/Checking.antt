@@ -1,4 +1,4 @@
--- What `check` says of the solution of a game.
+-- The output of `check` for the solution of a game.
 use Rattle.std.specs.Prelude.{◌≡◌, ◌==◌, ◌&&◌, ◌⊎◌, ◌++◌, if◌then◌else◌, Bool, ℕ, List, [], Option, Some, None, codes}
 use Rattle.std.specs.Prelude.{decimal, max, min, true, false, not}
 use Rattle.std.specs.List.{count_by}
@@ -24,29 +24,34 @@ use Rattle.dw_rows.specs.CheckRow.{IsCheckedRow, refused_solution_row}
 use Rattle.dw_rows.specs.declared.checked.CheckNumbers.{CheckNumbers}
 use Rattle.std.specs.Prelude.{Ok, Err, IsTrue, MatchBool, ◌↔◌, ◌∷◌}
 
--- how many remarks there are of each kind
+-- numbers of remarks, one for each kind
 pub record Counted : Type 0 where
   pub that_fail : ℕ
   pub that_end : ℕ
   pub left_open : ℕ
   pub left_out : ℕ
 
+-- whether a remark is on a move that fails
 abbrev pub is_fail : Remark → Bool
 is_fail (fails beginning move reply) = true
 is_fail other = false
 
+-- whether a remark is on an end that comes too soon
 abbrev pub is_end : Remark → Bool
 is_end (ends beginning) = true
 is_end other = false
 
+-- whether a remark is on replies that are left open
 abbrev pub is_open : Remark → Bool
 is_open (leaves_open beginning replies) = true
 is_open other = false
 
+-- whether a remark is on keys that are left out
 abbrev pub is_also : Remark → Bool
 is_also (also beginning keys) = true
 is_also other = false
 
+-- the numbers of remarks of each kind
 abbrev pub counted : List Remark → Counted
 counted remarks = record {
   that_fail = count_by is_fail remarks;
@@ -59,23 +64,23 @@ counted remarks = record {
 abbrev pub holds : Counted → Bool
 holds c = (c.that_fail == 0) && (c.that_end == 0)
 
--- the last line: whether it holds, and the numbers of remarks
+-- the last line on a solution: whether it holds, and the numbers of remarks
 abbrev pub last_line : ℕ → Counted → List ℕ
 last_line n c =
     (if holds c then codes "holds" else codes "fails") ++ (codes " in " ++ (decimal n ++ (codes ": "
     ++ (decimal c.that_fail ++ (codes " fail, " ++ (decimal c.that_end ++ (codes " end, " ++ (decimal c.left_open
     ++ (codes " open, " ++ (decimal c.left_out ++ codes " also\n"))))))))))
 
--- that there is no win
+-- the line that says that there is no win
 abbrev pub no_win_line : ℕ → List ℕ
 no_win_line n = codes "no win in " ++ (decimal n ++ codes "\n")
 
--- nothing if there is a win, or that there is none
+-- the line that there is no win, or nothing if there is one
 abbrev pub IsWinLine : Geometry → Placement → ℕ → List ℕ → Type 0
 IsWinLine g p n line = (Win g p n × (line ≡ [])) ⊎ ((Win g p n → ⊥) × (line ≡ no_win_line n))
 
--- What is said of a solution within n moves: the first line; that there is no win, if so; the remarks in turn; and the
--- last line.
+-- The text on a solution within n moves: the first line of the problem; the line that there is no win, if so; the
+-- remarks in turn; and the last line.
 pub record IsCheckedText (g : Geometry) (problem : Numbered) (p : Placement) (n : ℕ) (remarks : List Remark)
     (text : List ℕ) : Type 0 where
   pub line : List ℕ
@@ -95,30 +100,31 @@ numbers_of wins c = record {
   also = c.left_out;
 }
 
--- the same as a row of JSON
+-- the row of JSON on a solution within n moves
 abbrev pub IsCheckedLine : Geometry → (problem : ℕ) → Placement → (n : ℕ) → List Remark → List ℕ → Type 0
 IsCheckedLine g problem p n remarks text = (wins : Bool) × (IsTrue wins ↔ Win g p n)
     × IsCheckedRow g problem p n (numbers_of wins (counted remarks)) remarks text
 
--- there is none
+-- whether there is no remark
 abbrev pub is_none : List Remark → Bool
 is_none [] = true
 is_none (r ∷ remarks) = false
 
--- What is written of a solution with these remarks: with --faults nothing if there is none; else a row or words. The
--- game counts as refused if the solution does not hold.
+-- The output for a solution with these remarks: with --faults nothing if there is none; else a row or words. The game
+-- counts as refused if the solution does not hold.
 abbrev pub IsChecked : Geometry → CheckArgs → Numbered → Placement → (n : ℕ) → List Remark → (refused : Bool) → List ℕ
     → Type 0
 IsChecked g asked problem p n remarks refused text = (refused ≡ not (holds (counted remarks)))
     × MatchBool (asked.faults && is_none remarks) (text ≡ [])
     (MatchBool asked.json (IsCheckedLine g problem.number p n remarks text) (IsCheckedText g problem p n remarks text))
 
--- within how many moves a tree is looked at: as many as are asked for, or else as it has; at least 1, at most 20
+-- the number of moves within which a tree is checked: as many as are asked for, or else as it has; at least 1, at most
+-- 20
 abbrev pub IsNumberFor : Option ℕ → List (List Move) → ℕ → Type 0
 IsNumberFor asked tree n =
     (m : ℕ) × ((asked ≡ Some m) ⊎ ((asked ≡ None) × HasTurns tree m)) × (n ≡ max 1 (min m 20))
 
--- that a movetext has this fault there
+-- the line that names the fault of a movetext, and its place
 abbrev pub refused_line : MovetextFaultKind → (place : ℕ) → List ℕ
 refused_line what place =
     codes "solution refused: " ++ (decimal (number_of what) ++ (codes " " ++ (name_of what ++ (codes " at "
@@ -134,7 +140,8 @@ fault_text g json problem p what place =
 abbrev pub refused_text : Geometry → (json : Bool) → Numbered → ProblemFault → List ℕ
 refused_text g json problem fault = if json then refused_row problem.number fault else first_line g problem
 
--- What is written of a problem with this movetext. It counts as refused if it is, or if the movetext is.
+-- The output for a problem with this movetext. It counts as refused if the problem or the movetext is refused, or if
+-- the solution does not hold.
 abbrev pub IsCheckFor : Geometry → CheckArgs → Numbered → (movetext : List ℕ) → Found → (refused : Bool) → List ℕ
     → Type 0
 IsCheckFor g asked problem movetext (Ok p) refused text =

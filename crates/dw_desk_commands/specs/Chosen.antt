@@ -1,4 +1,4 @@
--- The problems that a command speaks of, each as a game.
+-- The problems that a command works on, each as a game.
 use Rattle.std.specs.Prelude.{◌≡◌, ◌&&◌, ⊤, ℕ, Bool, true, List, [], Option, Some, None, filter, map, nat_le}
 use Rattle.dw_board.specs.Geometry.{Geometry}
 use Rattle.dw_arguments.specs.declared.portion.Portion.{Portion}
@@ -14,18 +14,18 @@ as_game problem = record {
   said = record { found = problem.found; tags = []; movetext = [] };
 }
 
--- the games of a text, by how it has its problems
+-- the games of a text whose problems have this form
 abbrev pub AreGamesIn : Geometry → Form → (text : List ℕ) → List NumberedGame → Type 0
 AreGamesIn g Fens text games =
     (problems : List Numbered) × AreProblems g Fens true text problems × (games ≡ map as_game problems)
 AreGamesIn g Pdn text games = AreGames g text games
 
--- not after the last number, if there is one
+-- whether a number is not after the last one, if there is a last one
 abbrev pub is_up_to : Option ℕ → ℕ → Bool
 is_up_to None number = true
 is_up_to (Some last) number = nat_le number last
 
--- a portion has the numbers from its first to its last
+-- whether a number is in a portion, which goes from its first to its last
 abbrev pub is_in : Portion → ℕ → Bool
 is_in portion number = nat_le portion.first number && is_up_to portion.last number
 

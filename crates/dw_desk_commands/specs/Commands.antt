@@ -1,4 +1,4 @@
--- What each command does with the chosen problems of a text.
+-- The effect of each command on the chosen problems of a text.
 use Rattle.std.specs.Prelude.{◌≡◌, ◌⊎◌, ℕ, Option, List}
 use Rattle.std.specs.Io.KnownBytes.{Appends}
 use Rattle.dw_board.specs.Geometry.{Geometry}
@@ -25,12 +25,12 @@ use Rattle.dw_notation.specs.declared.problems.Form.{Form}
 use Rattle.dw_notation.specs.declared.problems.Form.TheVariants.{Pdn}
 use Rattle.dw_report.specs.declared.settings.RunFault.{RunFault}
 
--- how a text has its problems: solutions stand in games alone
+-- the form of the problems for a task: tags for `check`, which needs games, else as the arguments say
 abbrev pub form_for : Task → Form → Form
 form_for (task.Check asked) form = Pdn
 form_for other form = form
 
--- What a command writes of the chosen games, and how the program ends after it.
+-- The output of a command for the chosen games, and the ending of the program after it.
 abbrev pub Tells : {T : Type 0} → Geometry → Portion → Task → List NumberedGame → Ending T → List ℕ → Type 0
 Tells g portion (task.Find asked) games ending text =
     IsReportOnAll (λ game. IsFindOf g asked.json asked.most asked.each (problem_of game)) portion games ending text
@@ -49,7 +49,7 @@ Tells g portion (task.Mend asked) games ending text =
 Tells g portion (task.Token line) games ending text =
     IsReportOnOne (λ game. IsTokenFor g line.now game.said.found) portion.first games ending text
 
--- The chosen games of a text are read, and of these just this is written; then the program ends.
+-- A command is done: the chosen games of a text are read, just their output is written, and the program ends.
 pub record DoesIt {T : Type 0} (g : Geometry) (words : DeskArgs) (coming before after : Option (List ℕ))
     (ending : Ending T) : Type 0 where
   pub games : List NumberedGame
@@ -58,7 +58,7 @@ pub record DoesIt {T : Type 0} (g : Geometry) (words : DeskArgs) (coming before 
   pub told : Tells g words.portion words.task games ending text
   pub written : Appends before after text
 
--- a command is obeyed; or the program was stopped, or a stream failed
+-- a command is done; or the program was stopped, or a stream failed
 abbrev pub Obeys : {T : Type 0} → Geometry → DeskArgs → (coming before after : Option (List ℕ)) → Ending T → Type 0
 Obeys g words coming before after ending =
     ((fault : RunFault) × (ending ≡ Failed fault)) ⊎ DoesIt g words coming before after ending

@@ -7,17 +7,17 @@ use Rattle.dw_report.specs.declared.settings.RunFault.{RunFault}
 use Rattle.dw_report.specs.declared.settings.RunFault.TheVariants as faults
 use Rattle.dw_solve.specs.declared.stop.Stop.TheVariants as stops
 
--- after problems, given how many of them count as refused
+-- the ending after problems of which this number count as refused
 abbrev pub done_of : {T : Type 0} → ℕ → Ending T
 done_of refused = if refused == 0 then end.Done else end.Refused
 
--- after a number of reported problems; those that were requested by number may be missing
+-- the ending after a number of reported problems; those that were requested by number may be missing
 abbrev pub ending_after : {T : Type 0} → (shown refused : ℕ) → Portion → Ending T
 ending_after shown refused portion =
     if portion.is_asked then (if shown == 0 then end.NoProblem portion.first else done_of refused) else done_of refused
 
--- A fault has its cause: that stream has failed; or, of a stop at a limit, as many positions were expanded as can be
--- counted.
+-- A fault has its cause: for a read or a write that stream has failed; for a stop at a limit as many positions were
+-- expanded as can be counted.
 abbrev pub HasCause : (source_failed sink_failed : Bool) → RunFault → Type 0
 HasCause source_failed sink_failed (faults.Stopped why expanded) =
     why ≡ stops.Limit → expanded ≡ 18446744073709551615

@@ -1,4 +1,4 @@
--- What `find` says of a position.
+-- The output of `find` for a position.
 use Rattle.std.specs.Prelude.{◌≡◌, ℕ, Bool, true, false, Ok, Err, Option, Some, None, List, MatchBool}
 use Rattle.dw_board.specs.Geometry.{Geometry}
 use Rattle.dw_board.specs.Placement.{Placement}
@@ -14,7 +14,7 @@ abbrev pub is_open : Finding → Bool
 is_open (judged k verdict tries) = false
 is_open (undecided k) = true
 
--- if any number of positions may be expanded, the number of moves is found
+-- a finding may leave the number of moves open only if there is a bound on positions
 abbrev pub MayStayOpen : (each : Option ℕ) → Finding → Type 0
 MayStayOpen None finding = is_open finding ≡ false
 MayStayOpen (Some bound) finding = Unit {0}
@@ -23,12 +23,12 @@ MayStayOpen (Some bound) finding = Unit {0}
 abbrev pub IsFound : Geometry → (most : ℕ) → (each : Option ℕ) → Placement → Finding → Type 0
 IsFound g most each p finding = IsFinding g p most finding × MayStayOpen each finding
 
--- its text; the problem counts as refused if the number of moves stays open
+-- the text of a finding; the problem counts as refused if the number of moves stays open
 abbrev pub SaysFound : Geometry → (most : ℕ) → (each : Option ℕ) → Placement → (refused : Bool) → List ℕ → Type 0
 SaysFound g most each p refused text =
     (finding : Finding) × IsFound g most each p finding × (refused ≡ is_open finding) × IsFoundText g p finding text
 
--- a line of JSON
+-- the row of JSON for a problem; it counts as refused if it is refused, or if its number of moves stays open
 abbrev pub IsJsonOf : Geometry → (most : ℕ) → (each : Option ℕ) → (number : ℕ) → Found → (refused : Bool) → List ℕ
     → Type 0
 IsJsonOf g most each number (Ok p) refused text =

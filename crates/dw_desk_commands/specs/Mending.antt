@@ -1,4 +1,4 @@
--- What `mend` does with a problem.
+-- The effect of `mend` on a problem.
 use Rattle.std.specs.Prelude.{◌≡◌, ℕ, ◌++◌, Bool, true, if◌then◌else◌, not, ◌==◌, Ok, Err, List, []}
 use Rattle.dw_arguments.specs.declared.mend.MendArgs.{MendArgs}
 use Rattle.dw_board.specs.Geometry.{Geometry}
@@ -26,7 +26,7 @@ SaysMended g asked expanded p refused text =
     × IsMendText (wording_for asked.json) g p asked.n asked.part asked.parts all sound undecided text
     × AreBounded asked.each all undecided 0 expanded × (refused ≡ not (undecided == 0))
 
--- the text before them: the first line, or nothing if they are rows
+-- the text before the neighbours: the first line of the problem, or nothing if they are rows
 abbrev pub front : Geometry → MendArgs → Numbered → List ℕ
 front g asked problem = if asked.json then [] else first_line g problem
 
@@ -41,7 +41,7 @@ IsMended g asked expanded problem (Ok p) refused text =
 IsMended g asked expanded problem (Err fault) refused text =
     (refused ≡ true) × (text ≡ refusal g asked problem fault)
 
--- the effect of the command on a problem
+-- the effect of `mend` on a problem
 abbrev pub IsMendOf : {T : Type 0} → Geometry → MendArgs → (expanded : ℕ) → Numbered → Ending T → List ℕ → Type 0
 IsMendOf g asked expanded problem ending text = (refused : Bool)
     × IsMended g asked expanded problem problem.found refused text × (ending ≡ (if refused then Refused else Done))

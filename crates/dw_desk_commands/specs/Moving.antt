@@ -1,4 +1,4 @@
--- What `moves` does with a problem.
+-- The effect of `moves` on a problem.
 use Rattle.std.specs.Prelude.{◌≡◌, ℕ, Bool, true, false, Ok, Err, if◌then◌else◌, List, MatchBool}
 use Rattle.dw_arguments.specs.declared.moves.MovesArgs.{MovesArgs}
 use Rattle.dw_board.specs.Geometry.{Geometry}
@@ -19,7 +19,7 @@ abbrev pub SaysFirstMoves : Geometry → (n i m : ℕ) → Placement → (refuse
 SaysFirstMoves g n i m p refused text = (done : List (Move × Effect)) × AreFirstMoves g p n i m done
     × IsFirstMovesText g p done text × (refused ≡ false)
 
--- the same as a row of JSON, and that of a refused problem
+-- the row of JSON for the first moves of a problem, or for a refused problem
 abbrev pub IsFirstMovesLine : Geometry → (n i m problem : ℕ) → Found → (refused : Bool) → List ℕ → Type 0
 IsFirstMovesLine g n i m problem (Ok p) refused text = (done : List (Move × Effect)) × AreFirstMoves g p n i m done
     × IsFirstMovesRow g problem p n done text × (refused ≡ false)
@@ -31,7 +31,7 @@ IsMovesText g asked problem refused text = MatchBool asked.json
     (IsFirstMovesLine g asked.n asked.part asked.parts problem.number problem.found refused text)
     (IsProblemText g (SaysFirstMoves g asked.n asked.part asked.parts) problem refused text)
 
--- the effect of the command on a problem
+-- the effect of `moves` on a problem
 abbrev pub IsMovesOf : {T : Type 0} → Geometry → MovesArgs → Numbered → Ending T → List ℕ → Type 0
 IsMovesOf g asked problem ending text = (refused : Bool) × IsMovesText g asked problem refused text
     × (ending ≡ (if refused then Refused else Done))

@@ -1,4 +1,4 @@
--- What `page` writes: a page of problems.
+-- The page of problems that `page` writes.
 use Rattle.std.specs.Prelude.{◌≡◌, ◌+◌, ◌*◌, ◌≤◌, ◌⊎◌, ◌++◌, ◌∷◌, ℕ, Bool, true, false, List, [], Option, Some, None}
 use Rattle.std.specs.Prelude.{Ok, Err, All, MatchBool, codes, decimal, filter_map, flat_map, if◌then◌else◌, length, map}
 use Rattle.std.specs.Prelude.{nat_lt}
@@ -38,11 +38,12 @@ language_for asks.Dutch = Dutch
 language_for asks.French = French
 language_for asks.Russian = Russian
 
--- the value of the first tag of a name, if there is one
+-- the first of some values, if there is one
 abbrev pub first_of : List (List ℕ) → Option (List ℕ)
 first_of [] = None
 first_of (value ∷ values) = Some value
 
+-- the value of the first tag of a name, if there is one
 abbrev pub value : (name : List ℕ) → List Tag → Option (List ℕ)
 value name tags = first_of (values_named name tags)
 
@@ -55,7 +56,7 @@ source tags = filter_map (λ v. v)
 abbrev pub listed : List (List ℕ) → List ℕ
 listed texts = join_by (λ t. t) (codes ", ") texts
 
--- that there is a win in fewer moves already, if so
+-- the text that says that there is a win in fewer moves, if there is one
 abbrev pub shorter : Language → (n shortest : ℕ) → List ℕ
 shorter language n shortest =
     if nat_lt shortest n then codes " (" ++ (phrase language phrases.Shorter ++ (decimal shortest
@@ -150,7 +151,7 @@ pub record Shown : Type 0 where
   pub part : List ℕ
   pub later : List ℕ
 
--- a game is shown as it is to be
+-- a game is shown as the request says
 abbrev pub IsShownIn : Geometry → PageArgs → Shown → Type 0
 IsShownIn g asked s =
     IsPart g asked s.game.number s.game.said.found s.game.said.tags s.is_refused s.part s.later
@@ -162,7 +163,7 @@ heading_of End language = solutions_heading language
 heading_of Nowhere language = []
 
 -- A page of some games: its head, the part of each game in turn, their later parts, and its end; the number of games,
--- and how many count as refused. A text has no more games than are counted.
+-- and how many count as refused. The numbers are stated for at most 1,000,001 games, and a text has no more.
 pub record IsPage (g : Geometry) (asked : PageArgs) (games : List NumberedGame) (counts : Counts) (text : List ℕ)
     : Type 0 where
   pub games_shown : List Shown

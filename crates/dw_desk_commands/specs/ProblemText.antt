@@ -38,8 +38,8 @@ pub record Reported : Type 0 where
   pub game : NumberedGame
   pub is_refused : Bool
 
--- The report on some games: the output for each in turn; the number of games, and how many count as refused. A text has
--- no more games than are counted.
+-- The report on some games: the output for each in turn; the number of games, and how many count as refused. The
+-- numbers are stated for at most 1,000,001 games, and a text has no more.
 pub record IsReport (One : NumberedGame → (refused : Bool) → List ℕ → Type 0) (games : List NumberedGame)
     (counts : Counts) (text : List ℕ) : Type 0 where
   pub reported : List Reported

@@ -1,4 +1,4 @@
--- What `solution` writes of a position.
+-- The output of `solution` for a position.
 use Rattle.std.specs.Prelude.{◌≡◌, ◌==◌, ◌++◌, ◌∷◌, if◌then◌else◌, ℕ, List, [], codes, decimal, length, take, nat_lt}
 use Rattle.std.specs.Prelude.{MatchBool, Bool, true, false, Ok, Err}
 use Rattle.std.specs.List.{flat_map}
@@ -43,19 +43,19 @@ pub record IsMovetextOf (g : Geometry) (p : Placement) (n most : ℕ) (heading :
   pub are_first : first ≡ record { start = p; lines = take most lines; more = nat_lt most (length lines) }
   pub is : IsMovetext g heading first many movetext
 
--- the movetext of a win within n moves
+-- the movetext of the solution within n moves
 abbrev pub IsSolution : Geometry → Placement → (n most : ℕ) → List ℕ → Type 0
 IsSolution g p n most text =
     (heading : Heading) × (first : LinesFrom) × (many : ℕ) × IsMovetextOf g p n most heading first many text
 
--- a tag in a line of its own; nothing of the two that are written anew
+-- a tag in a line of its own; nothing for `GameType` and `FEN`, which are written anew
 abbrev pub own_line : TagText → List ℕ
 own_line t =
     if same_name t.tag.name (codes "GameType") then []
     else if same_name t.tag.name (codes "FEN") then []
     else t.text ++ 10 ∷ []
 
--- the line that names the game on the board of ten rows
+-- the line with the type of the game for the board of ten rows; nothing for another board
 abbrev pub type_line : Geometry → List ℕ
 type_line g = if g.rows == 10 then codes "[GameType \"20\"]\n" else []
 

@@ -1,4 +1,4 @@
--- What `token` does with a problem.
+-- The effect of `token` on a problem.
 use Rattle.std.specs.Prelude.{◌≡◌, ◌++◌, ℕ, List, [], codes, Ok, Err}
 use Rattle.dw_board.specs.Geometry.{Geometry}
 use Rattle.dw_board.specs.Placement.{Placement}
@@ -24,7 +24,7 @@ WritesToken g line p (LineRefused number name place) text =
     × (name.now ≡ line_name_of what) × (text ≡ [])
 WritesToken g line p other text = ⊥
 
--- the effect of the command on a problem; a refused one ends the program, and nothing is written
+-- the effect of `token` on a problem; a refused one ends the program, and nothing is written
 abbrev pub IsTokenFor : {T : Type 0} → Geometry → (line : List ℕ) → Found → Ending T → List ℕ → Type 0
 IsTokenFor g line (Ok p) ending text = WritesToken g line p ending text
 IsTokenFor g line (Err fault) ending text = (ending ≡ ProblemRefused fault) × (text ≡ [])

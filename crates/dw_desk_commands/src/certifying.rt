@@ -21,8 +21,8 @@ use std::mem::replace;
 impl<B: Board, E> ReportOne<B, E> for CertifyArgs {
     ghost says = { λ asked expanded game. IsCertifyOf B.geometry asked.n (problem_of game) };
 
-    /// Writes the certificate of whether a problem is won within `n` moves, and returns how that ended. A refused
-    /// problem leaves its first line alone.
+    /// Writes the certificate of whether a problem is won within `n` moves, and returns how that ended. Only the first
+    /// line of a refused problem is written.
     fn report<W: DeskWatcher, K: Sink>(
         &self,
         desk: &mut Desk<B>,
@@ -57,7 +57,8 @@ impl<B: Board, E> ReportOne<B, E> for CertifyArgs {
     }
 }
 
-/// Makes the text of the certificate of a position, out of the memo of the desk, which has an empty one then.
+/// Makes the text of the certificate of a position out of the memo of the desk. The desk then has a solver that keeps
+/// nothing.
 fn text_of<B: Board>(
     desk: &mut Desk<B>,
     position: &Position<B>,

@@ -39,7 +39,7 @@ use std::alloc::{AllocError, Global};
 impl<B: Board> ReportEach<B> for CheckArgs {
     ghost says = { λ asked. IsCheckOf B.geometry asked };
 
-    /// Reports one game, and returns whether it or its solution is refused, or the solution fails.
+    /// Reports one game, and returns whether it or its solution is refused, or the solution does not hold.
     fn report<W: DeskWatcher, K: Sink>(
         &self,
         desk: &mut Desk<B>,
@@ -128,7 +128,7 @@ fn write_fault<B: Board, K: Sink>(
     Ok(())
 }
 
-/// A solution that was compared with the truth.
+/// A solution that was compared with all wins.
 #[derive(Clone, Copy)]
 struct Solution<'a, B: Board> {
     problem: &'a Problem<B>,
@@ -138,7 +138,8 @@ struct Solution<'a, B: Board> {
     checked: &'a Checked<B>,
 }
 
-/// Returns the number of moves within which a solution is looked at: the number of `-n`, or that of the solution.
+/// Returns the number of moves within which a solution is checked: that of `-n`, or else that of the solution, but at
+/// least 1.
 fn moves_for<B: Board>(asked: Option<u8>, tree: &Tree<B>) -> u8
     ensures number { IsNumberFor asked tree.now result }
     ensures some { 1 ≤ result }
@@ -151,7 +152,7 @@ fn moves_for<B: Board>(asked: Option<u8>, tree: &Tree<B>) -> u8
     moves.clamp(FEWEST_MOVES, MOST_MOVES)
 }
 
-/// Compares a solution with the truth, and shows how far the search is.
+/// Compares a solution with all wins, and shows how far the search is.
 fn checked<B: Board, W: DeskWatcher>(
     desk: &mut Desk<B>,
     slices: &mut Slices<W>,
@@ -191,7 +192,7 @@ fn refused_line(alloc: Global, what: MovetextFaultKind, place: u32) -> Result<St
     .concat(alloc)
 }
 
-/// Writes the remarks on a solution, unless it is to be left out, and returns whether it fails.
+/// Writes the remarks on a solution, unless it is to be left out, and returns whether it does not hold.
 fn write_solution<B: Board, K: Sink>(
     alloc: Global,
     asked: &CheckArgs,
@@ -216,7 +217,7 @@ fn write_solution<B: Board, K: Sink>(
     Ok(!tally.holds())
 }
 
-/// Returns whether nothing is to be written of a solution, since there are no remarks on it.
+/// Returns whether a solution is left out: with `--faults`, if there are no remarks on it.
 fn is_left_out<B: Board>(asked: &CheckArgs, solution: &Solution<'_, B>) -> bool
     ensures { (said : List AnyRemark)
         → map (remark_in solution.now.tree.now) solution.now.checked.now.remarks.items ≡ map (λ r. Some r) said
@@ -391,7 +392,7 @@ struct Tally {
 }
 
 impl Tally {
-    /// Adds a remark.
+    /// Returns these numbers with one more remark.
     fn with<B: Board>(self, remark: &Remark<B>) -> Tally
         requires { total self < 18446744073709551615 }
         ensures counts { (tree : List (List Move)) (r : AnyRemark) → remark_in tree remark.now ≡ Some r

@@ -10,13 +10,13 @@ use dw_notation::problems::MAX_PROBLEMS;
 use dw_notation::{Form, Problems, Source};
 use std::alloc::Global;
 
-/// The chosen problems of a text, in order, each as a game. One that has a line to itself has no tags and no movetext.
+/// The chosen problems of a text, in order, each as a game. A problem in a line of its own has no tags and no movetext.
 #[derive(Drop)]
 pub(crate) struct Chosen<'a, B: Board, S> {
     alloc: Global,
     text: Text<'a, B, S>,
     portion: Portion,
-    /// The number of problems of the text that are still looked at.
+    /// The most problems of the text that are still looked at.
     left: u32,
 }
 
@@ -51,14 +51,14 @@ impl<'a, B: Board, S: Source> Chosen<'a, B, S> {
         self.portion.first
     }
 
-    /// Returns whether these problems were asked for by their numbers.
+    /// Returns whether it is an error if none of these problems is there.
     pub(crate) fn is_asked(&self) -> bool
         ensures { result ≡ self.now.portion.is_asked }
     {
         self.portion.is_asked
     }
 
-    /// Returns the next of them, or none if there is no more. Reading ends after the last.
+    /// Returns the next of them, or `None` if there is no more. Reading ends after the last.
     pub(crate) fn next(&mut self) -> Result<Option<Game<B>>, DeskFault>
         requires { Runs self.old.text }
         ensures given { IfOk result (λ found. HandsOut (AreToCome B.geometry S.coming S.has_ended self.old)

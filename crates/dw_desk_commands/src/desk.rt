@@ -23,7 +23,8 @@ use dw_solve::{ByTrial, Solver};
 use dw_study::Slices;
 use std::alloc::{AllocError, Global};
 
-/// The number of reported problems, and the number of those that were refused, stayed undecided or fail.
+/// The number of reported problems, and the number of those that count as refused: they or their solutions were
+/// refused, they stayed undecided, or their solutions do not hold.
 #[derive(Clone, Copy, Default)]
 pub struct Counts {
     pub shown: u32,
@@ -157,7 +158,7 @@ impl<B: Board> Desk<B> {
         })
     }
 
-    /// Takes an empty memo, and counts positions from 0 again.
+    /// Replaces the solver by one with an empty memo, which counts positions from 0.
     pub(crate) fn renew(&mut self) -> Result<(), AllocError>
         ensures { OnOk result (self.new.solver.expanded ≡ 0) }
     {
@@ -175,8 +176,9 @@ impl<B: Board> Desk<B> {
     }
 }
 
-/// Runs a command on the problems of a source, and returns how the program ends. It fails only if memory was refused,
-/// if a stream failed, or if 2^64 - 1 positions were expanded.
+/// Runs a command on the problems of a source, and returns how the program ends. The board must have 10 or 8 rows, and
+/// neither the source nor the sink may have failed before. It fails only if memory was refused, if a stream failed, or
+/// if 2^64 - 1 positions were expanded.
 pub fn run_on<'a, B: Board, W: DeskWatcher, S: Source, K: Sink>(
     alloc: Global,
     slices: &mut Slices<W>,
@@ -272,7 +274,7 @@ fn do_with<'a, B: Board, W: DeskWatcher, S: Source, K: Sink>(
     }
 }
 
-/// Returns the form of the text: solutions stand in games alone.
+/// Returns the form of the text: tags for `check`, else as the arguments say.
 fn form_of(args: &DeskArgs<'_>) -> Form
     ensures { result ≡ form_for args.now.task args.now.form }
 {

@@ -116,8 +116,8 @@ fn is_undecided<B: Board>(finding: &Finding<B>) -> bool
     matches!(finding, Finding::Undecided { .. })
 }
 
-/// Searches for one problem, and shows how far it is. If the number of positions is bounded, the memo is empty first,
-/// so that nothing depends on the problems before.
+/// Finds the least number of moves of a position, and shows how far the search is. If the number of positions is
+/// bounded, the memo is empty first, so that nothing depends on the problems before.
 fn search<B: Board, W: DeskWatcher>(
     desk: &mut Desk<B>,
     slices: &mut Slices<W>,

@@ -26,8 +26,8 @@ use std::alloc::Global;
 impl<B: Board, E> ReportOne<B, E> for MendArgs {
     ghost says = { λ asked expanded game. IsMendOf B.geometry asked expanded (problem_of game) };
 
-    /// Writes the sound neighbours of a problem, each as soon as it is found, and returns how that ended. A refused
-    /// problem leaves its first line alone, or its row.
+    /// Writes the sound neighbours of a problem, each as soon as it is found, and returns how that ended. Only the
+    /// first line or the row of a refused problem is written.
     fn report<W: DeskWatcher, K: Sink>(
         &self,
         desk: &mut Desk<B>,

@@ -31,8 +31,8 @@ impl<B: Board, E> ReportOne<B, E> for MovesArgs {
     ghost says = { λ asked expanded game.
         IsMovesOf B.geometry asked (problem_of game) };
 
-    /// Writes the effects of the first moves of a problem, and returns how that ended. A refused problem leaves its
-    /// first line alone, or its row.
+    /// Writes the effects of the first moves of a problem, and returns how that ended. Only the first line or the row
+    /// of a refused problem is written.
     fn report<W: DeskWatcher, K: Sink>(
         &self,
         desk: &mut Desk<B>,

@@ -38,8 +38,8 @@ use dw_study::{FindBounds, Finding, Slices, judge_in_slices};
 use dw_verdict::Judged;
 use std::alloc::{AllocError, Global};
 
-/// Writes the page, each problem as soon as it is read. If the problem that was asked for is not there, nothing is
-/// written.
+/// Writes the page, each problem as soon as it is read. If problems were asked for by their numbers and none of them is
+/// there, nothing is written.
 pub(crate) fn page_problems<B: Board, W: DeskWatcher, S: Source, K: Sink>(
     desk: &mut Desk<B>,
     slices: &mut Slices<W>,
@@ -69,7 +69,7 @@ pub(crate) fn page_problems<B: Board, W: DeskWatcher, S: Source, K: Sink>(
     Ok(counts)
 }
 
-/// Writes a page of no problems, unless one was asked for.
+/// Writes a page of no problems, or nothing if problems were asked for by their numbers.
 fn empty_page<B: Board, K: Sink>(
     alloc: Global,
     asked: &PageArgs<'_>,

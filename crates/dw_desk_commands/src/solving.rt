@@ -227,7 +227,8 @@ pub(crate) struct Solved<B: Board> {
     pub(crate) movetext: SolutionText,
 }
 
-/// Writes the movetext of the first lines of a position within `moves` moves, with this verdict.
+/// Makes the solution of a position within `moves` moves, 1 to 20, with at most `lines` lines. The verdict must be that
+/// of the position.
 pub(crate) fn solved_within<B: Board>(
     desk: &mut Desk<B>,
     position: &Position<B>,
@@ -311,7 +312,7 @@ fn new_tags<B: Board>(alloc: Global, position: &Position<B>) -> Result<String, A
     [type_line::<B>(), "[FEN \"", fen.as_str(), "\"]\n\n"].concat(alloc)
 }
 
-/// Returns the line that names the game on the board of ten rows.
+/// Returns the line with the type of the game for the board of ten rows, and an empty text for another board.
 fn type_line<B: Board>() -> &'static str
     ensures { result.now ≡ of.type_line B.geometry }
 {

@@ -1,4 +1,4 @@
--- What the first moves of a position do.
+-- The effects of the first moves of a position.
 use Rattle.std.specs.Prelude.{◌≡◌, ℕ, ◌-◌, ◌<◌, ◌≤◌, List, [], ◌∷◌}
 use Rattle.dw_board.specs.Geometry.{Geometry}
 use Rattle.dw_board.specs.Placement.{Placement}
@@ -22,8 +22,8 @@ pub record WinsFirstIn (g : Geometry) (p : Placement) (n : ℕ) (m : Move) (k : 
 abbrev pub Refutations : Geometry → Placement → ℕ → Move → List Move → Type 0
 Refutations g p n m replies = IsListOf (Precedes g (play g p m)) (Refutes g (play g p m) (n - 1)) replies
 
--- What a first move does within n moves: it wins, within k moves and not within fewer; or it is legal and does not win,
--- and just these replies refute it.
+-- The effect of a first move within n moves: it wins, within k moves and not within fewer; or it is legal and does not
+-- win, and just these replies refute it.
 abbrev pub HasEffect : Geometry → Placement → ℕ → Move → Effect → Type 0
 HasEffect g p n m (wins_in k) = WinsFirstIn g p n m k
 HasEffect g p n m (refuted_by replies) = Legal g p m × (IsWinning g p n m → ⊥) × Refutations g p n m replies

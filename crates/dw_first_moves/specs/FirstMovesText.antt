@@ -1,4 +1,4 @@
--- What is written of first moves.
+-- The text of first moves.
 use Rattle.std.specs.Prelude.{◌≡◌, ℕ, Bool, true, false, List, [], ◌∷◌, ◌++◌, length, codes, decimal}
 use Rattle.std.specs.List.{count_by}
 use Rattle.dw_board.specs.Geometry.{Geometry}
@@ -24,7 +24,7 @@ AreEffectLines g p [] lines = lines ≡ []
 AreEffectLines g p (one ∷ done) lines = (line : List ℕ) × (rest : List ℕ) × IsEffectLine g p one line
     × AreEffectLines g p done rest × (lines ≡ line ++ rest)
 
--- a first move wins
+-- whether a first move wins
 abbrev pub is_win : Move × Effect → Bool
 is_win (m, wins_in k) = true
 is_win (m, refuted_by replies) = false

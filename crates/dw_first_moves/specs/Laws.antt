@@ -5,7 +5,7 @@ use Rattle.dw_board.specs.Placement.{Placement}
 use Rattle.dw_moves.specs.Moves.{Move, Legal}
 use Rattle.dw_first_moves.specs.FirstMoves.{Effect, HasEffect}
 
--- a legal move does something within n moves, and only one thing
+-- a legal move has an effect within n moves, and only one
 pub record OneEffect : Type 0 where
   pub some : (g : Geometry) → IsBoard g → (p : Placement) (n : ℕ) (m : Move) → 1 ≤ n → Legal g p m
       → (effect : Effect) × HasEffect g p n m effect

@@ -21,8 +21,8 @@ use dw_solve::{Guide, Solver, Stop};
 use dw_study::{Slices, Watcher, wins_resuming};
 use std::alloc::{AllocError, Global};
 
-/// Finds the effect of a legal move within `moves` moves. It looks for a win within 1 move, then within 2 and so on. If
-/// there is none, it looks at each reply within the moves left after the first.
+/// Finds the effect of a legal move within `moves` moves, 1 to 20. It looks for a win within 1 move, then within 2 and
+/// so on. If there is none, it looks at each reply within the moves left after the first.
 pub(crate) fn effect_of<B: Board, M: Memo<B>, G: Guide<B>, W: Watcher>(
     alloc: Global,
     solver: &mut Solver<B, M, G>,

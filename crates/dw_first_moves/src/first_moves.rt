@@ -22,10 +22,10 @@ use dw_solve::{Guide, Solver, Stop};
 use dw_study::{Slices, Watcher};
 use std::alloc::{AllocError, Global};
 
-/// Finds the effects of the legal moves of a part, within `moves` moves of the side to move, 1 to 20, in the order of
-/// moves. An effect is the least number of moves within which the move wins; or it is the list of all replies after
-/// which there is no win within the moves then left. The slices begin anew, and no answer depends on them. After a stop
-/// all bounds in the memo are right, and the call can be made again.
+/// Finds the effects of the legal moves of a part, in the order of moves. `moves`, the number of moves of the side to
+/// move, must be 1 to 20. An effect is the least number of moves within which the move wins; or it is the list of all
+/// replies after which there is no win within the moves then left. The slices start again, and no answer depends on
+/// them. After a stop all bounds in the memo are right, and the call can be repeated.
 pub fn first_moves<B: Board, M: Memo<B>, G: Guide<B>, W: Watcher>(
     alloc: Global,
     solver: &mut Solver<B, M, G>,

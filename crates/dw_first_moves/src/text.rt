@@ -19,7 +19,7 @@ use itoa::Buffer;
 use std::alloc::{AllocError, Global};
 
 /// Writes the effects that `first_moves` found: a line for each move, and a last line with the number of those that
-/// win.
+/// win. They must be effects of moves of this position.
 pub fn first_moves_text<B: Board>(
     alloc: Global,
     position: &Position<B>,

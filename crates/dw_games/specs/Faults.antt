@@ -46,8 +46,8 @@ name_of TooLong = codes "too long"
 name_of TooLarge = codes "too large"
 name_of Empty = codes "empty"
 
--- After these tokens no result stands yet: the innermost of the variations that are open begins after the moves
--- before, and has these moves. So many more may be open in it.
+-- These tokens have no result so far. The number says how many more variations may be opened after them; `before` are
+-- the moves before the innermost open variation, and `moves` are its own.
 pub data IsOpen (g : Geometry) (p : Placement) : ℕ → List Token → (before moves : List Move) → Type 0 where
   outermost : {ts : List Token} {moves : List Move} {paths : List (List Move)}
       → IsVariation g p MAX_OPEN [] ts moves paths → IsOpen g p MAX_OPEN ts [] moves
@@ -64,7 +64,7 @@ pub record HasForm (g : Geometry) (t : Token) : Type 0 where
   pub named : Named
   pub form : Names g (crossed t.text) named
 
--- a token has this form, and the position has no such move or several
+-- a token has the form of a move, but it names no legal move of this position, or several
 pub record IsRefused (g : Geometry) (p : Placement) (t : Token) (why : MoveFault) : Type 0 where
   pub form : HasForm g t
   pub refused : IsRead g p (crossed t.text) (Err why)
@@ -75,11 +75,11 @@ pub record IsNeither (g : Geometry) (t : Token) : Type 0 where
   pub no_result : IsResult t → ⊥
   pub no_form : HasForm g t → ⊥
 
--- bytes that are no token, or a token that ends too soon
+-- a token that is unknown or cut off, or that is neither a result nor of the form of a move
 abbrev pub IsUnreadable : Geometry → Token → Type 0
 IsUnreadable g t = (t.what ≡ Unknown) ⊎ ((t.what ≡ CutOff) ⊎ IsNeither g t)
 
--- after the tokens before, this one is at fault
+-- after these tokens, the next one has a fault of this kind
 pub data FaultAt (g : Geometry) (p : Placement) : List Token → Token → MovetextFaultKind → Type 0 where
   unreadable : {room : ℕ} {ts : List Token} {before moves : List Move} {t : Token}
       → IsOpen g p room ts before moves → IsUnreadable g t → FaultAt g p ts t NoToken
@@ -111,8 +111,8 @@ pub data FaultAtEnd (g : Geometry) (p : Placement) : List Token → MovetextFaul
       → room < MAX_OPEN → FaultAtEnd g p ts Unclosed
   no_move : {ts : List Token} → IsPlay g p ts [] ⊎ IsOver g p ts [] → FaultAtEnd g p ts Empty
 
--- The first fault of a text, and its place: that of the token at fault, or the end of the text. A text that is too
--- large has no other.
+-- The first fault of a text, and its place: that of the token at fault, or the place after the end of the text. A text
+-- that is too large has no other fault.
 pub data IsFirstFault (g : Geometry) (p : Placement) : List ℕ → MovetextFaultKind → ℕ → Type 0 where
   too_large : {text : List ℕ} → MAX_MOVETEXT < length text → IsFirstFault g p text TooLarge (MAX_MOVETEXT + 1)
   at_token : {text : List ℕ} (before : List Token) (t : Token) (rest : List ℕ) {what : MovetextFaultKind}

@@ -9,7 +9,7 @@ use Rattle.dw_games.specs.declared.games.Games.{Games}
 use Rattle.dw_games.specs.declared.games.GameFault.{GameFault}
 use Rattle.dw_games.specs.declared.games.GameFault.TheVariants.{Failed, Memory}
 
--- a game that was returned, as a value, for any type of its board
+-- the value of a game that was returned, for any type of its board
 abbrev pub numbered_game : {B : Type 0} → Game B → NumberedGame
 numbered_game game = record {
   number = game.problem.number;
@@ -35,7 +35,7 @@ pub record Reader : Type 1 where
   -- the fault that has stopped the reader
   pub fault : Option GameFault
 
--- these bytes may still be to be read: none, if the end was met
+-- these bytes may still come; none, if the end was met
 abbrev pub MayCome : Reader → List ℕ → Type 0
 MayCome reader bytes = reader.met_end ≡ true → bytes ≡ []
 
@@ -49,14 +49,14 @@ Gives g old new read (Ok None) =
     (new.is_over ≡ true) × ((bytes : List ℕ) → MayCome new bytes → old.ahead g (read ++ bytes) [])
 Gives g old new read (Err fault) = new.fault ≡ Some fault
 
--- a call that took these bytes off the source gave this
+-- the effect of a call that took some bytes off the source
 pub record GivesNext {B : Type 0} (g : Geometry) (coming left : Option (List ℕ)) (old new : Reader)
     (result : Result (Option (Game B)) GameFault) : Type 0 where
   pub read : List ℕ
   pub took : Consumes coming left read
   pub gives : Gives g old new read result
 
--- the end that a reader has met is the source's, which has nothing left
+-- if a reader has met the end, the source has ended and nothing is left in it
 abbrev pub EndIsTrue : Option (List ℕ) → Bool → Reader → Type 0
 EndIsTrue coming has_ended reader = reader.met_end ≡ true → IsAtEnd coming × (has_ended ≡ true)
 
@@ -65,7 +65,7 @@ abbrev pub StandsStill : {B : Type 0} → Reader → Result (Option (Game B)) Ga
 StandsStill old result =
     (old.is_over ≡ true → result ≡ Ok None) × ((fault : GameFault) → old.fault ≡ Some fault → result ≡ Err fault)
 
--- it is over, or a fault has stopped it
+-- a reader is over, or a fault has stopped it
 abbrev pub Rests : Reader → Type 0
 Rests reader = (reader.is_over ≡ true) ⊎ ((fault : GameFault) × (reader.fault ≡ Some fault))
 

@@ -26,6 +26,7 @@ abbrev pub told : Found → List ℕ → List ℕ
 told (Ok position) movetext = take (MAX_MOVETEXT + 1) movetext
 told (Err fault) movetext = []
 
+-- the problem of a section, with the bytes that are kept of its tags and of its movetext
 abbrev pub said_with : Found → (text movetext : List ℕ) → Said
 said_with found text movetext = record {
   found = found;
@@ -59,7 +60,7 @@ pub record NumberedGame : Type 0 where
   pub number : ℕ
   pub said : Said
 
--- games are numbered as problems are
+-- games with their numbers, if this many were handed out before; the first one too many is refused, and is the last
 abbrev pub games_from : ℕ → List Said → List NumberedGame
 games_from handed [] = []
 games_from handed (said ∷ more) =

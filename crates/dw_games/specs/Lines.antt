@@ -18,17 +18,17 @@ use Rattle.dw_games.specs.declared.fault.LineFaultKind.TheVariants.{Movetext, Ev
 use Rattle.dw_games.specs.declared.fault.LineFault.{LineFault}
 use Rattle.dw_games.specs.declared.fault.LineFault.TheVariants.{Refused, Memory}
 
--- play in which no variation may be open, and its moves
+-- tokens of play in which no variation may be open, and its moves
 abbrev pub IsStraight : Geometry → Placement → List Token → List Move → Type 0
 IsStraight g p ts moves = (paths : List (List Move)) × IsVariation g p zero [] ts moves paths
 
--- such play without a result, or with one and then comments alone
+-- play without variations: without a result, or with one and then comments alone
 pub data IsPlainGame (g : Geometry) (p : Placement) : List Token → (moves : List Move) → Type 0 where
   going_on : {ts : List Token} {moves : List Move} → IsStraight g p ts moves → IsPlainGame g p ts moves
   ended : {ts : List Token} {result : Token} {moves : List Move} (comments : List Token) → IsStraight g p ts moves
       → IsResult result → AreComments comments → IsPlainGame g p (ts ++ result ∷ comments) moves
 
--- The moves of a written line: of such play, and odd in number.
+-- The moves of a written line: play without variations, with an odd number of moves.
 pub record IsWrittenLine (g : Geometry) (p : Placement) (text : List ℕ) (moves : List Move) : Type 0 where
   pub size : length text ≤ MAX_MOVETEXT
   pub tokens : List Token
@@ -36,12 +36,12 @@ pub record IsWrittenLine (g : Geometry) (p : Placement) (text : List ℕ) (moves
   pub game : IsPlainGame g p tokens moves
   pub odd : length moves % 2 ≡ 1
 
--- the number of a fault
+-- the number of a fault of a line
 abbrev pub line_number_of : LineFaultKind → ℕ
 line_number_of (Movetext what) = number_of what
 line_number_of Even = 11
 
--- the name of a fault
+-- the name of a fault of a line
 abbrev pub line_name_of : LineFaultKind → List ℕ
 line_name_of (Movetext what) = name_of what
 line_name_of Even = codes "even"
@@ -51,7 +51,7 @@ abbrev pub line_fault_of : MovetextFault → LineFault
 line_fault_of (text.Refused what place) = Refused (Movetext what) place
 line_fault_of text.Memory = Memory
 
--- after the tokens before, this one is at fault: it begins a variation, or it is at fault in any movetext
+-- after these tokens, the next one has a fault of this kind: it begins a variation, or it is at fault in any movetext
 pub data LineFaultAt (g : Geometry) (p : Placement) : List Token → Token → MovetextFaultKind → Type 0 where
   begins_variation : {ts : List Token} {moves : List Move} {t : Token} → IsStraight g p ts moves → t.what ≡ Opens
       → LineFaultAt g p ts t Variation

@@ -52,7 +52,7 @@ abbrev pub begins_with : (ℕ → Bool) → List ℕ → Bool
 begins_with test [] = false
 begins_with test (byte ∷ bytes) = test byte
 
--- all bytes that pass a test, up to the first one after them that does not
+-- a run of bytes that pass a test, and the bytes after it, the first of which does not
 pub record IsRun (test : ℕ → Bool) (run after : List ℕ) : Type 0 where
   pub all : list_all test run ≡ true
   pub ends : begins_with test after ≡ false

@@ -7,7 +7,7 @@ use Rattle.dw_games.specs.declared.branches.Node.{Node}
 abbrev pub place_of : Option Node → Option ℕ
 place_of node = option_map (λ n. n.0) node
 
--- the beginning before a node, which is that at its place in the tree; the empty one at the root
+-- the beginning that leads to a node, which the tree has at the node's place; the empty one at the root
 abbrev pub beginning_at : List (List Move) → Option ℕ → Option (List Move)
 beginning_at tree None = Some []
 beginning_at tree (Some n) = slice_get tree n
@@ -16,7 +16,7 @@ beginning_at tree (Some n) = slice_get tree n
 abbrev pub GoesOn : List (List Move) → List Move → ℕ → Type 0
 GoesOn tree beginning n = (m : Move) × (slice_get tree n ≡ Some (beginning ++ m ∷ []))
 
--- the first place, from one on, at which a beginning goes on by one move, or that there is none
+-- the first place, not below `from`, at which a beginning goes on by one move; or none, if there is no such place
 abbrev pub IsNext : List (List Move) → List Move → ℕ → Option ℕ → Type 0
 IsNext tree beginning from None = (n : ℕ) → from ≤ n → GoesOn tree beginning n → ⊥
 IsNext tree beginning from (Some n) = (from ≤ n) × GoesOn tree beginning n

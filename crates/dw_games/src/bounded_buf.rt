@@ -1,4 +1,4 @@
-//! What is kept of a text.
+//! A buffer that keeps the first bytes of a text.
 ghost use Rattle.std.specs.Prelude.{◌≡◌, ◌++◌, [], OnOk, List, ℕ};
 ghost use Rattle.std.specs.Str.{IsTrimAsciiEnd};
 ghost use Rattle.dw_games.specs.inner.Keeping.{IsKept};
@@ -14,7 +14,7 @@ pub(crate) struct BoundedBuf {
 }
 
 impl BoundedBuf {
-    /// Makes the buffer of an empty text.
+    /// Makes an empty buffer that keeps at most `limit` bytes.
     pub(crate) fn new(alloc: Global, limit: usize) -> BoundedBuf
         ensures { IsKept limit [] result }
     {
@@ -25,7 +25,7 @@ impl BoundedBuf {
         }
     }
 
-    /// Puts a piece after the text.
+    /// Appends a piece to the text, and keeps as much of it as the limit allows.
     pub(crate) fn extend(&mut self, piece: &[u8]) -> Result<(), AllocError>
         ensures { (limit : ℕ) (text : List ℕ) → IsKept limit text self.old
             → OnOk result (IsKept limit (text ++ piece.now) self.new) }

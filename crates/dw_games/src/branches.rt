@@ -11,8 +11,7 @@ use dw_moves::Move;
 #[derive(Clone, Copy, Debug, PartialEq, Eq)]
 pub struct Node(pub(crate) usize);
 
-/// The last move; the node before it, `None` at the root; the node of its first continuation; the node of the next
-/// alternative to it.
+/// A node in the list: the move to it, its parent (`None` at the root), its first child, and its next sibling.
 #[derive(Drop)]
 pub(crate) struct Branch<B: Board> {
     pub(crate) mv: Move<B>,
@@ -21,7 +20,7 @@ pub(crate) struct Branch<B: Board> {
     pub(crate) next_sibling: Option<Node>,
 }
 
-/// What was found among the children of a node: the one by a move, or that there is none by it, and the last of all.
+/// The result of a search among the children of a node: the child by a move, or the last child, if no child is by it.
 pub(crate) enum ChildOrLast {
     Child(Node),
     Last(Option<Node>),
@@ -48,7 +47,7 @@ pub(crate) fn next_sibling<B: Board>(branches: &[Branch<B>], node: Node) -> Opti
     branches.get(node.0)?.next_sibling
 }
 
-/// Returns the child of a node by a move, or its last child, if it has one, where none is by this move.
+/// Returns the child of a node by a move. If no child is by this move, it returns the last child, if there is one.
 pub(crate) fn child_by<B: Board>(
     branches: &[Branch<B>],
     parent: Option<Node>,
@@ -79,7 +78,7 @@ fn is_by<B: Board>(branches: &[Branch<B>], node: Node, mv: &Move<B>) -> bool
     other == *mv
 }
 
-/// Links the last node to the one before it that has the same parent, or to its parent.
+/// Links a new node: from `last`, the sibling before it, or else from its parent. The first node of all needs no link.
 pub(crate) fn link<B: Board>(
     branches: &mut Vec<Branch<B>>,
     parent: Option<Node>,

@@ -1,17 +1,17 @@
-//! Bytes that stand in rows.
+//! Classes of bytes.
 ghost use Rattle.std.specs.Prelude.{◌≡◌};
 ghost use Rattle.dw_games.specs.inner.Classes.{test_of};
 
 use dw_notation::bytes::{ends_line, is_space};
 
-/// Bytes that stand in a row in a token or between tags.
+/// A class of bytes. Runs of one class make up the tokens of a movetext and the space between tags.
 #[derive(Clone, Copy)]
 pub(crate) enum Class {
     Digit,
     Dot,
     /// `!` and `?`.
     Praise,
-    /// What moves and results are written with.
+    /// The bytes of moves and results: digits, `-`, `x`, `X`, `:` and `/`.
     Written,
     /// All but `}`.
     Inside,

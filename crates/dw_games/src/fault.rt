@@ -1,4 +1,4 @@
-//! Why a text is no movetext, or no written line.
+//! The faults of movetexts and of written lines.
 ghost use Rattle.std.specs.Prelude.{◌≡◌, Some};
 ghost use Rattle.dw_games.specs.declared.fault.MovetextFault.TheVariants.{Memory};
 ghost use Rattle.dw_games.specs.Faults.{name_of, number_of};
@@ -8,16 +8,17 @@ use std::alloc::AllocError;
 use std::fmt;
 use thiserror::Error;
 
-/// What is wrong with a text that is no movetext. Its number is that of the variant, from 1 on.
+/// The kind of fault in a movetext. Its number is the place of the variant in this list, from 1 on.
 #[derive(Clone, Copy, Debug, PartialEq, Eq)]
 pub enum MovetextFaultKind {
-    /// A byte that begins no token, or a token that ends too soon.
+    /// A byte that begins no token, a token that ends too soon, or one that is neither a result nor written like a
+    /// move.
     Token,
     /// The move is not legal there.
     NoSuchMove,
     /// Several legal moves have this text.
     Ambiguous,
-    /// A variation begins with no move before it in its own variation, or one ends and none is open.
+    /// A `(` before the first move of its variation, or a `)` while no variation is open.
     Variation,
     /// The text ends, or its result comes, within a variation.
     Unclosed,
@@ -79,11 +80,11 @@ impl fmt::Display for MovetextFaultKind {
     }
 }
 
-/// Why no tree was read from a text: its first fault, and the place of the token where it is found, the number from 1
-/// on of that token's first byte; or that memory was refused.
+/// The error of a text without a tree: its first fault, or that memory was refused.
 #[derive(Clone, Copy, Debug, PartialEq, Eq, Error)]
 pub enum MovetextFault {
-    /// The first fault of the text.
+    /// The first fault of the text, and its place: the first byte of the token at fault, counted from 1. A fault at the
+    /// end of the text has the place after its last byte, and `TooLarge` has 1,048,577.
     #[error("{what} at {place}")]
     Refused { what: MovetextFaultKind, place: u32 },
     /// Memory was refused.
@@ -99,11 +100,10 @@ impl From<AllocError> for MovetextFault {
     }
 }
 
-/// What is wrong with a text that is no written line. Its number is 11 for `Even`, and else that of the fault of a
-/// movetext.
+/// The kind of fault in a written line. The number of `Even` is 11, and others have that of the fault of a movetext.
 #[derive(Clone, Copy, Debug, PartialEq, Eq)]
 pub enum LineFaultKind {
-    /// A fault that movetexts have too. `Variation` is any variation.
+    /// A fault that movetexts have too. `Variation` stands for any variation, as a line has none.
     Movetext(MovetextFaultKind),
     /// An even number of moves, but not none.
     Even,
@@ -139,11 +139,10 @@ impl fmt::Display for LineFaultKind {
     }
 }
 
-/// Why no line was read from a text: its first fault, and the place of the token where it is found, the number from 1
-/// on of that token's first byte; or that memory was refused.
+/// The error of a text without a line: its first fault, or that memory was refused.
 #[derive(Clone, Copy, Debug, PartialEq, Eq, Error)]
 pub enum LineFault {
-    /// The first fault of the text.
+    /// The first fault of the text, and its place, as in `MovetextFault`.
     #[error("{what} at {place}")]
     Refused { what: LineFaultKind, place: u32 },
     /// Memory was refused.

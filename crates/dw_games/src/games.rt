@@ -53,18 +53,18 @@ impl From<ReadFault> for GameFault {
     }
 }
 
-/// The place of a reader of games.
+/// The state of a reader of games.
 #[derive(Clone, Copy)]
 enum Stage {
-    /// Before a section, or outside.
+    /// Bytes may still follow, and sections in them.
     Reading,
-    /// Behind a comment that the text's end leaves open, which is a problem of its own.
+    /// After a movetext with a comment that the end of the text leaves open. That comment is a problem of its own.
     Open,
     Over,
     Stopped(GameFault),
 }
 
-/// Returns the place of a reader after a movetext with this end.
+/// Returns the state of a reader after a movetext with this end.
 fn stage_behind(end: PlayEnd) -> Stage
     ensures { result ≡ stage_behind end }
 {
@@ -74,7 +74,7 @@ fn stage_behind(end: PlayEnd) -> Stage
     }
 }
 
-/// Returns the part of a movetext that is kept, given its first part and the problem of its section.
+/// Returns the buffer for a movetext: the one begun, or one that keeps nothing if the problem is refused.
 fn movetext_if_valid<B: Board>(
     alloc: Global,
     found: &Result<Position<B>, ProblemFault>,
@@ -88,8 +88,7 @@ fn movetext_if_valid<B: Board>(
     }
 }
 
-/// Returns the tags of a game, given the problem of its section, and the bytes kept of the section and of the spaces
-/// after it.
+/// Returns the tags of a game: the kept bytes without the spaces at their end, or nothing if the problem is refused.
 fn tags_if_valid<B: Board>(
     alloc: Global,
     found: &Result<Position<B>, ProblemFault>,
@@ -103,8 +102,8 @@ fn tags_if_valid<B: Board>(
     }
 }
 
-/// The games of a source. Of its input it holds 2,048 bytes of the last read, and the tags and the movetext that are
-/// read.
+/// Reads the games of a source one by one. It holds the last read of at most 2,048 bytes, and the tags and the movetext
+/// that are being read.
 #[derive(Drop)]
 pub struct Games<'a, B: Board, S> {
     alloc: Global,
@@ -156,7 +155,7 @@ impl<'a, B: Board, S: Source> Games<'a, B, S> {
         }
     }
 
-    /// Hands out the problem that a comment is which the end of the text leaves open.
+    /// Hands out the comment that the end of the text leaves open, as a refused problem without tags and movetext.
     fn hand_out_open(&mut self) -> Game<B>
         requires { handed_out self.old.numbers ≤ MAX_PROBLEMS }
         ensures lender { lender self.new ≡ lender self.old }
@@ -228,8 +227,8 @@ impl<'a, B: Board, S: Source> Games<'a, B, S> {
     ///
     /// # Errors
     ///
-    /// `Failed` is the source's fault. `Memory` means that memory was refused: the game that was being read is lost,
-    /// and each later call returns the same error.
+    /// `Failed` means that the source failed, and `Memory` that memory was refused. Either way the game that was being
+    /// read is lost, and each later call returns the same error.
     #[tactic(auto, unfolding(crate::specs::inner::GameReaders::reading_of))]
     pub fn next(&mut self) -> Result<Option<Game<B>>, GameFault>
         ensures lender { lender self.new ≡ lender self.old }

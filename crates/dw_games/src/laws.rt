@@ -22,7 +22,7 @@ pub fn one_line()
     dw_notation::laws::texts_have_one_answer();
 }
 
-/// What the games of a text say are its problems in the form `Pdn`, under the same numbers.
+/// The games of a text have its problems in the form `Pdn`, under the same numbers.
 pub fn games_say_problems()
     ensures { GamesSayProblems }
 {}

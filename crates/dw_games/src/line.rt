@@ -41,7 +41,7 @@ pub fn read_line<B: Board>(
     odd_line(&reader.into_tree(), text.len())
 }
 
-/// Reads the play of a line, up to and with its result, and says whether it has one.
+/// Reads the moves of a line up to its result or the end of the text, and returns whether there is a result.
 fn reads_line<B: Board>(
     reader: &mut Reader<B>,
     tokens: &mut Tokens<'_>,

@@ -60,7 +60,7 @@ fn tree_of<B: Board>(reader: Reader<B>, bytes: usize) -> Result<Tree<B>, Movetex
     }
 }
 
-/// Returns a fault after a number of bytes.
+/// Returns a fault whose place is after a number of bytes.
 pub(crate) fn behind(what: MovetextFaultKind, bytes: usize) -> MovetextFault
     requires { bytes ≤ MAX_MOVETEXT }
     ensures { result ≡ MovetextFault.Refused what (bytes + 1) }
@@ -71,7 +71,7 @@ pub(crate) fn behind(what: MovetextFaultKind, bytes: usize) -> MovetextFault
     }
 }
 
-/// Reads the play of a text, up to and with its result, and says whether it has one.
+/// Reads the play of a text up to its result or the end of the text, and returns whether there is a result.
 fn reads_result<B: Board>(
     reader: &mut Reader<B>,
     tokens: &mut Tokens<'_>,

@@ -7,7 +7,7 @@ use crate::bounded_buf::BoundedBuf;
 use crate::games::GameFault;
 use dw_notation::{Buffer, SectionFinder, Source};
 
-/// The token after bytes without a section.
+/// Where a stretch of text without a section ends.
 #[derive(Clone, Copy)]
 pub(crate) enum PlayEnd {
     /// The bracket that begins a section.
@@ -18,7 +18,7 @@ pub(crate) enum PlayEnd {
     Open,
 }
 
-/// Passes the bytes up to a section or the end of the text, and keeps them.
+/// Passes the bytes up to a section or the end of the text, and adds them to `kept`.
 pub(crate) fn scan_to_section<S: Source>(
     source: &mut S,
     buffer: &mut Buffer,
@@ -44,7 +44,7 @@ pub(crate) fn scan_to_section<S: Source>(
     }
 }
 
-/// Returns the token after the bytes at the end of the text.
+/// Returns `Open` if the text ends within a comment, else `Text`.
 fn end_of_text(finder: SectionFinder) -> PlayEnd
     ensures { result ≡ end_of_text finder }
 {

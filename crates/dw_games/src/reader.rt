@@ -43,7 +43,7 @@ impl<B: Board> OpenLine<B> {
     }
 }
 
-/// One at the empty board, to fill an array with.
+/// A variation on the empty board, to fill an array with.
 impl<B: Board> Default for OpenLine<B> {
     fn default() -> Self {
         OpenLine::from(Cursor {
@@ -149,7 +149,7 @@ impl<B: Board> Reader<B> {
         Ok(false)
     }
 
-    /// Ends with the result.
+    /// Ends the play with its result, or refuses a result within parentheses.
     fn end(&self, token: Token<'_>) -> Result<bool, MovetextFault>
         requires { IsResult (token_value token) }
         ensures { (p : _) (ts : _) → HasRead B.geometry p ts self.now
@@ -162,7 +162,7 @@ impl<B: Board> Reader<B> {
         }
     }
 
-    /// Plays a move.
+    /// Plays the move that a token names, and notes it in the tree.
     fn play(&mut self, token: Token<'_>) -> Result<bool, MovetextFault>
         requires reading { IsReading B.geometry self.old }
         requires written { token.what ≡ TokenKind.Written }
@@ -184,7 +184,7 @@ impl<B: Board> Reader<B> {
         Ok(false)
     }
 
-    /// Returns the legal move that a token names, where a path may have one more move.
+    /// Returns the legal move that a token names, if the path may have one more move.
     fn move_of(&self, token: Token<'_>) -> Result<Move<B>, MovetextFault>
         requires reading { IsReading B.geometry self.now }
         requires written { token.what ≡ TokenKind.Written }
@@ -201,7 +201,7 @@ impl<B: Board> Reader<B> {
     }
 }
 
-/// Returns the fault of a token that is no legal move, given whether the path has as many moves as it may.
+/// Returns the fault of a token that is no legal move. `is_full` says whether the path has as many moves as it may.
 fn refusal(token: Token<'_>, is_full: bool, why: MoveFault) -> MovetextFault
     ensures { result ≡ refusal_of token.entry.place is_full why }
 {
@@ -214,7 +214,7 @@ fn refusal(token: Token<'_>, is_full: bool, why: MoveFault) -> MovetextFault
     }
 }
 
-/// Returns the legal move that a text names in which a colon may stand for `x`.
+/// Returns the legal move that a text names. A colon may stand for `x`.
 fn move_named<B: Board>(
     alloc: Global,
     position: &Position<B>,

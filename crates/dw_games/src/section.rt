@@ -13,7 +13,7 @@ use dw_notation::bytes::is_space;
 use dw_notation::{Buffer, ProblemFault, SectionReader, Source};
 use std::alloc::AllocError;
 
-/// Keeps the spaces at the end of a text that has one more piece.
+/// Updates the kept spaces at the end of a text by its next piece.
 fn keep_spaces(spaces: &mut BoundedBuf, piece: &[u8]) -> Result<(), AllocError>
     ensures { (limit : ℕ) (text : List ℕ) → IsKept limit text spaces.old
         → OnOk result (IsKept limit (spaces_on text piece.now) spaces.new) }
@@ -39,8 +39,8 @@ fn spaces_at(text: &[u8]) -> usize
     start
 }
 
-/// Reads the bytes of a section and the spaces after it, and returns its problem. It keeps all of them in a row, and
-/// the spaces also alone.
+/// Reads a section and the spaces after it, and returns its problem. It keeps all these bytes in `row`, and the spaces
+/// alone in `spaces`.
 pub(crate) fn read_section<B: Board, S: Source>(
     source: &mut S,
     buffer: &mut Buffer,

@@ -11,7 +11,7 @@ use crate::fault::{MovetextFault, MovetextFaultKind};
 use crate::movetext::MAX_MOVETEXT;
 use dw_notation::bytes::{ends_line, is_space};
 
-/// What a token of a movetext is.
+/// The kinds of tokens of a movetext.
 #[derive(Clone, Copy, Debug, PartialEq, Eq)]
 pub enum TokenKind {
     /// `{` up to the first `}`; `;` to the end of the line, and `%` too if it begins the line.
@@ -150,7 +150,8 @@ fn token_of(first: u8, behind: &[u8], fresh: bool) -> (TokenKind, usize)
     }
 }
 
-/// Returns the comment that begins with a brace before these bytes, or the brace that none closes with all of them.
+/// Returns the kind and further length of a token that begins with `{`: a comment up to its `}`, or all bytes, cut off,
+/// if there is no `}`.
 fn comment(behind: &[u8]) -> (TokenKind, usize)
     ensures within { result.1 ≤ length behind.now }
     ensures token { (fresh : _) → IsToken fresh result.0 (123 ∷ take result.1 behind.now) (drop result.1 behind.now) }
@@ -163,7 +164,8 @@ fn comment(behind: &[u8]) -> (TokenKind, usize)
     }
 }
 
-/// Returns the line that begins with a per cent sign before these bytes, if a line begins there.
+/// Returns the kind and further length of a token that begins with `%`: a comment to the end of the line if a line
+/// begins there, else an unknown byte.
 fn line_comment(behind: &[u8], fresh: bool) -> (TokenKind, usize)
     ensures within { result.1 ≤ length behind.now }
     ensures token { IsToken fresh result.0 (37 ∷ take result.1 behind.now) (drop result.1 behind.now) }
@@ -175,7 +177,8 @@ fn line_comment(behind: &[u8], fresh: bool) -> (TokenKind, usize)
     }
 }
 
-/// Returns the mark that begins with `$` before these bytes.
+/// Returns the kind and further length of a token that begins with `$`: a mark with its digits, or one cut off if none
+/// follow.
 fn numbered_mark(behind: &[u8]) -> (TokenKind, usize)
     ensures within { result.1 ≤ length behind.now }
     ensures token { (fresh : _) → IsToken fresh result.0 (36 ∷ take result.1 behind.now) (drop result.1 behind.now) }
@@ -188,8 +191,8 @@ fn numbered_mark(behind: &[u8]) -> (TokenKind, usize)
     }
 }
 
-/// Returns the token that begins with a digit before these bytes: its digits with the dots after them, if there is a
-/// dot, or all bytes that moves and results are written with.
+/// Returns the kind and further length of a token that begins with a digit: its digits and the dots after them, if
+/// there are dots, or all bytes that moves and results are written with.
 fn number_or_written(first: u8, behind: &[u8]) -> (TokenKind, usize)
     requires { is_digit first ≡ true }
     ensures within { result.1 ≤ length behind.now }

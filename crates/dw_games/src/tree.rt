@@ -87,7 +87,7 @@ impl<B: Board> Tree<B> {
         next_sibling(self.branches.as_slice(), node)
     }
 
-    /// Returns the move before a node.
+    /// Returns the move before a node, or `None` if the tree has no such node.
     pub fn mv(&self, node: Node) -> Option<Move<B>>
         ensures { MatchOption result (slice_get self.now node.0 ≡ None)
             (λ m. (b : _) × (slice_get self.now node.0 ≡ Some (b ++ m ∷ []))) }
@@ -103,7 +103,7 @@ impl<B: Board> Tree<B> {
         self.branches.get(node.0)?.parent
     }
 
-    /// Returns the node of a move after a node. If there is none yet, it is added as the last one.
+    /// Notes a move after a node, which the tree must have, and returns its node. A new move becomes the last child.
     pub(crate) fn note(&mut self, parent: Option<Node>, mv: &Move<B>) -> Result<Node, AllocError>
         requires { IsSome (beginning_at self.old (place_of parent)) }
         ensures noted { OnOk result ((b : _) → beginning_at self.old (place_of parent) ≡ Some b

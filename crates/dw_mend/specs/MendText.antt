@@ -1,4 +1,4 @@
--- What is written of neighbours.
+-- The texts of neighbours.
 use Rattle.std.specs.Prelude.{◌≡◌, ℕ, List, [], ◌∷◌, ◌++◌, ◌==◌, if◌then◌else◌, codes, decimal}
 use Rattle.dw_board.specs.Geometry.{Geometry}
 use Rattle.dw_board.specs.Placement.{Placement}
@@ -13,7 +13,7 @@ use Rattle.dw_mend.specs.declared.rows.Wording.{Wording}
 use Rattle.dw_mend.specs.declared.rows.Wording.TheVariants.{Words, Row}
 use Rattle.dw_mend.specs.Changes.{Change, without, with_piece, set, made}
 
--- a king has a K before it
+-- the mark before the square of a piece: K for a king, none for a man
 abbrev pub kind_mark : Kind → List ℕ
 kind_mark Man = []
 kind_mark King = codes "K"
@@ -36,16 +36,16 @@ IsSoundLine g n x key line = (move : List ℕ) × IsMoveText g x.1 key move
     × (line ≡ change_text x.0 ++ codes ": " ++ written g x.1 ++ codes ", sound in " ++ decimal n ++ codes ": " ++ move
     ++ codes "\n")
 
--- how many are undecided, if any
+-- the part of the last line that says how many neighbours are undecided, if any
 abbrev pub undecided_text : ℕ → List ℕ
 undecided_text undecided = if undecided == 0 then [] else codes ", " ++ decimal undecided ++ codes " undecided"
 
--- the last line: how many neighbours are sound, of how many
+-- the last line: how many neighbours are sound, of how many, and how many are undecided, if any
 abbrev pub count_line : (all sound undecided : ℕ) → List ℕ
 count_line all sound undecided =
     codes "sound " ++ decimal sound ++ codes " of " ++ decimal all ++ undecided_text undecided ++ codes "\n"
 
--- the same as a row of JSON
+-- the line of a neighbour that is sound within n moves, as a row of JSON
 abbrev pub IsSoundRow : Geometry → ℕ → Change × Placement → Move → List ℕ → Type 0
 IsSoundRow g n x key line = (move : List ℕ) × IsMoveText g x.1 key move
     × (line ≡ row ((codes "change", string (change_text x.0)) ∷ (codes "fen", string (written g x.1))

@@ -1,4 +1,4 @@
--- The neighbours of a position that are sound.
+-- The sound neighbours of a position.
 use Rattle.std.specs.Prelude.{◌≡◌, ℕ, ◌+◌, ◌*◌, ◌≤◌, ◌⊎◌, Option, Some, None, List, [], ◌∷◌}
 use Rattle.std.specs.Prelude.{◌++◌, length, take}
 use Rattle.dw_board.specs.Geometry.{Geometry}
@@ -26,15 +26,14 @@ AreMended w g n (x ∷ xs) text counts = (rest : List ℕ) × (others : Counts) 
     × (counts.undecided ≡ others.undecided))
     ⊎ ((text ≡ rest) × (counts.sound ≡ others.sound) × (counts.undecided ≡ others.undecided + 1))))
 
--- With a bound of positions for each neighbour as many were expanded for each that is undecided, and no more for any.
--- Without one none is undecided.
+-- With a bound on the positions for each neighbour, that many were expanded for each undecided one, and no more for
+-- any. Without a bound none is undecided.
 abbrev pub AreBounded : (each : Option ℕ) → (all undecided before after : ℕ) → Type 0
 AreBounded None all undecided before after = undecided ≡ 0
 AreBounded (Some bound) all undecided before after =
     (before + undecided * bound ≤ after) × (after ≤ before + all * bound)
 
--- What is written of a position: the lines of those of its neighbours that are sound, of the part i of m, and how many
--- these are.
+-- The text for a position: the lines of its sound neighbours in the part i of m, and the line that counts them.
 pub record IsMendText (w : Wording) (g : Geometry) (p : Placement) (n i m all sound undecided : ℕ)
     (text : List ℕ) : Type 0 where
   pub neighbours : List (Change × Placement)
@@ -44,7 +43,7 @@ pub record IsMendText (w : Wording) (g : Geometry) (p : Placement) (n i m all so
   pub count : all ≡ length (part_of i m neighbours)
   pub is : text ≡ lines ++ last_line w all sound undecided
 
--- the output after a stop: the lines of the first neighbours, some of them
+-- the output after a stop: the lines of the sound ones among some first neighbours
 pub record IsMendStop (w : Wording) (g : Geometry) (n : ℕ) (neighbours : List (Change × Placement))
     (text : List ℕ) : Type 0 where
   pub some : ℕ

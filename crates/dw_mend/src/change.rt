@@ -16,12 +16,12 @@ pub enum Change<B: Board> {
     },
     /// A piece is put on an empty square.
     With {
-        /// Where it comes to stand.
+        /// The square for the piece.
         square: Square<B>,
         /// The piece.
         piece: Piece,
     },
-    /// A piece is set on an empty square.
+    /// A piece is set from its square on an empty one.
     Set {
         /// Where it stands.
         from: Square<B>,
@@ -37,8 +37,8 @@ pub enum Change<B: Board> {
     },
 }
 
-/// Makes a change in a position. It returns none if the change is impossible there, or if the result is no position: a
-/// man on its last row, or a side with too many pieces.
+/// Makes a change in a position. It returns `None` if the change is impossible there, or if the result is no position:
+/// a man on its last row, or a side with too many pieces.
 pub fn changed<B: Board>(position: &Position<B>, change: Change<B>) -> Option<Position<B>>
     ensures { MatchOption result ((q : Placement) → IsNeighbour B.geometry position.now (told change) q → ⊥)
         (λ q. IsNeighbour B.geometry position.now (told change) q) }
@@ -81,7 +81,7 @@ fn with<B: Board>(position: &Position<B>, square: Square<B>, piece: Piece) -> Op
     }
 }
 
-/// Returns the position with a piece on another square, which is empty.
+/// Returns the position with a piece set on another square, if there is one and that square is empty.
 fn set<B: Board>(position: &Position<B>, from: Square<B>, to: Square<B>) -> Option<Position<B>>
     ensures { MatchOption result ((q : Placement) → IsNeighbour B.geometry position.now (set from to) q → ⊥)
         (λ q. IsNeighbour B.geometry position.now (set from to) q) }
@@ -96,7 +96,7 @@ fn set<B: Board>(position: &Position<B>, from: Square<B>, to: Square<B>) -> Opti
     with(&after, to, piece)
 }
 
-/// Returns the position with a piece of the other kind on a square.
+/// Returns the position with a piece turned into the other kind, if a piece of another kind than `kind` stands there.
 fn made<B: Board>(position: &Position<B>, square: Square<B>, kind: Kind) -> Option<Position<B>>
     ensures { MatchOption result ((q : Placement) → IsNeighbour B.geometry position.now (made square kind) q → ⊥)
         (λ q. IsNeighbour B.geometry position.now (made square kind) q) }

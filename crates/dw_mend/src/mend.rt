@@ -33,9 +33,9 @@ use thiserror::Error;
 /// The neighbours to look at, and the bounds of the search.
 #[derive(Clone, Copy, Debug, PartialEq, Eq)]
 pub struct MendBounds {
-    /// The number of moves within which the win is, 1 to 20.
+    /// The number of moves in which a neighbour must be sound, 1 to 20.
     pub moves: u8,
-    /// The most positions to expand for each neighbour, at least 1; without it, any number.
+    /// The most positions to expand for each neighbour, at least 1. `None` sets no bound.
     pub each: Option<u64>,
     /// The part of the neighbours to look at.
     pub part: Part,
@@ -89,12 +89,12 @@ impl From<WriteFault> for MendFault {
     }
 }
 
-/// Writes the sound neighbours of a position within `moves` moves of the side to move, 1 to 20, and then their number,
-/// of how many. Each has a line with its change and its key, in the order of the changes. Neighbours that would take
-/// more positions than the bounds allow stay undecided, and are counted. The slices begin anew. Their watcher is told
-/// after each neighbour too, and makes way before each line is written. After a stop the lines of the first neighbours
-/// were written, all bounds in the memo are right, and the solver's limit is what it was. The error `Write` comes only
-/// if the sink failed.
+/// Writes a line for each sound neighbour of a position, in the order of the changes, and then a line with their
+/// number. The line of a neighbour has its change and its key. The bounds must be in the ranges of `MendBounds`, and
+/// the sink must not have failed. A neighbour that would take more positions than the bounds allow stays undecided, and
+/// is counted. The slices start again. Their watcher is told after each neighbour too, and makes way before each line
+/// is written. After a stop the lines of the first neighbours were written, all bounds in the memo are right, and the
+/// solver's limit is what it was. The error `Write` comes only if the sink failed.
 pub fn mend<B: Board, M: Memo<B>, G: Guide<B>, W: Watcher, K: Sink>(
     alloc: Global,
     solver: &mut Solver<B, M, G>,
@@ -186,12 +186,12 @@ enum Soundness<B: Board> {
     /// It is sound, by this key.
     Sound(Move<B>),
     Unsound,
-    /// As many positions were expanded as the bound allows for one neighbour.
+    /// All positions that the bound allows for one neighbour were expanded.
     Undecided,
 }
 
 impl<B: Board> Soundness<B> {
-    /// Returns the soundness of a position that is sound by this key, or by none.
+    /// Returns the soundness of a position by its key, which it has only if it is sound.
     fn of(key: Option<Move<B>>) -> Self
         ensures { (p : Placement) (n : ℕ) → MatchOption key ((m : AnyMove) → IsVerdict B.geometry p n (sound m) → ⊥)
             (λ m. IsVerdict B.geometry p n (sound m))
@@ -277,7 +277,7 @@ fn found_by_key<B: Board, M: Memo<B>, G: Guide<B>, W: Watcher>(
     Ok(Soundness::of(sound_key(alloc, solver, position, moves, slices)?))
 }
 
-/// Finds the soundness of a position, and may expand `bound` positions.
+/// Finds the soundness of a position, and expands at most `bound` positions.
 fn found_within<B: Board, M: Memo<B>, G: Guide<B>, W: Watcher>(
     alloc: Global,
     solver: &mut Solver<B, M, G>,

@@ -16,9 +16,9 @@ use dw_study::{Slices, Watcher, verdict_resuming, wins_resuming};
 use dw_verdict::Verdict;
 use std::alloc::Global;
 
-/// Finds the key of a position that is sound within `moves` moves of the side to move, 1 to 20; none, if it is not
-/// sound. After a stop all bounds in the memo are right, and the call can be made again. The slices go on from where
-/// they began, and no answer depends on them.
+/// Finds the key of a position that is sound within `moves` moves of the side to move; it is `None` if the position is
+/// not sound. `moves` must be 1 to 20. The slices continue earlier ones, and no answer depends on them. After a stop
+/// all bounds in the memo are right, and the call can be repeated.
 pub fn sound_key<B: Board, M: Memo<B>, G: Guide<B>, W: Watcher>(
     alloc: Global,
     solver: &mut Solver<B, M, G>,

@@ -15,7 +15,7 @@ use dw_notation::text_in;
 use itoa::Buffer;
 use std::alloc::{AllocError, Global};
 
-/// Makes the line of a sound neighbour, with its key.
+/// Makes the line of a sound neighbour, with its key, which must be a legal move there.
 pub fn sound_line<B: Board>(
     alloc: Global,
     neighbour: &Neighbour<B>,

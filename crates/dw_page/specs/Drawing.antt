@@ -45,7 +45,7 @@ unfoldable pub board_front : (rows : ℕ) → List ℕ
 board_front rows = codes "<svg viewBox=\"0 0 " ++ (decimal rows ++ (codes " " ++ (decimal rows
     ++ codes "\" role=\"img\" aria-label=\"")))
 
--- the empty board after that text
+-- the empty board after its alternative text
 unfoldable pub board_back : (numbers : Bool) → List ℕ
 board_back numbers = codes "\"><use href=\"#board\"/>" ++ (numbering numbers ++ codes "<g>")
 

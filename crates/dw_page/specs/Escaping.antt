@@ -17,7 +17,7 @@ shown b =
 abbrev pub escaped : List ℕ → List ℕ
 escaped text = flat_map shown text
 
--- a control character is a blank
+-- a byte, or a blank for a control character
 abbrev pub printable : ℕ → ℕ
 printable b = if nat_lt b 32 then 32 else if b == 127 then 32 else b
 
@@ -25,7 +25,7 @@ printable b = if nat_lt b 32 then 32 else if b == 127 then 32 else b
 abbrev pub read_as : List ℕ → List ℕ
 read_as bytes = if is_utf8 bytes then bytes else flat_map encode_utf8 bytes
 
--- a text, escaped
+-- a text, escaped, with a blank for each control character
 abbrev pub stands_for : List ℕ → List ℕ
 stands_for text = escaped (map printable text)
 

@@ -29,7 +29,8 @@ meant name =
     else if bytes_eq name (codes "quot") then 34
     else 39
 
--- the text that a browser reads: from & to ; is a name, of which it may have read some bytes; any other byte is itself
+-- the text that a browser reads: from & to ; is a name, of which it may have read some bytes already; any other byte
+-- stands for itself
 abbrev pub read : Option (List ℕ) → List ℕ → List ℕ
 read None [] = []
 read None (b ∷ rest) = if b == 38 then read (Some []) rest else b ∷ read None rest

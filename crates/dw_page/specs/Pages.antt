@@ -49,7 +49,7 @@ abbrev pub author : Option (List ℕ) → List ℕ
 author None = []
 author (Some name) = codes " " ++ shown_bytes name
 
--- where and when a problem was published: values of tags, with commas between them
+-- the values of tags that say where and when a problem was published, with commas between them
 unfoldable pub source : List (List ℕ) → List ℕ
 source values = join_by shown_bytes (codes ", ") values
 
@@ -106,7 +106,7 @@ solution_begin number is_apart =
 unfoldable pub verdict_row : List ℕ → List ℕ
 verdict_row verdict = codes "<p>" ++ (stands_for verdict ++ codes "</p>\n")
 
--- a try is an element
+-- a try, as an element
 abbrev pub try_shown : List ℕ → List ℕ
 try_shown text = codes "<span class=\"try\">" ++ (stands_for text ++ codes "</span>")
 

@@ -10,7 +10,7 @@ use Rattle.dw_moves.specs.Moves.{Move, play}
 use Rattle.dw_notation.specs.MoveReading.{IsRead}
 use Rattle.dw_page.specs.Escaping.{stands_for}
 
--- where a line of play stands: the position that it has come to, and the one before its last move
+-- the place of a line of play: the position that it has reached, and the one before its last move
 pub record Place : Type 0 where
   pub now : Placement
   pub before : Placement
@@ -51,7 +51,7 @@ is_end b = b == 125
 abbrev pub comment_shown : (more comment : List ℕ) → List ℕ
 comment_shown more comment = if bytes_eq comment (codes "more") then stands_for more else []
 
--- a move is an element that has the FEN text of the position after it
+-- a move, as an element that has the FEN text of the position after it
 abbrev pub move_shown : Geometry → Placement → (word : List ℕ) → List ℕ
 move_shown g p word = codes "<span class=\"move\" data-fen=\"" ++ (written g p ++ (codes "\">" ++ (stands_for word
     ++ codes "</span>")))
@@ -60,15 +60,15 @@ move_shown g p word = codes "<span class=\"move\" data-fen=\"" ++ (written g p +
 abbrev pub NamesNoMove : Geometry → Placement → List ℕ → Type 0
 NamesNoMove g p text = (m : Move) → IsRead g p text (Ok m) → ⊥
 
--- the text of a word, and the place after it: a move of the position is played, another word is a text
+-- the text that shows a word, and the place after it: a word that names a move is played, and another word is a text
 pub data IsWordShown (g : Geometry) (here : Place) (word : List ℕ) : Place → List ℕ → Type 0 where
   move : (m : Move) → IsRead g here.now word (Ok m)
       → IsWordShown g here word (after g here m) (move_shown g (play g here.now m) word)
   other : NamesNoMove g here.now word → IsWordShown g here word here (stands_for word)
 
--- What is shown of a movetext, where `more` stands for the comment `more`. The innermost line that is open stands
--- `here`, and the others, from the outermost to the one around it, stand at the places of a list. A variation begins
--- before the last move, and after it the line around it goes on.
+-- The text that shows a movetext, in which `more` stands for the comment `more`. The innermost open line is at `here`,
+-- and the lines around it are at the places of the list, the outermost first. A variation begins before the last move,
+-- and after it the line around it goes on.
 pub data AreShown (g : Geometry) (more : List ℕ) : (here : Place) → List Place → (movetext text : List ℕ) → Type 0 where
   nothing : {here : Place} {outer : List Place} → AreShown g more here outer [] []
   opens : {here : Place} {outer : List Place} {bytes text : List ℕ}
@@ -87,6 +87,6 @@ pub data AreShown (g : Geometry) (more : List ℕ) : (here : Place) → List Pla
       → IsWordShown g here (word_of bytes) next shown → AreShown g more next outer (past_word bytes) text
       → AreShown g more here outer bytes (shown ++ text)
 
--- the text of the movetext of a position
+-- the text that shows a movetext from a position on
 abbrev pub IsMovetextShown : Geometry → (more : List ℕ) → Placement → (movetext text : List ℕ) → Type 0
 IsMovetextShown g more p movetext text = AreShown g more (start p) [] movetext text

@@ -54,7 +54,7 @@ english Solutions = codes "Solutions"
 english More = codes "more lines"
 english Refused = codes "Refused"
 
--- in Dutch
+-- the phrases in Dutch
 unfoldable pub dutch : Phrase → List ℕ
 dutch Sound = codes "Correct"
 dutch Dual = codes "Dual"
@@ -67,7 +67,7 @@ dutch Solutions = codes "Oplossingen"
 dutch More = codes "meer varianten"
 dutch Refused = codes "Geweigerd"
 
--- in French
+-- the phrases in French
 unfoldable pub french : Phrase → List ℕ
 french Sound = codes "Correct"
 french Dual = codes "Dual"
@@ -80,7 +80,7 @@ french Solutions = codes "Solutions"
 french More = codes "autres variantes"
 french Refused = utf8 (codes "Refusé")
 
--- in Russian
+-- the phrases in Russian
 unfoldable pub russian : Phrase → List ℕ
 russian Sound = utf8 (codes "Корректно")
 russian Dual = utf8 (codes "Дуаль")

@@ -47,7 +47,7 @@ fn board_front(alloc: Global, rows: u8) -> Result<String, AllocError>
     .concat(alloc)
 }
 
-/// Returns the empty board after that text.
+/// Returns the text between the alternative text and the first piece: the board, and its numbers if wanted.
 #[tactic(auto, unfolding(crate::specs::Drawing::board_back))]
 fn board_back(alloc: Global, numbers: bool) -> Result<String, AllocError>
     ensures { IfOk result (λ text. string_bytes text ≡ board_back numbers) }
@@ -62,7 +62,7 @@ pub(crate) fn rows_of<B: Board>() -> u8
     B::ROWS
 }
 
-/// Returns the numbers of the squares, if they are wanted.
+/// Returns the element that shows the numbers of the squares, or an empty text if they are not wanted.
 fn numbering(numbers: bool) -> &'static str
     ensures { result.now ≡ numbering numbers }
 {

@@ -17,7 +17,7 @@ pub fn push_bytes(alloc: Global, page: &mut Vec<u8>, bytes: &[u8]) -> Result<(),
     }
 }
 
-/// Appends texts of the page's own, one after another.
+/// Appends the page's own texts one after another, without escapes.
 pub(crate) fn push_all(alloc: Global, page: &mut Vec<u8>, texts: &[&str]) -> Result<(), AllocError>
     ensures { OnOk result (page.new.items ≡ page.old.items ++ flat_map (λ t. t.now) texts.now) }
 {
@@ -26,7 +26,7 @@ pub(crate) fn push_all(alloc: Global, page: &mut Vec<u8>, texts: &[&str]) -> Res
     Ok(())
 }
 
-/// Appends a text in UTF-8, escaped.
+/// Appends a text in UTF-8, escaped. A control character becomes a blank.
 pub fn push_text(page: &mut Vec<u8>, text: &[u8]) -> Result<(), AllocError>
     ensures { OnOk result (page.new.items ≡ page.old.items ++ stands_for text.now) }
 {
@@ -36,7 +36,7 @@ pub fn push_text(page: &mut Vec<u8>, text: &[u8]) -> Result<(), AllocError>
     Ok(())
 }
 
-/// Returns the text of characters of Latin-1.
+/// Returns the text of bytes that are read as Latin-1.
 fn latin(alloc: Global, bytes: &[u8]) -> Result<String, AllocError>
     ensures { IfOk result (λ text. string_bytes text ≡ flat_map encode_utf8 bytes.now) }
 {

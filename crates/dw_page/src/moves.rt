@@ -44,7 +44,7 @@ pub(crate) fn push_moves<B: Board>(
     Ok(())
 }
 
-/// Returns the bytes of a comment after its first brace, and the rest after its last one.
+/// Returns the text of a comment whose `{` is before these bytes, and the rest after its `}`.
 fn comment_at(bytes: &[u8]) -> (&[u8], &[u8])
     ensures comment { result.0.now ≡ before_first is_end bytes.now }
     ensures behind { result.1.now ≡ after_first is_end bytes.now }
@@ -71,7 +71,7 @@ fn word_at(bytes: &[u8]) -> (&[u8], &[u8])
     bytes.split_at(end)
 }
 
-/// Returns the place of the first mark, if there is one.
+/// Returns the place of the first blank or parenthesis, if there is one.
 fn end_of_word(bytes: &[u8]) -> Option<usize>
     ensures { result ≡ position of.is_mark bytes.now }
 {
@@ -92,7 +92,7 @@ fn is_blank(byte: u8) -> bool
     byte == b' ' || byte == b'\n'
 }
 
-/// The place of a variation, and its place before its last move.
+/// The position that a variation has reached, and the one before its last move.
 #[derive(Clone, Copy)]
 struct OpenLine<B: Board> {
     now: Position<B>,
@@ -144,7 +144,7 @@ impl<B: Board> Reader<B> {
         Ok(rest)
     }
 
-    /// Returns a variation begins before the last move.
+    /// Begins a variation before the last move.
     fn open(&mut self, page: &mut Vec<u8>) -> Result<(), AllocError>
         ensures page { OnOk result (page.new.items ≡ page.old.items ++ codes "<span class=\"variation\">(") }
         ensures line { OnOk result (place_of self.new.line ≡ start self.old.line.before) }
@@ -155,7 +155,7 @@ impl<B: Board> Reader<B> {
         page.extend_from_slice(b"<span class=\"variation\">(")
     }
 
-    /// Ends the variation, and goes on with the one around it.
+    /// Ends the variation, and goes on with the one around it, if there is one.
     fn close(&mut self, page: &mut Vec<u8>) -> Result<(), AllocError>
         ensures { OnOk result ((text : List ℕ) × Closes self.old self.new text
             × (page.new.items ≡ page.old.items ++ text)) }
@@ -170,7 +170,7 @@ impl<B: Board> Reader<B> {
         Ok(())
     }
 
-    /// Returns a word: a move, or a number, a result or anything else.
+    /// Appends a word: a move, which is played, or a number, a result or anything else.
     fn push_word(&mut self, page: &mut Vec<u8>, word: &[u8]) -> Result<(), AllocError>
         ensures word { OnOk result ((text : List ℕ) × IsWordShown B.geometry (place_of self.old.line) word.now
             (place_of self.new.line) text × (page.new.items ≡ page.old.items ++ text)) }
@@ -189,7 +189,7 @@ impl<B: Board> Reader<B> {
         }
     }
 
-    /// Returns a move.
+    /// Plays a move, and appends it with the position after it.
     fn push_move(&mut self, page: &mut Vec<u8>, mv: &Move<B>, word: &[u8]) -> Result<(), AllocError>
         requires { Legal B.geometry self.old.line.now mv.now }
         ensures page { OnOk result (page.new.items ≡ page.old.items
@@ -240,7 +240,7 @@ fn push_shown<B: Board>(
     Ok(())
 }
 
-/// Appends the text of a comment.
+/// Appends `more` for the comment `more`, and nothing for another one.
 fn push_comment(page: &mut Vec<u8>, comment: &[u8], more: &str) -> Result<(), AllocError>
     ensures { OnOk result (page.new.items ≡ page.old.items ++ comment_shown more.now comment.now) }
 {

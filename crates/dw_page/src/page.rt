@@ -21,10 +21,10 @@ use dw_board::{Board, Position};
 use itoa::Buffer;
 use std::alloc::{AllocError, Global};
 
-/// What the page may use: its own style and script, and nothing from elsewhere.
+/// The content security policy: the page may use its own style and script, and nothing from elsewhere.
 const POLICY: &str = "default-src 'none'; style-src 'unsafe-inline'; script-src 'unsafe-inline'";
 
-/// How a page is written.
+/// The settings of a page.
 #[derive(Clone, Copy)]
 pub struct Look<'a> {
     pub title: &'a str,
@@ -38,21 +38,21 @@ pub struct Look<'a> {
 pub struct Task<'a, B: Board> {
     pub number: u32,
     pub position: &'a Position<B>,
-    /// 1 to 20.
+    /// The number of moves, 1 to 20.
     pub moves: u8,
 }
 
-/// The texts of a tag's value that a page shows.
+/// The values of a problem's tags that a page shows.
 #[derive(Clone, Copy)]
 pub struct Heading<'a> {
-    /// Who made the problem.
+    /// The author of the problem.
     pub author: Option<&'a [u8]>,
-    /// The place and the date of its publication.
+    /// Up to three values that say where and when it was published.
     pub source: [Option<&'a [u8]>; 3],
 }
 
 impl Heading<'_> {
-    /// Returns no tags.
+    /// Returns a heading without values.
     pub fn none() -> Self
         ensures author { author_of result ≡ None }
         ensures source { values_of result ≡ [] }
@@ -82,7 +82,7 @@ pub fn push_head<B: Board>(
     Ok(())
 }
 
-/// Returns the front of a page, up to its title.
+/// Appends the front of a page, up to its title.
 fn push_front(alloc: Global, page: &mut Vec<u8>, language: Language) -> Result<(), AllocError>
     ensures { OnOk result (page.new.items ≡ page.old.items ++ front language) }
 {
@@ -106,7 +106,7 @@ fn policy() -> &'static str
     POLICY
 }
 
-/// Returns the style, between the title of the window and the one that is read in the page.
+/// Appends the style, between the title of the window and the one that is read in the page.
 fn push_style(alloc: Global, page: &mut Vec<u8>) -> Result<(), AllocError>
     ensures { OnOk result (page.new.items ≡ page.old.items ++ styled) }
 {
@@ -145,7 +145,7 @@ pub fn push_problem<B: Board>(
     Ok(())
 }
 
-/// Returns the task.
+/// Appends the task.
 fn push_task<B: Board>(
     alloc: Global,
     page: &mut Vec<u8>,
@@ -183,7 +183,7 @@ pub fn push_refused(
     Ok(())
 }
 
-/// Returns the reason why a problem is refused.
+/// Appends the reason why a problem is refused.
 fn push_refusal(
     alloc: Global,
     page: &mut Vec<u8>,
@@ -199,14 +199,14 @@ fn push_refusal(
     Ok(())
 }
 
-/// Ends a problem, after its task or its solution.
+/// Appends the end of a problem, after its task or its solution.
 pub fn push_end_of_problem(page: &mut Vec<u8>) -> Result<(), AllocError>
     ensures { OnOk result (page.new.items ≡ page.old.items ++ end_of_problem) }
 {
     page.extend_from_slice(b"</section>\n")
 }
 
-/// Begins a problem with its number and its tags.
+/// Appends the beginning of a problem: its number and its tags.
 fn push_begin(
     alloc: Global,
     page: &mut Vec<u8>,
@@ -224,7 +224,7 @@ fn push_begin(
     Ok(())
 }
 
-/// Returns the number of a problem as a heading, up to its author.
+/// Appends the number of a problem as a heading, up to its author.
 fn push_number(alloc: Global, page: &mut Vec<u8>, number: u32) -> Result<(), AllocError>
     ensures { OnOk result (page.new.items ≡ page.old.items ++ numbered number) }
 {
@@ -241,7 +241,7 @@ fn push_number(alloc: Global, page: &mut Vec<u8>, number: u32) -> Result<(), All
     Ok(())
 }
 
-/// Returns the author of a problem, if a tag names one.
+/// Appends the author of a problem, if a tag names one.
 fn push_author(alloc: Global, page: &mut Vec<u8>, name: Option<&[u8]>) -> Result<(), AllocError>
     ensures { OnOk result (page.new.items ≡ page.old.items ++ author (option_map (λ n. n.now) name.entry)) }
 {
@@ -252,7 +252,7 @@ fn push_author(alloc: Global, page: &mut Vec<u8>, name: Option<&[u8]>) -> Result
     Ok(())
 }
 
-/// Returns where and when a problem was published: the values that there are, with commas between them.
+/// Appends where and when a problem was published: the values that there are, with commas between them.
 fn push_source(
     alloc: Global,
     page: &mut Vec<u8>,
@@ -303,7 +303,7 @@ pub fn push_solution<B: Board>(
     Ok(())
 }
 
-/// Returns the beginning of a solution, with the number of its problem if it is apart from it.
+/// Appends the beginning of a solution, with the number of its problem if it is apart from it.
 fn push_solution_begin(
     alloc: Global,
     page: &mut Vec<u8>,
@@ -325,7 +325,7 @@ fn push_solution_begin(
     Ok(())
 }
 
-/// Returns a verdict.
+/// Appends a verdict.
 fn push_verdict(alloc: Global, page: &mut Vec<u8>, verdict: &str) -> Result<(), AllocError>
     ensures { OnOk result (page.new.items ≡ page.old.items ++ verdict_row verdict.now) }
 {
@@ -335,7 +335,7 @@ fn push_verdict(alloc: Global, page: &mut Vec<u8>, verdict: &str) -> Result<(), 
     Ok(())
 }
 
-/// Returns the row of the tries, if there are any.
+/// Appends the row of the tries, if there are any.
 fn push_tries(
     alloc: Global,
     page: &mut Vec<u8>,
@@ -357,7 +357,7 @@ fn push_tries(
     Ok(())
 }
 
-/// Returns the tries with marks between them.
+/// Appends the tries with semicolons between them.
 fn push_try_texts(alloc: Global, page: &mut Vec<u8>, tries: &[String]) -> Result<(), AllocError>
     ensures { OnOk result (page.new.items ≡ page.old.items
         ++ join_by try_shown (codes "; ") (map string_bytes tries.now)) }
@@ -371,7 +371,7 @@ fn push_try_texts(alloc: Global, page: &mut Vec<u8>, tries: &[String]) -> Result
     Ok(())
 }
 
-/// Returns a try as an element, which stays in one line if there is room.
+/// Appends a try as an element, which stays in one line if there is room.
 fn push_try(alloc: Global, page: &mut Vec<u8>, text: &str) -> Result<(), AllocError>
     ensures { OnOk result (page.new.items ≡ page.old.items ++ try_shown text.now) }
 {
@@ -381,7 +381,7 @@ fn push_try(alloc: Global, page: &mut Vec<u8>, text: &str) -> Result<(), AllocEr
     Ok(())
 }
 
-/// Returns the row of the moves, and the end of a solution.
+/// Appends the row of the moves, and the end of a solution.
 fn push_moves_row<B: Board>(
     alloc: Global,
     page: &mut Vec<u8>,
@@ -405,7 +405,7 @@ fn push_moves_row<B: Board>(
     Ok(())
 }
 
-/// Appends the heading of the solutions that stand at the end of a page.
+/// Appends the end of the problems, and the heading of the solutions that stand at the end of a page.
 pub fn push_solutions_heading(
     alloc: Global,
     page: &mut Vec<u8>,

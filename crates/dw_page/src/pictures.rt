@@ -47,7 +47,7 @@ fn pieces() -> &'static str
     PIECES
 }
 
-/// Returns the empty board: the dark squares, and a frame around them.
+/// Appends the empty board: the dark squares, and a frame around them.
 #[tactic(auto, unfolding(crate::specs::Pictures::board))]
 fn push_board<B: Board>(alloc: Global, page: &mut Vec<u8>) -> Result<(), AllocError>
     ensures { OnOk result (page.new.items ≡ page.old.items ++ board B.geometry) }
@@ -58,7 +58,7 @@ fn push_board<B: Board>(alloc: Global, page: &mut Vec<u8>) -> Result<(), AllocEr
     Ok(())
 }
 
-/// Returns the frame of a board, and the end of its picture.
+/// Appends the frame of a board, and the end of its picture.
 #[tactic(auto, unfolding(crate::specs::Pictures::frame))]
 fn push_frame(alloc: Global, page: &mut Vec<u8>, rows: u8) -> Result<(), AllocError>
     ensures { OnOk result (page.new.items ≡ page.old.items ++ frame rows) }
@@ -75,7 +75,7 @@ fn push_frame(alloc: Global, page: &mut Vec<u8>, rows: u8) -> Result<(), AllocEr
     push_all(alloc, page, &texts)
 }
 
-/// Returns the outlines of all dark squares.
+/// Appends the outlines of all dark squares.
 fn push_outlines<B: Board>(alloc: Global, page: &mut Vec<u8>) -> Result<(), AllocError>
     ensures { OnOk result (page.new.items ≡ page.old.items
         ++ flat_map (outline B.geometry) (range_with_len 1 (squares B.geometry))) }
@@ -86,7 +86,7 @@ fn push_outlines<B: Board>(alloc: Global, page: &mut Vec<u8>) -> Result<(), Allo
     Ok(())
 }
 
-/// Returns the outline of the square of a number.
+/// Appends the outline of the square of a number.
 fn push_outline<B: Board>(alloc: Global, page: &mut Vec<u8>, number: u8) -> Result<(), AllocError>
     requires { OnBoard B.geometry number }
     ensures { OnOk result (page.new.items ≡ page.old.items ++ outline B.geometry number) }
@@ -100,7 +100,7 @@ fn push_outline<B: Board>(alloc: Global, page: &mut Vec<u8>, number: u8) -> Resu
     }
 }
 
-/// Returns a column and a row, between two texts.
+/// Appends a column and a row, between two texts.
 fn push_at(
     alloc: Global,
     page: &mut Vec<u8>,
@@ -124,7 +124,7 @@ fn push_at(
     push_all(alloc, page, &texts)
 }
 
-/// Returns the numbers of the squares, each in the upper left corner of its own.
+/// Appends the numbers of the squares, each in the upper left corner of its own.
 #[tactic(auto, unfolding(crate::specs::Pictures::numbers))]
 fn push_numbers<B: Board>(alloc: Global, page: &mut Vec<u8>) -> Result<(), AllocError>
     ensures { OnOk result (page.new.items ≡ page.old.items ++ numbers B.geometry) }
@@ -135,7 +135,7 @@ fn push_numbers<B: Board>(alloc: Global, page: &mut Vec<u8>) -> Result<(), Alloc
     Ok(())
 }
 
-/// Returns the labels of all squares.
+/// Appends the labels of all squares.
 fn push_labels<B: Board>(alloc: Global, page: &mut Vec<u8>) -> Result<(), AllocError>
     ensures { OnOk result (page.new.items ≡ page.old.items
         ++ flat_map (label B.geometry) (range_with_len 1 (squares B.geometry))) }
@@ -146,7 +146,7 @@ fn push_labels<B: Board>(alloc: Global, page: &mut Vec<u8>) -> Result<(), AllocE
     Ok(())
 }
 
-/// Returns the label of the square of a number.
+/// Appends the label of the square of a number.
 fn push_label<B: Board>(alloc: Global, page: &mut Vec<u8>, number: u8) -> Result<(), AllocError>
     requires { OnBoard B.geometry number }
     ensures { OnOk result (page.new.items ≡ page.old.items ++ label B.geometry number) }
@@ -160,7 +160,7 @@ fn push_label<B: Board>(alloc: Global, page: &mut Vec<u8>, number: u8) -> Result
     }
 }
 
-/// Returns the label with a number in the corner at a column and a row.
+/// Appends the label with a number in the corner at a column and a row.
 fn push_label_at(
     alloc: Global,
     page: &mut Vec<u8>,

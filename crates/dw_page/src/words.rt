@@ -39,7 +39,7 @@ pub enum Phrase {
 }
 
 impl Language {
-    /// Returns its name in a page.
+    /// Returns its language tag, as the `lang` of a page has it.
     pub fn tag(self) -> &'static str
         ensures { result.now ≡ of.tag self }
     {

@@ -18,7 +18,7 @@ kind_word (also b keys) = codes "also"
 kind_word (leaves_open b replies) = codes "open"
 kind_word (ends b) = codes "ends"
 
--- the reply that refutes, if there is one
+-- the member for the reply that refutes, if there is one
 abbrev pub refutation_members : Option (List ℕ) → List Member
 refutation_members None = []
 refutation_members (Some reply) = (codes "refutation", string reply) ∷ []

@@ -1,2 +1,2 @@
--- What only relates the code to the definitions: no contract of a public call names it.
+-- Definitions that only relate the code to the public ones: no public contract names them.
 pub mod Remarking

@@ -1,5 +1,5 @@
-//! What both programs do with the operating system: they fetch their arguments, and end with a line on standard error
-//! and an exit status.
+//! The dealings of both programs with the operating system: they fetch their arguments, and end with a line on standard
+//! error and an exit status.
 //!
 //! Begin with `arguments`, and end with `end_with` or `end_refused`.
 #![tactic(auto)]
@@ -32,7 +32,8 @@ fn words_of(rt: &HostRuntime) -> io::Result<Vec<String>> {
     Ok(env::args(rt)?.collect::<Vec<String>>(rt.alloc())?)
 }
 
-/// Ends a program whose arguments are not obeyed. Writes the help to standard output if that was asked for.
+/// Returns the exit status of a program whose arguments make no request. Writes the help to standard output if that was
+/// asked for, and else the reason to standard error.
 pub fn end_refused(rt: &HostRuntime, program: &str, error: &CliError) -> ExitCode
     ensures { (ending : AnyEnding (Bor (List ℕ))) × (before : Option (List ℕ)) × (after : Option (List ℕ))
         × (is_failed : Bool) × EndsUnread before after is_failed error.now ending
@@ -42,8 +43,7 @@ pub fn end_refused(rt: &HostRuntime, program: &str, error: &CliError) -> ExitCod
     end_with(rt, program, &end_unread(error, &mut sink))
 }
 
-/// Says on standard error how a program ended, and returns its exit status. If that cannot be written, there is nobody
-/// left to tell.
+/// Writes to standard error how a program ended, and returns its exit status. An error of that write is ignored.
 pub fn end_with(rt: &HostRuntime, program: &str, ending: &Ending<&str>) -> ExitCode
     ensures { exit_status result ≡ (outcome_of ending.now).status }
 {

@@ -9,6 +9,6 @@ pub record LinesFrom : Type 0 where
   pub lines : List (List Move)
   pub more : Bool
 
--- this number of them is not all lines
+-- whether there are more lines than the first ones of this number
 abbrev pub is_cut : LinesFrom → (many : ℕ) → Bool
 is_cut first many = nat_lt many (length first.lines) || first.more

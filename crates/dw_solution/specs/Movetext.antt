@@ -50,12 +50,12 @@ abbrev pub win_of : Side → List ℕ
 win_of White = codes "2-0"
 win_of Black = codes "0-2"
 
--- the result: that the side to move wins, if it has lines
+-- the result: a win of the side to move if it has lines, else a star
 abbrev pub result_of : Side → List (List Move) → List ℕ
 result_of side [] = codes "*"
 result_of side (l ∷ lines) = win_of side
 
--- the words after the play: that there is more, and the result
+-- the words after the play: `{more}` if there are more lines, and the result
 abbrev pub last_words : (more : Bool) → (result : List ℕ) → List (List ℕ)
 last_words true result = codes "{more}" ∷ result ∷ []
 last_words false result = result ∷ []
@@ -73,8 +73,8 @@ IsTextOfFirst g heading first many text =
     IsTextOf g first.start (verdict_comment heading)
     (last_words (is_cut first many) (result_of first.start.turn first.lines)) (take many first.lines) text
 
--- The movetext of first lines, and how many of them it has: all, or as many as do not pass 1,000,000 bytes, where with
--- one line more it would.
+-- The movetext of first lines, and how many of them it has: all, or as many as fit in 1,000,000 bytes. With one line
+-- more the text would be longer.
 pub record IsMovetext (g : Geometry) (heading : Heading) (first : LinesFrom) (many : ℕ) (text : List ℕ) : Type 0 where
   pub within : many ≤ length first.lines
   pub is : IsTextOfFirst g heading first many text

@@ -22,7 +22,7 @@ abbrev pub IsNotFirst : Move → Tree → Type 0
 IsNotFirst m over = Unit {0}
 IsNotFirst m (branch n behind others) = m ≡ n → ⊥
 
--- of the moves in one place no two that stand next to one another are the same
+-- no two neighbours among the moves in one place are the same
 abbrev pub AreApart : Tree → Type 0
 AreApart over = Unit {0}
 AreApart (branch m behind others) = IsNotFirst m others × AreApart behind × AreApart others

@@ -30,7 +30,7 @@ abbrev pub in_parentheses : List (List ℕ) → List (List ℕ)
 in_parentheses [] = []
 in_parentheses (w ∷ words) = closed ((codes "(" ++ w) ∷ words)
 
--- there is a move
+-- whether a tree has a move
 abbrev pub has_move : Tree → Bool
 has_move over = false
 has_move (branch m behind others) = true

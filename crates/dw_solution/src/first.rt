@@ -17,8 +17,9 @@ use dw_memo::Memo;
 use dw_solve::{Guide, Solver, Stop};
 use std::alloc::Global;
 
-/// Lists the first lines in which the side to move wins within `moves` of its moves, 1 to 20: at most `most` lines. It
-/// lists them one by one, and holds their tree alone. After a stop the call can be made again.
+/// Lists the first `most` lines in which the side to move wins, and says whether there are more. `moves`, the number of
+/// its moves, must be 1 to 20. It lists the lines one by one, and holds only their tree. After a stop the call can be
+/// repeated.
 pub fn first_lines<B: Board, M: Memo<B>, G: Guide<B>>(
     alloc: Global,
     solver: &mut Solver<B, M, G>,
@@ -51,7 +52,7 @@ pub fn first_lines<B: Board, M: Memo<B>, G: Guide<B>>(
     })
 }
 
-/// Takes the first lines of a lister at its beginning, and says whether there are more.
+/// Takes the first `most` lines of a lister, which must be at its beginning, and says whether there are more.
 fn taken<B: Board, M: Memo<B>, G: Guide<B>>(
     alloc: Global,
     lister: &mut Lister<'_, B, M, G>,
@@ -104,7 +105,7 @@ fn take_next<B: Board, M: Memo<B>, G: Guide<B>>(
     }
 }
 
-/// Says whether a lister has another line, and passes it.
+/// Passes the next line of a lister, and returns whether there was one.
 fn has_next<B: Board, M: Memo<B>, G: Guide<B>>(
     alloc: Global,
     lister: &mut Lister<'_, B, M, G>,

@@ -5,7 +5,7 @@ ghost use Rattle.dw_solution.specs.Movetext.{verdict_word};
 /// A verdict without its moves.
 #[derive(Clone, Copy, Debug, PartialEq, Eq)]
 pub enum VerdictKind {
-    /// There is no win.
+    /// There is no win within the moves.
     Unsolvable,
     /// Several first moves win, or there is a win in fewer moves.
     Cooked,
@@ -23,7 +23,7 @@ pub struct Heading {
 }
 
 impl VerdictKind {
-    /// Returns its word.
+    /// Returns its word in movetexts.
     pub fn word(self) -> &'static str
         ensures { result.now ≡ verdict_word self }
     {

@@ -58,7 +58,8 @@ impl<B: Board> LineTree<B> {
         self.ends.as_slice().len()
     }
 
-    /// Appends a line of at most 39 moves, or changes nothing if memory is refused.
+    /// Appends a line, or changes nothing if memory is refused. The line must have 1 to 39 moves; neither it nor the
+    /// last line may begin with the other.
     pub(crate) fn push(&mut self, line: &[Move<B>]) -> Result<(), AllocError>
         requires few { length line.now ≤ 39 }
         requires follows { MayFollow self.old line.now }
@@ -90,7 +91,7 @@ impl<B: Board> LineTree<B> {
     }
 }
 
-/// Returns how many moves two lines share at their beginnings.
+/// Returns how many moves two lines share at their beginning.
 fn shared<B: Board>(last: &[Move<B>], line: &[Move<B>]) -> usize
     ensures last { result ≤ length last.now }
     ensures line { result ≤ length line.now }

@@ -47,7 +47,7 @@ impl<B: Board> FirstLines<B> {
         self.position
     }
 
-    /// Returns whether there are other lines than the first `lines`.
+    /// Returns whether there are more lines than the first `lines`, in the tree or beyond it.
     pub fn is_cut(&self, lines: usize) -> bool
         ensures { result ≡ is_cut self.now lines }
     {

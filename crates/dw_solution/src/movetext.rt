@@ -13,7 +13,7 @@ use dw_board::{Board, Side};
 use itoa::Buffer;
 use std::alloc::{AllocError, Global};
 
-/// The most bytes of a movetext.
+/// The most bytes of a movetext that is written.
 pub const MAX_WRITTEN: usize = 1_000_000;
 
 /// The most bytes of a line, if no word is longer.
@@ -27,7 +27,7 @@ pub struct SolutionText {
 }
 
 /// Writes first lines as a movetext: the verdict as a comment, the tree of the lines, `{more}` if lines are left out,
-/// and the result. If that would pass 1,000,000 bytes, the movetext has as many first lines as do not.
+/// and the result. If that would pass 1,000,000 bytes, it writes as many first lines as fit.
 pub fn movetext<B: Board>(
     alloc: Global,
     first: &FirstLines<B>,
@@ -48,7 +48,7 @@ pub fn movetext<B: Board>(
     draft.cut_text()
 }
 
-/// First lines whose movetext is written.
+/// First lines whose movetext is being written.
 #[derive(Clone, Copy)]
 struct Draft<'a, B: Board> {
     alloc: Global,
@@ -57,7 +57,7 @@ struct Draft<'a, B: Board> {
 }
 
 impl<B: Board> Draft<'_, B> {
-    /// Writes as many first lines as do not pass 1,000,000 bytes, where all of them do.
+    /// Writes as many first lines as fit in 1,000,000 bytes. The text of all lines must be longer.
     fn cut_text(&self) -> Result<SolutionText, AllocError>
         requires { IsPassed B.geometry self.now (length self.now.first.now.lines) }
         ensures { IfOk result (λ written. IsMovetext B.geometry self.now.heading self.now.first.now written.lines
@@ -131,7 +131,7 @@ impl<B: Board> Draft<'_, B> {
         writer.write_word(self.result())
     }
 
-    /// Returns the result: a win, if there is a line.
+    /// Returns the result: a win of the side to move if there is a line, else `*`.
     fn result(&self) -> &'static str
         ensures { result.now ≡ result_of self.now.first.now.start.turn self.now.first.now.lines }
     {
@@ -145,7 +145,7 @@ impl<B: Board> Draft<'_, B> {
     }
 }
 
-/// Returns the half turn of the first move.
+/// Returns the half turn of the first move: 0 for White, 1 for Black.
 fn first_half(side: Side) -> usize
     ensures { result ≡ first_half side }
 {
@@ -155,7 +155,7 @@ fn first_half(side: Side) -> usize
     }
 }
 
-/// Cuts a text into lines. Each of its words ends with a line feed.
+/// Fills the words of a writer into lines. Each word must end with a line feed.
 fn lined(writer: Writer) -> Vec<u8>
     ensures { (w : List ℕ) (words : List (List ℕ)) → IsUnbroken w → AreUnbroken words
         → writer.text.items ≡ fed (w ∷ words) → result.items ≡ in_lines (w ∷ words) }

@@ -24,8 +24,8 @@ pub struct PlacedMove<B: Board> {
     pub mv: Move<B>,
 }
 
-/// Lists the moves of the tree of the first `lines` lines, or of all if there are fewer: each before all that go on
-/// after it, and these before the others in its place.
+/// Lists the moves of the tree of the first `lines` lines, or of all if there are fewer. Each move comes before its
+/// continuations, and these before the alternatives to it.
 pub fn placed_moves<B: Board>(
     alloc: Global,
     first: &FirstLines<B>,

@@ -20,7 +20,7 @@ pub(crate) struct First<'a, B: Board> {
     pub(crate) rest: &'a [TreeStep<B>],
 }
 
-/// Returns the first of the moves at a depth that stand before any move less deep.
+/// Returns the first step at a depth, if no step of less depth comes before it.
 pub(crate) fn first_at<B: Board>(steps: &[TreeStep<B>], depth: usize) -> Option<First<'_, B>>
     ensures { IsFirstAt steps.entry.now depth (option_map (λ f. (f.mv, f.rest.now)) result) }
 {
@@ -37,7 +37,7 @@ pub(crate) fn first_at<B: Board>(steps: &[TreeStep<B>], depth: usize) -> Option<
     }
 }
 
-/// Appends moves that follow one another, the first one at this depth; or changes nothing if memory is refused.
+/// Appends moves that follow one another, the first one at this depth, or changes nothing if memory is refused.
 pub(crate) fn add_steps<B: Board>(
     steps: &mut Vec<TreeStep<B>>,
     depth: usize,

@@ -41,7 +41,7 @@ fn behind<B: Board>(state: &WriteState<B>, mv: &Move<B>) -> WriteState<B>
     }
 }
 
-/// A text that is written.
+/// A text that is being written.
 #[derive(Drop)]
 pub(crate) struct Writer {
     pub(crate) alloc: Global,

@@ -1,4 +1,4 @@
--- What is found of a position.
+-- The least number of moves of a position, and the verdict at it.
 use Rattle.std.specs.Prelude.{◌≡◌, ℕ, ◌<◌, ◌⊎◌, List, Some, None}
 use Rattle.dw_board.specs.Geometry.{Geometry}
 use Rattle.dw_board.specs.Placement.{Placement}
@@ -16,7 +16,8 @@ pub data Finding : Type 0 where
   judged : (moves : ℕ) (verdict : Verdict) (tries : List (Move × Move)) → Finding
   undecided : (no_win_in : ℕ) → Finding
 
--- the number of moves, the verdict and the tries at it; or that there is no win within fewer moves than `most`
+-- a finding is right: the number of moves, the verdict and the tries at it; or, if the number stays open, that there is
+-- no win within some number of moves less than `most`
 abbrev pub IsFinding : Geometry → Placement → ℕ → Finding → Type 0
 IsFinding g p most (judged k verdict tries) = IsJudgedAt g p most k × IsVerdict g p k verdict × Tries g p k tries
 IsFinding g p most (undecided k) = (k < most) × (Win g p k → ⊥)

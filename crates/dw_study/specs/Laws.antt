@@ -11,7 +11,7 @@ use Rattle.dw_study.specs.Finding.{judged, undecided, IsFinding}
 use Rattle.dw_study.specs.RemarkText.{CanBeTold}
 use Rattle.dw_study.specs.Remarks.{Remark, fails, also, leaves_open, ends, AreRemarks}
 
--- each position is judged in one way, and only in one; if it is undecided, then at a lower number of moves
+-- each position has exactly one judged finding, and an undecided one has a lower number of moves
 pub record OneFinding : Type 0 where
   pub some : (g : Geometry) → IsBoard g → (p : Placement) (most : ℕ) →
       (k : ℕ) × (v : Verdict) × (tries : List (Move × Move)) × IsFinding g p most (judged k v tries)
@@ -40,12 +40,12 @@ IsFault (also b keys) = ⊥
 IsFault (leaves_open b replies) = ⊥
 IsFault (ends b) = Unit {0}
 
--- a path of a tree that goes on nowhere
+-- a complete path of a tree: the tree has no path with one move more
 abbrev pub IsWholePath : List (List Move) → List Move → Type 0
 IsWholePath tree path = Member path tree × ((m : Move) → Member (path ++ m ∷ []) tree → ⊥)
 
--- no remark on the tree of a movetext is about a fault exactly if each of its complete paths is a line; and there is no
--- remark at all exactly if these are all the lines
+-- The remarks on the tree of a movetext are free of faults exactly if each of its complete paths is a line. There is no
+-- remark at all exactly if these are all the lines.
 pub record SolutionsHold : Type 0 where
   pub lines : (g : Geometry) → IsBoard g → (p : Placement) (text : List ℕ) (tree : List (List Move))
       → IsTree g p text tree → (n : ℕ) (remarks : List Remark) → AreRemarks g tree n p [] remarks

@@ -1,4 +1,4 @@
--- What is written of a remark on an author's solution.
+-- The text of a remark on an author's solution.
 use Rattle.std.specs.Prelude.{◌≡◌, ◌≤◌, ℕ, List, [], ◌∷◌, ◌++◌, length, codes, decimal}
 use Rattle.dw_board.specs.Geometry.{Geometry}
 use Rattle.dw_board.specs.Placement.{Placement}
@@ -14,7 +14,7 @@ abbrev pub behind_blank : List ℕ → List ℕ
 behind_blank [] = []
 behind_blank (byte ∷ line) = codes " " ++ byte ∷ line
 
--- its moves are legal where they are played, after at most 39 others
+-- a remark can be written: its moves are legal where they are played, after at most 39 others
 abbrev pub CanBeTold : Geometry → Placement → Remark → Type 0
 CanBeTold g p (fails b m r) = (length b ≤ 39) × ArePlayable g p b × Legal g (reach g p b) m
     × Legal g (play g (reach g p b) m) r

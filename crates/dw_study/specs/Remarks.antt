@@ -23,7 +23,7 @@ abbrev pub StandsBefore : List (List Move) → List Move → Move → Move → T
 StandsBefore tree b m o = (i : ℕ) × (j : ℕ) × (i < j) × (slice_get tree i ≡ Some (b ++ m ∷ []))
     × (slice_get tree j ≡ Some (b ++ o ∷ []))
 
--- the first reply after which the attacker has no win within n moves: it comes before all others
+-- the first reply after which the attacker has no win within n moves: it comes before all other such replies
 pub record IsFirstRefutation (g : Geometry) (q : Placement) (n : ℕ) (reply : Move) : Type 0 where
   pub refutes : Refutes g q n reply
   pub first : (other : Move) → Refutes g q n other → (other ≡ reply) ⊎ Precedes g q reply other

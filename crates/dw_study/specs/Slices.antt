@@ -26,7 +26,8 @@ pub data Watches {W : Type 0} (told : W → ℕ → ℕ → W → Type 0) (n fir
   of_one_more : {e f : ℕ} {w v u : W} → Watches told n first start e w f v
       → told v n (next_end first start f - start) u → Watches told n first start e w (next_end first start f) u
 
--- The state while a search goes on; nobody learns of the expansions of the last slice.
+-- The watcher before and after a search that raised the count of expansions from `before` to `after`. It learns nothing
+-- of the expansions of the last slice.
 pub record IsWatched {W : Type 0} (told : W → ℕ → ℕ → W → Type 0) (n first start before after : ℕ) (old new : W)
     : Type 0 where
   pub last : ℕ

@@ -40,8 +40,8 @@ cut_short (Ok (Judged k it)) n = 0
 cut_short (Ok (Undecided k)) n = n
 cut_short (Err stop) n = n
 
--- a position stays undecided only if there is a bound and as many positions were expanded, and at no lower number of
--- moves than up to which the memo said all that there is to know
+-- A position stays undecided only if there is a bound and exactly that many positions were expanded. If the memo knew
+-- before, for each number of moves up to j, whether there is a win, then the answer is at least j.
 pub record StaysOpen {M B : Type 0} (content : M → Content) (p : Placement) (each : Option ℕ) (old new : Solving M)
     (answer : Result (findings.Finding B) Stop) : Type 0 where
   pub undecided : (k : ℕ) → answer ≡ Ok (Undecided k)
@@ -73,11 +73,11 @@ remark_in tree (Also at keys) = option_map (λ b. also b keys.items) (beginning_
 remark_in tree (Open at replies) = option_map (λ b. leaves_open b replies.items) (beginning_at tree (place_of at))
 remark_in tree (Ends at) = option_map (λ b. ends b) (beginning_at tree (place_of at))
 
--- these remarks on a tree are right
+-- remarks on a tree have values for which a statement holds
 abbrev pub Say : {B : Type 0} → List (List Move) → List (remarks.Remark B) → (List Remark → Type 0) → Type 0
 Say tree items Holds = (said : List Remark) × (map (remark_in tree) items ≡ map (λ r. Some r) said) × Holds said
 
--- the texts that the words of a remark have
+-- the value of the words of a remark
 abbrev pub texts_in : RemarkWords → Words
 texts_in words = record {
   line = string_bytes words.line;

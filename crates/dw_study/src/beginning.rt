@@ -25,7 +25,7 @@ pub(crate) struct Beginning<B: Board> {
     pub(crate) text: String,
 }
 
-/// Returns the beginning before a node, if it can be played from a position.
+/// Returns the beginning that leads to a node, if it has at most 39 moves and can be played from the position.
 pub(crate) fn beginning_of<B: Board>(
     alloc: Global,
     position: &Position<B>,
@@ -64,7 +64,7 @@ fn with_blank(alloc: Global, text: &str) -> Result<String, AllocError>
     [" ", text].concat(alloc)
 }
 
-/// Returns the moves of the beginning before a node, if there are at most 39.
+/// Returns the moves of the beginning that leads to a node, if there are at most 39.
 pub(crate) fn moves_to<B: Board>(
     tree: &Tree<B>,
     node: Option<Node>,

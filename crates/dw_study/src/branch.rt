@@ -32,7 +32,7 @@ pub(crate) struct Child<B: Board> {
     pub(crate) mv: Move<B>,
 }
 
-/// The result for a beginning: its remarks, and the children that are examined further.
+/// The remarks on a beginning, and the children that are examined further.
 #[derive(Drop)]
 pub(crate) struct Seen<B: Board> {
     pub(crate) remarks: Vec<Remark<B>>,

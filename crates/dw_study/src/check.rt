@@ -21,10 +21,10 @@ use dw_memo::Memo;
 use dw_solve::{Guide, Solver, Stop};
 use std::alloc::Global;
 
-/// Compares an author's solution with all wins within `moves` moves of the side to move, 1 to 20, and returns whether
-/// there is a win. Moves after a move that fails are not examined, and illegal moves of the tree are skipped. After a
-/// stop all bounds in the memo are right, and the call can be repeated. The slices start again; no answer depends on
-/// them.
+/// Compares an author's solution with all wins, and returns its remarks and whether there is a win. The number of moves
+/// must be 1 to 20. A move that fails gets a remark, and the moves after it are not examined. Illegal moves of the tree
+/// are skipped. The slices start again; no answer depends on them. After a stop all bounds in the memo are right, and
+/// the call can be repeated.
 pub fn check<B: Board, M: Memo<B>, G: Guide<B>, W: Watcher>(
     alloc: Global,
     solver: &mut Solver<B, M, G>,
@@ -50,7 +50,7 @@ pub fn check<B: Board, M: Memo<B>, G: Guide<B>, W: Watcher>(
     checked
 }
 
-/// Answers `check` in slices that go on from earlier ones.
+/// Does the work of `check`, in slices that continue earlier ones.
 fn check_resuming<B: Board, M: Memo<B>, G: Guide<B>, W: Watcher>(
     alloc: Global,
     solver: &mut Solver<B, M, G>,

@@ -15,11 +15,12 @@ use dw_memo::Memo;
 use dw_solve::{Guide, Solver, Stop};
 use std::alloc::Global;
 
-/// Returns the least number of moves within which the side to move wins, with the verdict and the tries for it. If
-/// there is no win within the greatest number in the bounds, it answers for that number. The answer is undecided if the
-/// number is not known after as many expansions as the bounds allow, also if the solver's limit is met with the last of
-/// them. The verdict and the tries have no limit but the solver's own, which stays the same. After a stop all bounds in
-/// the memo are right, and the call can be repeated. The slices start again; no answer depends on them.
+/// Finds the least number of moves within which the side to move wins, and judges the position at it. If there is no
+/// win within `bounds.most` moves, it judges at that number. Both bounds must be in the ranges that `FindBounds` gives.
+/// The answer is `Undecided` if the number is not known after `bounds.each` expansions, also if the solver's limit is
+/// met with the last of them. The verdict and the tries have no limit but the solver's own, which stays the same. The
+/// slices start again; no answer depends on them. After a stop all bounds in the memo are right, and the call can be
+/// repeated.
 pub fn find<B: Board, M: Memo<B>, G: Guide<B>, W: Watcher>(
     alloc: Global,
     solver: &mut Solver<B, M, G>,

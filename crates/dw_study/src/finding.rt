@@ -1,17 +1,17 @@
-//! What is found of a position.
+//! The least number of moves of a position, and the bounds for its search.
 use dw_board::Board;
 use dw_verdict::Judged;
 
-/// How far is looked for a win.
+/// The bounds of a search for the least number of moves.
 #[derive(Clone, Copy, Debug, PartialEq, Eq)]
 pub struct FindBounds {
-    /// The most moves, 1 to 20.
+    /// The greatest number of moves within which a win is searched for, 1 to 20.
     pub most: u8,
-    /// How many positions may be expanded until the number of moves is known, at least 1; any number, if there is none.
+    /// The most positions to expand until the number of moves is known, at least 1. `None` sets no bound.
     pub each: Option<u64>,
 }
 
-/// What is found of a position.
+/// The answer of `find`.
 #[derive(Drop)]
 pub enum Finding<B: Board> {
     /// The number of moves is known, and the position is judged at it.
@@ -21,9 +21,9 @@ pub enum Finding<B: Board> {
         /// The verdict and the tries at this number.
         judged: Judged<B>,
     },
-    /// So many positions were expanded as was allowed, before the number was known.
+    /// The allowed positions were expanded before the number was known.
     Undecided {
-        /// The greatest number of moves known to have no win; at least 0.
+        /// The greatest number of moves that the search found to have no win; 0 if it found none.
         no_win_in: u8,
     },
 }

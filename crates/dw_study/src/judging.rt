@@ -51,8 +51,9 @@ impl<B: Board> Question<B, Judged<B>> for AllAsked {
     }
 }
 
-/// Answers `judge` with searches in slices, which start again. After a stop all bounds in the memo are right, and the
-/// call can be repeated.
+/// Returns the verdict and the tries, as `judge` does, with searches in slices. The number of moves must be 1 to 20.
+/// The slices start again; no answer depends on them. After a stop all bounds in the memo are right, and the call can
+/// be repeated.
 pub fn judge_in_slices<B: Board, M: Memo<B>, G: Guide<B>, W: Watcher>(
     alloc: Global,
     solver: &mut Solver<B, M, G>,
@@ -76,7 +77,7 @@ pub fn judge_in_slices<B: Board, M: Memo<B>, G: Guide<B>, W: Watcher>(
     judge_resuming(alloc, solver, position, moves, slices)
 }
 
-/// Answers `judge_in_slices` in slices that go on from earlier ones, as [`wins_resuming`](crate::sliced::wins_resuming)
+/// Does the same as `judge_in_slices`, but continues earlier slices, as [`wins_resuming`](crate::sliced::wins_resuming)
 /// does.
 pub fn judge_resuming<B: Board, M: Memo<B>, G: Guide<B>, W: Watcher>(
     alloc: Global,
@@ -99,7 +100,7 @@ pub fn judge_resuming<B: Board, M: Memo<B>, G: Guide<B>, W: Watcher>(
     ask_resuming(alloc, solver, position, moves, slices, &AllAsked)
 }
 
-/// Returns the verdict that `judge_in_slices` answers, without the tries.
+/// Returns the verdict as `judge_in_slices` does, without the tries. The number of moves must be 1 to 20.
 pub fn verdict_in_slices<B: Board, M: Memo<B>, G: Guide<B>, W: Watcher>(
     alloc: Global,
     solver: &mut Solver<B, M, G>,
@@ -122,7 +123,7 @@ pub fn verdict_in_slices<B: Board, M: Memo<B>, G: Guide<B>, W: Watcher>(
     verdict_resuming(alloc, solver, position, moves, slices)
 }
 
-/// Returns the verdict that `judge_resuming` answers, without the tries.
+/// Returns the verdict as `judge_resuming` does, without the tries. The number of moves must be 1 to 20.
 pub fn verdict_resuming<B: Board, M: Memo<B>, G: Guide<B>, W: Watcher>(
     alloc: Global,
     solver: &mut Solver<B, M, G>,

@@ -1,7 +1,7 @@
 //! Laws of findings and of remarks, each the contract of a function that does nothing.
 ghost use Rattle.dw_study.specs.Laws.{OneFinding, OneListOfRemarks, RemarksCanBeTold, SolutionsHold};
 
-/// Each position is judged in one way, and only in one. If it is undecided, then at a lower number of moves.
+/// Each position has exactly one judged finding, and an undecided one has a lower number of moves.
 pub fn one_finding()
     ensures { OneFinding }
 {

@@ -5,7 +5,7 @@ use dw_board::Board;
 use dw_memo::Memo;
 use dw_solve::{Guide, Solver};
 
-/// Lowers the limit of a solver, if it is greater than this one, and returns the former limit.
+/// Lowers the limit of a solver to `until`, if that is less, and returns the former limit.
 pub(crate) fn lower<B: Board, M: Memo<B>, G: Guide<B>>(
     solver: &mut Solver<B, M, G>,
     until: u64,
@@ -22,7 +22,7 @@ pub(crate) fn lower<B: Board, M: Memo<B>, G: Guide<B>>(
     limit
 }
 
-/// Raises the limit of a solver to this one again.
+/// Raises the limit of a solver to this one again, which must not be less.
 pub(crate) fn raise<B: Board, M: Memo<B>, G: Guide<B>>(solver: &mut Solver<B, M, G>, limit: u64)
     requires { solver.old.limit ≤ limit }
     ensures { solver.new ≡ record solver.old { limit = limit } }

@@ -15,7 +15,7 @@ use dw_memo::Memo;
 use dw_solve::{Guide, Solver, Stop};
 use std::alloc::Global;
 
-/// What was found out before a stop.
+/// The result of a search that was stopped.
 #[derive(Clone, Copy)]
 pub(crate) struct Cut {
     /// The greatest number of moves known to have no win.
@@ -24,7 +24,7 @@ pub(crate) struct Cut {
     pub(crate) stop: Stop,
 }
 
-/// Returns the number of moves at which a position is judged, as far as the expansions of `bounds` suffice to find it.
+/// Returns the number of moves at which a position is judged, if the expansions that `bounds` allow suffice to find it.
 pub(crate) fn number_within<B: Board, M: Memo<B>, G: Guide<B>, W: Watcher>(
     alloc: Global,
     solver: &mut Solver<B, M, G>,
@@ -53,7 +53,7 @@ pub(crate) fn number_within<B: Board, M: Memo<B>, G: Guide<B>, W: Watcher>(
     number
 }
 
-/// Returns the count after as many expansions more as are allowed: the greatest there is, if any number is.
+/// Returns the count of expansions at which no more are allowed, or the greatest `u64` if any number is.
 fn count_after(expanded: u64, each: Option<u64>) -> u64
     requires { IfSome each (λ bound. 1 ≤ bound) }
     ensures some { 1 ≤ result }
@@ -66,7 +66,7 @@ fn count_after(expanded: u64, each: Option<u64>) -> u64
     }
 }
 
-/// Returns the number of moves at which a position is judged, or the result so far at a stop.
+/// Returns the number of moves at which a position is judged, or how far a stopped search came.
 fn number<B: Board, M: Memo<B>, G: Guide<B>, W: Watcher>(
     alloc: Global,
     solver: &mut Solver<B, M, G>,

@@ -34,7 +34,7 @@ pub(crate) trait Question<B: Board, A> {
         ensures map { IsMap (M.content solver.new.memo) };
 }
 
-/// Answers a question in slices that go on from earlier ones.
+/// Asks a question in slices that continue earlier ones, until it is answered or stopped.
 pub(crate) fn ask_resuming<
     B: Board,
     M: Memo<B>,
@@ -71,7 +71,7 @@ pub(crate) fn ask_resuming<
     }
 }
 
-/// Answers a question under a limit that may be lower.
+/// Asks a question once, with the solver's limit lowered to `until` for the call.
 fn ask_until<B: Board, M: Memo<B>, G: Guide<B>, A: Drop, Q: Question<B, A>>(
     alloc: Global,
     solver: &mut Solver<B, M, G>,

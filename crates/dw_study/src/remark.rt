@@ -1,4 +1,4 @@
-//! What is remarked of an author's solution.
+//! Remarks on an author's solution.
 use dw_board::Board;
 use dw_games::Node;
 use dw_moves::Move;
@@ -6,7 +6,7 @@ use dw_moves::Move;
 /// A remark on an author's solution. Its place is a node of the tree, `None` before the first move.
 #[derive(Drop)]
 pub enum Remark<B: Board> {
-    /// A move of the attacker is no key.
+    /// A move of the attacker does not win within the moves that he has left.
     Fails {
         /// The beginning before it.
         at: Option<Node>,
@@ -29,19 +29,19 @@ pub enum Remark<B: Board> {
         /// All of them, in order.
         replies: Vec<Move<B>>,
     },
-    /// The solution does not go on, though the attacker is to move, or the defender is and can move.
+    /// The solution stops here, though the attacker is to move, or the defender is and can move.
     Ends {
-        /// The node after which it has no moves.
+        /// The beginning after which it has no legal move.
         at: Option<Node>,
     },
 }
 
-/// What was found out of an author's solution.
+/// The answer of `check`.
 #[derive(Drop)]
 pub struct Checked<B: Board> {
     /// Whether there is a win within the moves asked for.
     pub wins: bool,
-    /// The remarks, place by place: failing moves, then missing keys, missing replies or an end; then the remarks after
-    /// it, in the order of the tree.
+    /// The remarks, depth first in the order of the tree. At each place come the failing moves and then the missing
+    /// keys, or the missing replies, or an end.
     pub remarks: Vec<Remark<B>>,
 }

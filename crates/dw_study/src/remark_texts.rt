@@ -20,8 +20,8 @@ use dw_report::joined_text;
 use itoa::Buffer;
 use std::alloc::{AllocError, Global};
 
-/// Returns the text of a remark on a tree of a position, as `check` makes it, or `None` if a move that it names is not
-/// legal there or comes after more than 39 others.
+/// Returns the text of a remark that `check` made on a tree of a position. It is `None` if a move of the remark or
+/// before it is not legal there, or if more than 39 moves come before it.
 pub fn remark_text<B: Board>(
     alloc: Global,
     position: &Position<B>,

@@ -1,4 +1,4 @@
-//! What is seen of a beginning of an author's solution, where the attacker is to move, and where the defender is.
+//! The remarks on one beginning of an author's solution, at a turn of the attacker or of the defender.
 ghost use Rattle.std.specs.Prelude.{◌≡◌, ◌≤◌, ◌∷◌, [], true, false, Some, IfOk, map};
 ghost use Rattle.dw_board.specs.Lists.{Member};
 ghost use Rattle.dw_moves.specs.Moves.{Legal};
@@ -21,7 +21,7 @@ use dw_moves::play::play;
 use dw_solve::{Guide, Solver, Stop};
 use std::alloc::{AllocError, Global};
 
-/// Returns the remarks at a turn of the attacker. He can follow the children that win.
+/// Returns the remarks at a turn of the attacker, and the children to examine further: those that win.
 pub(crate) fn seen_by_attacker<B: Board, M: Memo<B>, G: Guide<B>, W: Watcher>(
     alloc: Global,
     solver: &mut Solver<B, M, G>,
@@ -55,7 +55,7 @@ pub(crate) fn seen_by_attacker<B: Board, M: Memo<B>, G: Guide<B>, W: Watcher>(
     Ok(seen)
 }
 
-/// Returns the remarks at a turn of the defender. He can follow all children.
+/// Returns the remarks at a turn of the defender, and the children to examine further: all of them.
 pub(crate) fn seen_by_defender<B: Board>(
     alloc: Global,
     tree: &Tree<B>,
@@ -86,7 +86,7 @@ pub(crate) fn seen_by_defender<B: Board>(
     Ok(Seen { remarks, followed })
 }
 
-/// Returns the remarks at the end of the solution.
+/// Returns the remark that the solution ends here, and no children.
 fn end<B: Board>(alloc: Global, spot: &CheckNode<B>) -> Result<Seen<B>, AllocError>
     ensures remarks { IfOk result (λ seen. seen.remarks.items ≡ Remark.Ends spot.now.node ∷ []) }
     ensures followed { IfOk result (λ seen. seen.followed.items ≡ []) }
@@ -136,7 +136,7 @@ fn sorted<B: Board, M: Memo<B>, G: Guide<B>, W: Watcher>(
     Ok(Seen { remarks, followed })
 }
 
-/// Returns those of some legal moves that win.
+/// Returns the moves among some legal ones that win within the moves that are left.
 fn winning<B: Board, M: Memo<B>, G: Guide<B>, W: Watcher>(
     alloc: Global,
     solver: &mut Solver<B, M, G>,

@@ -16,8 +16,9 @@ use dw_memo::Memo;
 use dw_solve::{Guide, Solver, Stop};
 use std::alloc::Global;
 
-/// Answers `Solver::wins` with a search in slices, which start again. After a stop all bounds in the memo are right,
-/// and the call can be repeated.
+/// Returns whether the side to move wins within `moves` moves, as `Solver::wins` does, with a search in slices. `moves`
+/// must be at most 20. The slices start again; no answer depends on them. After a stop all bounds in the memo are
+/// right, and the call can be repeated.
 pub fn wins_in_slices<B: Board, M: Memo<B>, G: Guide<B>, W: Watcher>(
     alloc: Global,
     solver: &mut Solver<B, M, G>,
@@ -46,8 +47,7 @@ pub fn wins_in_slices<B: Board, M: Memo<B>, G: Guide<B>, W: Watcher>(
     wins_resuming(alloc, solver, position, moves, slices)
 }
 
-/// Answers `wins_in_slices` in slices that go on from earlier ones: a run of questions appears as one search to the
-/// watcher.
+/// Does the same as `wins_in_slices`, but continues earlier slices: the watcher sees a run of questions as one search.
 pub fn wins_resuming<B: Board, M: Memo<B>, G: Guide<B>, W: Watcher>(
     alloc: Global,
     solver: &mut Solver<B, M, G>,
@@ -83,7 +83,7 @@ pub fn wins_resuming<B: Board, M: Memo<B>, G: Guide<B>, W: Watcher>(
     }
 }
 
-/// Answers `Solver::wins` under a limit that may be lower.
+/// Asks `Solver::wins` once, with the solver's limit lowered to `until` for the call.
 fn wins_until<B: Board, M: Memo<B>, G: Guide<B>>(
     alloc: Global,
     solver: &mut Solver<B, M, G>,

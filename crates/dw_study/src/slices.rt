@@ -1,25 +1,25 @@
-//! Searches are cut into slices, so that a program can show how far it is.
+//! Slices of searches, so that a program can show how far a search is.
 ghost use Rattle.std.specs.Prelude.{◌≡◌, ℕ, ◌+◌, ◌-◌, ◌^◌, ◌<◌, ◌≤◌, ◌↔◌, min, max, IsTrue};
 ghost use Rattle.std.specs.Result.{IsErrOf};
 ghost use Rattle.dw_solve.specs.declared.stop.Stop.TheVariants.{Limit};
 
 use dw_solve::Stop;
 
-/// Learns between two slices how far a search is.
+/// A watcher learns between two slices how far a search is.
 pub trait Watcher {
-    /// The watcher before and after it learnt these two numbers, as far as it states that.
+    /// Relates the watcher before and after it learnt these two numbers. By default it states nothing.
     ghost told: { Self → ℕ → ℕ → Self → Type 0 } = { λ old moves expanded new. Unit {0} };
 
-    /// Takes the number of moves within which a win is looked for, and how many positions were expanded in all slices
-    /// up to now.
+    /// Takes the number of moves within which a win is searched for, and how many positions were expanded since the
+    /// slices began.
     fn watch(&mut self, moves: u8, expanded: u64)
         ensures { told self.old moves expanded self.new };
 
-    /// Makes way for an answer that is about to be written.
+    /// Clears its display, if it has one, before an answer is written.
     fn make_way(&mut self) {}
 }
 
-/// Tells nobody.
+/// A watcher that does nothing.
 #[derive(Clone, Copy, Debug, Default)]
 pub struct Unwatched;
 
@@ -27,14 +27,14 @@ impl Watcher for Unwatched {
     fn watch(&mut self, _moves: u8, _expanded: u64) {}
 }
 
-/// How searches are cut into slices, each larger than all before it together. So even if a memo keeps nothing, a slice
-/// comes that is large enough for the whole search. Any search whose solver has a limit can be cut so: before each call
-/// the limit is set to that of `next_limit`, and after a stop there `tell` is called, and the search asked again.
+/// Cuts searches into slices, each larger than all before it together. So even if a memo keeps nothing, a slice comes
+/// that is large enough for the whole search. Any search whose solver has a limit can be cut: before each call the
+/// limit is set to that of `next_limit`, and after a stop there `tell` is called, and the search asked again.
 #[derive(Debug, Drop)]
 pub struct Slices<W> {
     /// How many positions the first slice expands, at least 1.
     pub first: u64,
-    /// How many positions the solver had expanded before it.
+    /// How many positions the solver had expanded before the first slice.
     pub start: u64,
     /// Learns between two slices how far the search is.
     pub watcher: W,
@@ -42,7 +42,7 @@ pub struct Slices<W> {
 }
 
 impl Slices<Unwatched> {
-    /// Returns a search in a single slice of unlimited size.
+    /// Returns slices that never cut a search, and tell nobody: the first one has 2^64 - 1 positions.
     pub fn whole() -> Self
         ensures { result.first ≡ 2 ^ 64 - 1 }
     {
@@ -87,7 +87,8 @@ impl<W: Watcher> Slices<W> {
             .min(most)
     }
 
-    /// Tells the watcher how far a search is.
+    /// Tells the watcher the number of moves, and how many positions were expanded since the slices began. `expanded`
+    /// is the count of the solver.
     pub fn tell(&mut self, moves: u8, expanded: u64)
         ensures told { W.told self.old.watcher moves (expanded - self.old.start) self.new.watcher }
         ensures first { self.new.first ≡ self.old.first }

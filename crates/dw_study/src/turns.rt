@@ -1,4 +1,4 @@
-//! How many moves of the attacker an author's solution has.
+//! The number of moves that the attacker makes in an author's solution.
 ghost use Rattle.std.specs.Prelude.{◌≤◌};
 ghost use Rattle.dw_study.specs.Turns.{HasTurns};
 
@@ -6,7 +6,8 @@ use crate::beginning::moves_to;
 use dw_board::Board;
 use dw_games::Tree;
 
-/// Returns the most moves of the attacker on a path of a tree, of those that have at most 39 moves: 0 to 20.
+/// Returns the greatest number of moves that the attacker makes on a path of a tree, 0 to 20. Paths of more than 39
+/// moves do not count.
 pub fn turns_of<B: Board>(tree: &Tree<B>) -> u8
     ensures turns { HasTurns tree.now result }
     ensures few { result ≤ 20 }

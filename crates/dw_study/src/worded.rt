@@ -32,8 +32,8 @@ pub struct RemarkWords {
     pub refutation: Option<String>,
 }
 
-/// Returns the parts of the text of a remark on a tree of a position, as `check` makes it, or `None` if a move that it
-/// names is not legal there or comes after more than 39 others.
+/// Returns the parts of the text of a remark that `check` made on a tree of a position. It is `None` if a move of the
+/// remark or before it is not legal there, or if more than 39 moves come before it.
 pub fn remark_words<B: Board>(
     alloc: Global,
     position: &Position<B>,
@@ -133,7 +133,7 @@ fn end_words<B: Board>(
     }))
 }
 
-/// Returns the texts of legal moves of a position, in their order.
+/// Returns the texts of moves, in their order. Each move must be legal at the position.
 pub fn move_texts<B: Board>(
     alloc: Global,
     position: &Position<B>,

@@ -2,7 +2,7 @@
 
 use std::alloc::Global;
 
-/// What came before a byte.
+/// The part of an escape that came before a byte.
 #[derive(Clone, Copy)]
 enum Before {
     Nothing,
@@ -11,7 +11,7 @@ enum Before {
     Digit(u8),
 }
 
-/// Returns the bytes that a text stands for, if it stands for some.
+/// Returns the bytes that a text stands for, or `None` if an escape in it is wrong.
 pub fn unescaped(alloc: Global, text: &str) -> Option<Vec<u8>> {
     let mut bytes = Vec::new(alloc);
     let mut before = Before::Nothing;
@@ -28,7 +28,7 @@ pub fn unescaped(alloc: Global, text: &str) -> Option<Vec<u8>> {
     }
 }
 
-/// Returns what comes before the next byte, and the byte that is whole now, if one is.
+/// Returns the state before the next byte, and the byte that is complete now, if one is. A wrong escape gives `None`.
 fn taken(before: Before, byte: u8) -> Option<(Before, Option<u8>)> {
     match (before, byte) {
         (Before::Nothing, b'\\') => Some((Before::Backslash, None)),
@@ -54,7 +54,7 @@ fn marked(letter: u8) -> Option<u8> {
     }
 }
 
-/// Returns the number of a digit to the base 16.
+/// Returns the value of a digit to the base 16. Letters must be capitals.
 fn digit(byte: u8) -> Option<u8> {
     match byte {
         b'0'..=b'9' => Some(byte - b'0'),

@@ -1,5 +1,5 @@
-//! What the programs of tests share: rows of text, a small board, positions and moves by their texts, and streams that
-//! fail where they are told to.
+//! The shared code of the test programs: rows of text, a small board, positions and moves by their texts, and streams
+//! that fail where they are told to.
 #![tactic(auto)]
 
 pub mod escapes;

@@ -8,7 +8,7 @@ use std::alloc::{AllocError, Global};
 use std::io;
 use std::io::{BufRead, BufReader};
 
-/// What is asked, in columns with a `|` between them, and the text that has to be found.
+/// A question, in columns with a `|` between them, and the right answer.
 #[derive(Drop)]
 pub struct Row {
     pub asked: String,
@@ -36,7 +36,8 @@ fn read_sections<R: BufRead + Drop>(alloc: Global, input: R) -> io::Result<Vec<S
     Ok(sections)
 }
 
-/// Makes a row outside all sections a head, so that it shows up as empty.
+/// Adds a line: a head, or a row of the last section. A row outside all sections becomes a head, so that its empty
+/// section shows up.
 fn add_line(alloc: Global, sections: &mut Vec<Section>, line: &str) -> Result<(), AllocError> {
     if line.is_empty() || line.starts_with('#') {
         return Ok(());

@@ -1,14 +1,14 @@
-//! How many rows were right, and what was found of those that were not.
+//! The number of right rows, and the answers of the others.
 
 use crate::rows::Row;
 use std::alloc::{AllocError, Global};
 use std::fmt::{Debug, Display, Write};
 use std::io;
 
-/// Bytes that are found of most rows, at most: for these no memory is taken once a tally is there.
+/// The room for the answer of a row, in bytes. Most answers fit, and take no more memory once a tally is there.
 const ROOM: usize = 4096;
 
-/// What is found of a row.
+/// The answer that is found for a row.
 #[derive(Drop)]
 pub struct RowText {
     text: String,
@@ -23,17 +23,17 @@ impl RowText {
         })
     }
 
-    /// Adds a text. If there is no memory for it, that is kept in mind.
+    /// Adds a text. If memory is refused, the answer counts as cut.
     pub fn add(&mut self, text: &str) {
         self.is_cut = self.text.push_str(text).is_err() || self.is_cut;
     }
 
-    /// Adds a value as it is written.
+    /// Adds a value as `Display` writes it.
     pub fn say<T: Display>(&mut self, value: &T) {
         self.is_cut = write!(self.text, "{value}").is_err() || self.is_cut;
     }
 
-    /// Adds a value as it is shown to a programmer.
+    /// Adds a value as `Debug` writes it.
     pub fn show<T: Debug>(&mut self, value: &T) {
         self.is_cut = write!(self.text, "{value:?}").is_err() || self.is_cut;
     }
@@ -47,7 +47,7 @@ impl RowText {
 /// The rows that were asked so far.
 #[derive(Drop)]
 pub struct Tally {
-    /// What is found of the row that is asked now.
+    /// The answer to the present row.
     pub found: RowText,
     asked: u32,
     right: u32,
@@ -64,7 +64,7 @@ impl Tally {
         })
     }
 
-    /// Ends a row: it is right if it could be asked, and what was found of it is what is wanted.
+    /// Ends a row: it is right if it could be asked, and its answer is whole and the wanted one.
     pub fn end(&mut self, row: &Row, answered: Option<()>) {
         let is_whole = answered.is_some() && !self.found.is_cut;
         self.asked = self.asked.wrapping_add(1);
@@ -86,7 +86,7 @@ impl Tally {
         }
     }
 
-    /// Writes what was found of each wrong row, and whether all rows were right. A section without rows is not.
+    /// Writes the answer of each wrong row, and whether all rows were right. A section without rows is not.
     pub fn report(&self, rt: &impl Print, head: &str) -> io::Result<()> {
         let (wrong, right, asked) = (self.wrong.as_str(), self.right, self.asked);
         if asked > 0 && right == asked {

@@ -13,7 +13,7 @@ pub fn square_of<B: Board>(text: &str) -> Option<Square<B>> {
     Square::new(text.parse::<u8>().ok()?)
 }
 
-/// Returns the set of the squares of these numbers, with blanks between them.
+/// Returns the set of the squares whose numbers a text lists with blanks between them.
 pub fn set_of<B: Board>(text: &str) -> Option<Squares<B>> {
     let mut squares = Squares::none();
     for number in text.split_whitespace() {

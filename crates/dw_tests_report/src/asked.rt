@@ -1,4 +1,4 @@
-//! What a run is asked to do.
+//! The question of a row: the settings of a run.
 ghost use Rattle.std.specs.Prelude.{◌≤◌, IfSome};
 
 use arrayvec::ArrayVec;
@@ -9,14 +9,14 @@ use dw_report::problems::Form;
 use dw_report::{Command, Settings};
 use dw_tests_common::rows::{Row, Section, column, word};
 
-/// How many positions may be expanded where nothing else is asked.
+/// The most positions to expand if a row says nothing else.
 pub const AMPLE: u64 = 1_000_000;
 
 /// A row, and the head of its section: `KIND BOARD COMMAND FORM MEMOS`.
 #[derive(Clone, Copy)]
 pub struct Asked<'a> {
     pub head: &'a str,
-    /// `TEXT | NUMBER OF MOVES | NUMBER OF THE PROBLEM | TOKEN | MOST LINES`, and what a kind adds to that.
+    /// `TEXT | NUMBER OF MOVES | NUMBER OF THE PROBLEM | TOKEN | MOST LINES`, and further columns for some kinds.
     pub text: &'a str,
 }
 

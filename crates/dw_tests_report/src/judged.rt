@@ -55,7 +55,8 @@ fn add_judged<B: Board>(judged: &Judged<B>, found: &mut RowText) {
     }
 }
 
-/// Adds what a solver judges of a position. The answer is false, and nothing is added, if it is stopped.
+/// Adds the verdict and the tries that a solver finds for a position. It returns false, and adds nothing, if the solver
+/// is stopped.
 fn add_answer<B: Board>(
     alloc: Global,
     solver: &mut Solver<B, AnyMemo<B>, ByTrial>,
@@ -104,8 +105,8 @@ pub fn stopped<B: Board>(alloc: Global, asked: &Asked<'_>, found: &mut RowText) 
     add_at_last(alloc, &mut solver, &position, moves, found)
 }
 
-/// Adds the verdict with the memo of the head. If memory is refused it says so, and then it can be asked again
-/// (`checks/refused_search.py` refuses memory).
+/// Adds the verdict with the memo of the head. If memory is refused, it is asked for again (`checks/refused_search.py`
+/// refuses memory).
 pub fn refused<B: Board>(alloc: Global, asked: &Asked<'_>, found: &mut RowText) -> Option<()> {
     let (position, moves) = question::<B>(asked)?;
     let name = word(asked.head, 4);
@@ -122,7 +123,7 @@ pub fn refused<B: Board>(alloc: Global, asked: &Asked<'_>, found: &mut RowText) 
     None
 }
 
-/// Adds what a solver judges of a position once its limit, which rises by one, is high enough.
+/// Adds the verdict and the tries for a position once the limit of the solver, which rises by one, is high enough.
 fn add_at_last<B: Board>(
     alloc: Global,
     solver: &mut Solver<B, AnyMemo<B>, ByTrial>,

@@ -1,7 +1,8 @@
 //! Tests of verdicts, of whole runs and of written movetexts, over public calls: at the boards of ten, of eight and of
 //! six rows. Each row of standard input is asked, and of each section it is said whether all rows were right.
 //!
-//! The rows hold what no clause says: worked reports and movetexts, and each read and each write failing in turn.
+//! The rows test facts that no clause states: worked reports and movetexts, and each read and each write failing in
+//! turn.
 #![tactic(auto)]
 
 mod asked;

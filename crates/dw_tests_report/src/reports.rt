@@ -1,4 +1,4 @@
-//! Worked reports: in whatever pieces, with each memo, under each limit, and of texts that are changed.
+//! Worked reports: in pieces of any size, with each memo, under each limit, and of texts that are changed.
 ghost use Rattle.std.specs.Prelude.{◌≤◌};
 
 use crate::asked::{AMPLE, Asked};
@@ -28,7 +28,7 @@ fn in_pieces<B: Board>(
     ran_with(alloc, settings, memo, reader, writer)
 }
 
-/// Returns `None` unless runs with this memo write and answer the same in whatever pieces.
+/// Returns `None` unless runs with this memo write and answer the same in pieces of any size.
 fn same_with<B: Board>(
     alloc: Global,
     settings: &Settings<B>,
@@ -50,7 +50,7 @@ fn same_with<B: Board>(
     Some(())
 }
 
-/// Adds the report, and what the run answers, which are the same with each memo and in whatever pieces.
+/// Adds the report and the answer, which are the same with each memo and in pieces of any size.
 pub fn whole<B: Board>(alloc: Global, asked: &Asked<'_>, found: &mut RowText) -> Option<()> {
     let text = unescaped(alloc, asked.column(0))?;
     let settings = asked.settings::<B>(AMPLE)?;
@@ -62,8 +62,8 @@ pub fn whole<B: Board>(alloc: Global, asked: &Asked<'_>, found: &mut RowText) ->
     Some(())
 }
 
-/// Returns whether a run under this limit was stopped after the first line and whole lines of the rest of a report, of
-/// which no less was written than that many bytes.
+/// Returns whether a run stopped at this limit, and wrote the first lines of the report: one at least, and no less than
+/// `most` bytes.
 fn is_stopped(ran: &Ran, whole: &[u8], limit: u64, most: usize) -> bool {
     let taken = ran.written.as_slice();
     let stopped = RunFault::Stopped {
@@ -83,8 +83,8 @@ fn limited<B: Board>(alloc: Global, asked: &Asked<'_>, text: &[u8], limit: u64) 
     in_pieces(alloc, &settings, "none", text, 4096)
 }
 
-/// Adds the report and the answer, if under limits that rise by one from 1 a run is stopped, or it is whole, and then
-/// it is so with each higher limit.
+/// Adds the report and the answer, if runs under the limits from 1 to 199 are stopped as they should be, and from some
+/// limit on are all whole.
 pub fn limits<B: Board>(alloc: Global, asked: &Asked<'_>, found: &mut RowText) -> Option<()> {
     let text = unescaped(alloc, asked.column(0))?;
     let whole = limited::<B>(alloc, asked, text.as_slice(), AMPLE)?;
@@ -106,7 +106,7 @@ pub fn limits<B: Board>(alloc: Global, asked: &Asked<'_>, found: &mut RowText) -
     if ended { whole.say(found) } else { None }
 }
 
-/// Returns `None` unless the report on a text is the same in whatever pieces, and begins with a problem.
+/// Returns `None` unless the report on a text is the same in pieces of any size, and begins with a problem.
 fn reported<B: Board>(alloc: Global, settings: &Settings<B>, text: &[u8]) -> Option<()>
     requires some { 1 ≤ settings.now.n }
     requires few { settings.now.n ≤ 20 }

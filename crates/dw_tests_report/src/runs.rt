@@ -26,7 +26,7 @@ impl Ran {
         self.answer == other.answer && self.written.as_slice() == other.written.as_slice()
     }
 
-    /// Writes what was written, and below it how the run ended.
+    /// Adds the output, and below it how the run ended.
     pub fn say(&self, found: &mut RowText) -> Option<()> {
         found.add(str::from_utf8(self.written.as_slice()).ok()?);
         match self.answer {
@@ -38,7 +38,7 @@ impl Ran {
     }
 }
 
-/// Returns a run with a memo.
+/// Runs with this memo, which must be empty.
 fn run_over<B: Board>(
     alloc: Global,
     settings: &Settings<B>,
@@ -59,7 +59,7 @@ fn run_over<B: Board>(
     Ran { answer, written }
 }
 
-/// Returns a run with the memo that is named, `none`, `lru:SIZE` or `slots:SIZE`.
+/// Runs with the memo of this name: `none`, `lru:SIZE` or `slots:SIZE`.
 pub fn ran_with<B: Board>(
     alloc: Global,
     settings: &Settings<B>,
@@ -76,7 +76,7 @@ pub fn ran_with<B: Board>(
     Some(run_over(alloc, settings, memo, reader, writer))
 }
 
-/// Returns the memo that is named.
+/// Returns an empty memo of this name: `none`, `lru:SIZE` or `slots:SIZE`.
 pub fn new_memo<B: Board>(alloc: Global, memo: &str) -> Option<AnyMemo<B>>
     ensures { IfSome result (λ m. content_of m ≡ []) }
 {

@@ -19,8 +19,8 @@ const ANSWERS: u32 = 8;
 /// The most bytes of a movetext that is shown, and not counted.
 const SHOWN: usize = 100;
 
-/// Adds the games of a text: of each what its section says, and its movetext. Whatever the pieces in which the text is
-/// read, it has the same games.
+/// Adds the games of a text: the problem of each, and its movetext. Whatever the pieces in which the text is read, it
+/// has the same games.
 pub fn games<B: Board>(alloc: Global, asked: &str, found: &mut RowText) -> Option<()> {
     let text = whole_text(alloc, asked)?;
     add_games::<B, _>(alloc, text.as_slice(), found)?;
@@ -38,7 +38,8 @@ pub fn games<B: Board>(alloc: Global, asked: &str, found: &mut RowText) -> Optio
     Some(())
 }
 
-/// Adds a text, the bytes of each read, the read that fails, and the one that gives nothing, which is the end.
+/// Adds the games of a text that is read in pieces. A row has the text, the bytes of each read, the number of the read
+/// that fails, and that of the read that gives nothing, which is the end.
 pub fn broken<B: Board>(alloc: Global, asked: &str, found: &mut RowText) -> Option<()> {
     let text = unescaped(alloc, column(asked, 0))?;
     let step = column(asked, 1).parse::<usize>().ok()?;
@@ -108,7 +109,7 @@ pub fn movetext<B: Board>(alloc: Global, asked: &str, found: &mut RowText) -> Op
     )
 }
 
-/// Adds the same of a text that is repeated.
+/// Adds the tree of a movetext that repeats a text, or its first fault.
 pub fn repeated<B: Board>(alloc: Global, asked: &str, found: &mut RowText) -> Option<()> {
     let part = column(asked, 1).strip_prefix('"')?.strip_suffix('"')?;
     let mut text = Vec::<u8>::new(alloc);
@@ -118,7 +119,7 @@ pub fn repeated<B: Board>(alloc: Global, asked: &str, found: &mut RowText) -> Op
     add_read::<B>(alloc, column(asked, 0), text.as_slice(), found)
 }
 
-/// Adds what is read of a movetext at a position.
+/// Adds the tree of a movetext at a position, or its first fault.
 fn add_read<B: Board>(alloc: Global, fen: &str, text: &[u8], found: &mut RowText) -> Option<()> {
     match read_movetext(alloc, &read_position::<B>(fen)?, text) {
         Ok(tree) => add_tree(alloc, &tree, found).ok()?,

@@ -27,8 +27,7 @@ pub fn named<B: Board>(alloc: Global, asked: &str, found: &mut RowText) -> Optio
     Some(())
 }
 
-/// Adds the move that a text names. Where it wants memory that is refused it says so, if it may take memory at all, and
-/// then it can be asked again.
+/// Adds the move that a text names. If memory is refused, it is read again, but only if it may take memory at all.
 pub fn refused<B: Board>(alloc: Global, asked: &str, found: &mut RowText) -> Option<()> {
     let position = read_position::<B>(column(asked, 0))?;
     let text = column(asked, 1).as_bytes();

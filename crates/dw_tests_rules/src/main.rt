@@ -2,7 +2,8 @@
 //! and at a small one of six. Each row of standard input is asked, and of each section it is said whether all rows were
 //! right.
 //!
-//! The rows hold what no clause says: worked positions and texts, a call of each public function, streams that fail.
+//! The rows test facts that no clause states: worked positions and texts, a call of each public function, streams that
+//! fail.
 #![tactic(auto)]
 
 mod games;

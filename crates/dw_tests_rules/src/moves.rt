@@ -82,7 +82,7 @@ pub fn same<B: Board>(asked: &str, found: &mut RowText) -> Option<()> {
     Some(())
 }
 
-/// Returns the squares of these numbers in order, with blanks between them.
+/// Returns the squares whose numbers a text lists with blanks between them, in order.
 fn squares_of<B: Board>(alloc: Global, text: &str) -> Option<Vec<Square<B>>> {
     let mut squares = Vec::new(alloc);
     for number in text.split_whitespace() {
@@ -91,7 +91,7 @@ fn squares_of<B: Board>(alloc: Global, text: &str) -> Option<Vec<Square<B>>> {
     Some(squares)
 }
 
-/// Adds what the move takes that has these squares as its path.
+/// Adds the squares that the move along a path takes.
 pub fn path<B: Board>(alloc: Global, asked: &str, found: &mut RowText) -> Option<()> {
     let position = read_position::<B>(column(asked, 0))?;
     let squares = squares_of(alloc, column(asked, 1))?;
@@ -115,6 +115,7 @@ fn add_list<B: Board>(list: &[Listed<B>], found: &mut RowText) {
     }
 }
 
+/// Adds the number of moves of a position, and all of them in order.
 pub fn list<B: Board>(alloc: Global, asked: &str, found: &mut RowText) -> Option<()> {
     let list = listed(alloc, &read_position::<B>(asked)?).ok()?;
     found.say(&list.len());
@@ -136,7 +137,7 @@ fn fill<B: Board>(
     Some(())
 }
 
-/// Fills lists with the moves of one position and then of another, which takes no more memory.
+/// Fills lists with the moves of one position and then of another, and adds whether that took more memory.
 pub fn again<B: Board>(alloc: Global, asked: &str, found: &mut RowText) -> Option<()> {
     let first = read_position::<B>(column(asked, 0))?;
     let second = read_position::<B>(column(asked, 1))?;

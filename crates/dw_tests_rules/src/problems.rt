@@ -12,7 +12,7 @@ use std::io;
 /// The most answers of a reader that are looked at.
 const ANSWERS: u32 = 8;
 
-/// Adds what is said of a problem: the written FEN or the fault.
+/// Adds the answer for a problem: the written FEN or the fault.
 pub fn add_problem<B: Board>(problem: &Problem<B>, found: &mut RowText) {
     match problem.found {
         Ok(position) => found.add(fen_text(&position).as_str()),
@@ -27,8 +27,7 @@ fn add_end<B: Board, S: Source>(problems: &mut Problems<'_, B, S>, found: &mut R
     found.add(if is_end { "end" } else { "no end" });
 }
 
-/// Adds what the problems of a text say; `failed` for a failure. What has ended stays so, and problems are numbered
-/// from 1.
+/// Adds the problems of a text, or `failed` for a failed read. They must be numbered from 1, and the end must stay.
 fn add_said<B: Board, R: io::Read + Drop>(
     reader: R,
     form: Form,
@@ -81,8 +80,8 @@ pub fn pieces<B: Board>(alloc: Global, form: Form, asked: &str, found: &mut RowT
     Some(())
 }
 
-/// Adds a text, the bytes of each read, the read that fails, and the one that gives nothing, which is the end, since
-/// the reader is not asked again.
+/// Adds the problems of a text that is read in pieces. A row has the text, the bytes of each read, the number of the
+/// read that fails, and that of the read that gives nothing. That is the end, since the reader is not asked again.
 pub fn broken<B: Board>(alloc: Global, form: Form, asked: &str, found: &mut RowText) -> Option<()> {
     let text = unescaped(alloc, column(asked, 0))?;
     let step = column(asked, 1).parse::<usize>().ok()?;
@@ -92,7 +91,7 @@ pub fn broken<B: Board>(alloc: Global, form: Form, asked: &str, found: &mut RowT
     add_said::<B, _>(reader, form, found)
 }
 
-/// Adds a text of many lines, each of one letter that names no position: it has a problem a line, numbered from 1, up
+/// Reads a text of many lines, each of one letter that names no position. It has a problem a line, numbered from 1, up
 /// to one that says that there are too many, and then it ends. Adds the refusal of that one.
 pub fn many<B: Board>(asked: &str, found: &mut RowText) -> Option<()> {
     let lines = asked.parse::<u32>().ok()?;

@@ -1,6 +1,6 @@
-//! What the rows of a section ask.
+//! The kinds of questions of a section.
 
-/// What is asked of each row.
+/// The question of each row.
 #[derive(Clone, Copy)]
 pub enum RowKind {
     Square,

@@ -14,8 +14,8 @@ fn said(answer: Result<(), WriteFault>) -> &'static str {
     }
 }
 
-/// Adds the bytes that a write takes, and the write that fails. What is answered to nothing, to `hello` and to `you`,
-/// whether the sink has failed, and what it took.
+/// Adds the answers of a sink to nothing, to `hello` and to `you`, whether it has failed, and the bytes that it took. A
+/// row has the number of bytes that a write takes, and that of the write that fails.
 pub fn write(alloc: Global, asked: &str, found: &mut RowText) -> Option<()> {
     let step = word(asked, 0).parse::<usize>().ok()?;
     let fails_at = word(asked, 1).parse::<u64>().ok()?;

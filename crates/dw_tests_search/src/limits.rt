@@ -12,7 +12,7 @@ use std::alloc::Global;
 /// A limit that no question here reaches.
 const HIGH: u64 = 1_000_000;
 
-/// What is answered about one move less, and then to the question itself; and how many positions were expanded by then.
+/// The answers for one move less and then for the question itself, and how many positions were expanded by then.
 type Both = (Result<bool, Stop>, Result<bool, Stop>, u64);
 
 fn ask_both<B: Board, M: Memo<B>, G: Guide<B>>(

@@ -17,7 +17,7 @@ use dw_tests_common::texts::read_position;
 use std::alloc::Global;
 use std::slice;
 
-/// How many positions may be expanded where nothing else is asked.
+/// The most positions to expand if a row says nothing else.
 const AMPLE: u64 = 1_000_000_000;
 
 /// Returns the list that is asked for: a position and a number of moves, 1 to 20.
@@ -129,7 +129,7 @@ fn fault_after<B: Board, M: Memo<B>>(
     lister.after(alloc, line.as_slice()).err()
 }
 
-/// Adds the lines under some limits, how often there was a stop or an end, and whether there was each of them.
+/// Adds the lines under some limits, and whether there were both stops and ends.
 fn portions<B: Board, M: Memo<B>>(
     alloc: Global,
     solver: &mut Solver<B, M, ByTrial>,
@@ -142,7 +142,7 @@ fn portions<B: Board, M: Memo<B>>(
     Some(())
 }
 
-/// Numbers with blanks between them.
+/// Returns the numbers that a text lists with blanks between them.
 fn numbers(alloc: Global, text: &str) -> Option<Vec<u64>> {
     let mut numbers = Vec::new(alloc);
     for number in text.split_whitespace() {
@@ -151,7 +151,7 @@ fn numbers(alloc: Global, text: &str) -> Option<Vec<u64>> {
     Some(numbers)
 }
 
-/// Adds the lines of portions, and whether there was each of a stop and an end, three in all.
+/// Adds the lines of portions, and whether there were both stops and ends, three in all.
 fn add_portions<B: Board>(portions: &Portions<B>, found: &mut RowText) {
     for line in portions.lines.as_slice() {
         add_line(line.as_slice(), found);
@@ -165,7 +165,8 @@ fn add_portions<B: Board>(portions: &Portions<B>, found: &mut RowText) {
     });
 }
 
-/// Adds how many lines come after a given one: under a limit of expansions to find it, and one for the rest.
+/// Adds how many lines come after a given one. It is found under a low limit of expansions, and the rest is listed
+/// under a high one.
 fn behind<B: Board, M: Memo<B>>(
     alloc: Global,
     solver: &mut Solver<B, M, ByTrial>,
@@ -196,7 +197,7 @@ fn limit_to<B: Board, M: Memo<B>>(lister: &mut Lister<'_, B, M, ByTrial>, limit:
     lister.set_limit(limit);
 }
 
-/// Goes on after a line. Where the lister is refused memory it says so, and then it can be asked again.
+/// Goes on after a line. If memory is refused, the lister is asked again.
 fn go_after<B: Board, M: Memo<B>>(
     alloc: Global,
     lister: &mut Lister<'_, B, M, ByTrial>,
@@ -246,7 +247,7 @@ fn given<B: Board, M: Memo<B>>(
     lister.next(alloc).ok()??.to_vec(alloc).ok()
 }
 
-/// Walks a list to its end. Of its last two lines the last comes alone after the other.
+/// Walks a list to its end, and checks that only the last line comes after the last but one.
 fn long<B: Board, M: Memo<B>>(
     alloc: Global,
     solver: &mut Solver<B, M, ByTrial>,
@@ -314,7 +315,7 @@ fn add_within<B: Board, M: Memo<B>>(
     }
 }
 
-/// Adds the line that was given, or the end if there was no more; and whether there was one.
+/// Adds a line, or the end if there is none, and returns whether there was one.
 fn add_given<B: Board>(given: Option<&[Move<B>]>, found: &mut RowText) -> bool {
     match given {
         Some(line) => add_line(line, found),
@@ -323,7 +324,8 @@ fn add_given<B: Board>(given: Option<&[Move<B>]>, found: &mut RowText) -> bool {
     given.is_some()
 }
 
-/// Adds the next line, or the end. Where the lister is refused memory it says so, and then it can be asked again.
+/// Adds the next line, or the end, and returns whether there was a line. If memory is refused, the lister is asked
+/// again.
 fn add_next<B: Board, M: Memo<B>>(
     alloc: Global,
     lister: &mut Lister<'_, B, M, ByTrial>,
@@ -350,7 +352,7 @@ fn add_rest<B: Board, M: Memo<B>>(
     Some(())
 }
 
-/// Adds all lines, and then what follows each line that is given in a column. Only the lister takes memory.
+/// Adds all lines, and then the line that follows each one given in a column. Only the lister takes memory.
 fn refused<B: Board, M: Memo<B>>(
     alloc: Global,
     solver: &mut Solver<B, M, ByTrial>,
@@ -362,7 +364,7 @@ fn refused<B: Board, M: Memo<B>>(
     add_behind(alloc, &mut lister, asked, found)
 }
 
-/// Adds what follows each line that is given in a column, from the second one on.
+/// Adds the line that follows each one given in a column, from the second column on.
 fn add_behind<B: Board, M: Memo<B>>(
     alloc: Global,
     lister: &mut Lister<'_, B, M, ByTrial>,

@@ -2,8 +2,8 @@
 //! and of eight rows, and at a small one of six. Each row of standard input is asked, with each memo and each order of
 //! moves that the head of its section names, and of each section it is said whether all rows were right.
 //!
-//! The rows hold what no clause says: worked positions, a call of each public function, limits that stop a search, and
-//! memory that is refused (`checks/refused_search.py` refuses it).
+//! The rows test facts that no clause states: worked positions, a call of each public function, limits that stop a
+//! search, and memory that is refused (`checks/refused_search.py` refuses it).
 #![tactic(auto)]
 
 mod ask;

@@ -1,4 +1,4 @@
-//! What is found again in a memo, what is lost, and what is counted.
+//! Entries of a memo: which are found again, which are lost, and how the lost ones are counted.
 
 use dw_board::{Board, Position};
 use dw_memo::{Bounds, Memo, Noted};
@@ -7,7 +7,7 @@ use dw_tests_common::tally::{RowText, Tally};
 use dw_tests_common::texts::read_position;
 use std::alloc::Global;
 
-/// Adds bounds: the greatest number of moves that fails and the least that wins, `-` for none.
+/// Returns bounds: the greatest number of moves that fails and the least that wins, `-` for none.
 pub fn bounds_of(fails: &str, wins: &str) -> Bounds {
     Bounds {
         fails: fails.parse::<u8>().ok(),
@@ -15,7 +15,8 @@ pub fn bounds_of(fails: &str, wins: &str) -> Bounds {
     }
 }
 
-/// Adds what a memo answers when it notes bounds, what it finds of a position, and how many entries were lost.
+/// Adds the answer of a memo when it notes bounds, the bounds that it finds for a position, or the number of lost
+/// entries.
 fn note<B: Board, M: Memo<B>>(memo: &mut M, asked: &str, found: &mut RowText) -> Option<()> {
     if asked == "lost" {
         found.say(&memo.dropped());
@@ -75,8 +76,8 @@ fn numbered<B: Board>(row: &Row) -> Option<(Position<B>, u8)> {
     Some((position, number))
 }
 
-/// Returns whether the entry of a row is held after that of this number was noted. Nothing else is found again than
-/// what was held, and the entry itself is.
+/// Returns whether the entry of a row is held after that of this number was noted. It is `None` if an entry is found
+/// that was not held, or if the noted entry is not found.
 fn held_after<B: Board, M: Memo<B>>(
     memo: &mut M,
     row: &Row,

@@ -1,4 +1,4 @@
-//! Rows that are asked of no memo.
+//! Rows that are asked without a memo.
 ghost use Rattle.std.specs.Prelude.{◌≡◌, ◌⊎◌};
 
 use crate::laws::law;
@@ -33,7 +33,7 @@ pub fn ask_plain<B: Board>(alloc: Global, kind: &str, rows: &[Row], tally: &mut 
     }
 }
 
-/// Adds what bounds decide, after wins and failures were added to them.
+/// Adds the answer that bounds decide, after wins and failures were added to them.
 fn bounds(asked: &str, found: &mut RowText) -> Option<()> {
     let (first, added) = (column(asked, 0), column(asked, 1));
     let mut bounds = bounds_of(word(first, 0), word(first, 1));

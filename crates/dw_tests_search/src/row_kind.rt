@@ -1,19 +1,19 @@
-//! What is asked of a memo, a solver or a lister.
+//! The kinds of questions to a memo, a solver or a lister.
 
-/// What is asked of each row.
+/// The question of each row.
 #[derive(Clone, Copy)]
 pub enum RowKind {
-    /// What a memo holds.
+    /// From here on questions to a memo.
     Notes,
     Crowded,
-    /// What a solver answers.
+    /// From here on questions to a solver.
     Ask,
     Least,
     Refused,
     Limited,
     Limit,
     Known,
-    /// What a lister gives.
+    /// From here on questions to a lister.
     Lines,
     Lists,
     Place,

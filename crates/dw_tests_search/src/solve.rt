@@ -1,4 +1,4 @@
-//! Forced wins: what a solver answers.
+//! Forced wins: the answers of a solver.
 ghost use Rattle.std.specs.Prelude.{◌≤◌, IfSome};
 ghost use Rattle.dw_solve.specs.Facts.{AreTrue};
 
@@ -13,7 +13,7 @@ use dw_tests_common::tally::{RowText, Tally};
 use dw_tests_common::texts::read_position;
 use std::alloc::Global;
 
-/// How many positions may be expanded where nothing else is asked.
+/// The most positions to expand if a row says nothing else.
 const AMPLE: u64 = 1_000_000_000;
 
 /// Moves to lower numbers come first.
@@ -72,7 +72,7 @@ pub fn ask_rows<B: Board, M: Memo<B> + Drop, G: Guide<B> + Copy>(
     }
 }
 
-/// Asks a row of the first solver, or of the other one if it has a limit.
+/// Asks a row of the first solver, of the other one under a limit, or of both.
 fn ask_row<B: Board, M: Memo<B>, G: Guide<B>>(
     alloc: Global,
     kind: RowKind,
@@ -133,7 +133,7 @@ fn least<B: Board, M: Memo<B>, G: Guide<B>>(
     Some(())
 }
 
-/// Adds a question to a new solver. Where it is refused memory it says so, and then it can be asked again.
+/// Adds the answer of a new solver to a question. If memory is refused, it is asked again.
 fn refused<B: Board, M: Memo<B>, G: Guide<B>>(
     alloc: Global,
     solver: &mut Solver<B, M, G>,

@@ -36,7 +36,7 @@ pub fn written<B: Board>(alloc: Global, asked: &str, found: &mut RowText) -> Opt
     add_written(line.as_slice(), narrow(alloc, column(asked, 1))?, found)
 }
 
-/// Adds what a sink takes of the token of a line, and whether that is all.
+/// Adds the bytes that a sink takes of the token of a line, and whether that is all.
 fn add_written<B: Board>(line: &[Move<B>], sink: Narrow, found: &mut RowText) -> Option<()>
     requires odd { length line.now % 2 ≡ 1 }
     requires most { length line.now ≤ 39 }

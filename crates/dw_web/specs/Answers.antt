@@ -1,5 +1,5 @@
--- The output and the end of a program, by its arguments and its input. `before` is the report's slice before, `after`
--- the slice after; `full` means that there was no room for more.
+-- The output and the end of a program, by its arguments and its input. `before` is the report before the call, and
+-- `after` the report after it; `full` means that there was no room for more.
 use Rattle.std.specs.Prelude.{◌≡◌, ◌⊎◌, ℕ, Bool, true, false, List, Option, Some, None, Result, Ok, Err}
 use Rattle.std.specs.Borrow.{Bor}
 use Rattle.std.specs.Option.{option_copied}
@@ -78,7 +78,7 @@ abbrev pub DoesDesk : (input : List ℕ) → (before after : Option (List ℕ)) 
 DoesDesk input before after full ending = (matches : ArgMatches) × (args : DeskArgs)
     × desk.IsAsked (subcommand_rows_of matches) (Ok args) × Desks args input before after full ending
 
--- arguments are not obeyed: help was asked for, they are no command, or memory was refused
+-- the arguments make no request: help was asked for, they are no command, or memory was refused
 abbrev pub Refuses : (before after : Option (List ℕ)) → (full : Bool) → Ending (Bor (List ℕ)) → Type 0
 Refuses before after full ending = (error : CliError) × EndsUnread before after full error ending
 
@@ -95,7 +95,7 @@ abbrev pub Answers : Option Program → (input : List ℕ) → (before after : O
 Answers program input before after full ending =
     Refuses before after full ending ⊎ DoesIt program input before after full ending
 
--- the exit status of an ending, and that no message is written where it has none
+-- an ending has this exit status, and no message is written if it has none
 abbrev pub IsTold : Ending (Bor (List ℕ)) → (status message : ℕ) → Type 0
 IsTold ending status message =
     (status ≡ (outcome_of ending).status) × ((outcome_of ending).is_told ≡ false → message ≡ 0)

@@ -1,4 +1,4 @@
-//! The one call.
+//! The call that runs a program over bytes.
 ghost use Rattle.std.specs.Prelude.{◌≡◌, ◌≤◌, ℕ, Bool, true, Some, List, [], length, take, drop};
 ghost use Rattle.std.specs.Borrow.{Bor};
 ghost use Rattle.dw_commands.specs.declared.ending.Ending.{Ending};
@@ -14,7 +14,7 @@ use std::marker::Brand;
 ///
 /// The arguments are separated by line feeds; the first is `dw` or `dw-desk`. The input replaces standard input, the
 /// report standard output and the message standard error. A message is cut to the room for it. A FILE cannot be opened.
-/// A report without room is a failed write.
+/// If the report has no more room, the program ends as after a failed write.
 #[unsafe(no_mangle)]
 pub extern "C" fn dw_web_run(
     alloc: Global,

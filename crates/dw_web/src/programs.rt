@@ -14,10 +14,10 @@ use dw_arguments::CliError;
 use dw_commands::Ending;
 use std::alloc::Global;
 
-/// What is said of arguments whose first is the name of no program.
+/// The message for arguments of which the first names no program.
 const NO_PROGRAM: &str = "error: the first argument is neither dw nor dw-desk\n";
 
-/// Runs a program whose report may have as many bytes as the slice for it.
+/// Runs a program whose report may have as many bytes as the slice for it, which must be of the size `L`.
 pub(crate) fn run_within<L: Limit>(
     alloc: Global,
     arguments: &[u8],

@@ -6,7 +6,7 @@ use dw_notation::Sink;
 use std::alloc::{AllocError, Global};
 use std::marker::{Brand, PhantomData};
 
-/// The greatest size of a report, for the proof only: the number that a call is given.
+/// The greatest size of a report, for proofs only: it stands for the size of the slice for it.
 pub(crate) trait Limit {
     ghost limit: { ℕ };
 }

@@ -1,4 +1,4 @@
-//! What a program says on standard error, written into a slice.
+//! The message of a program on standard error, written into a slice.
 ghost use Rattle.std.specs.Prelude.{◌≡◌, ◌≤◌, ℕ, List, Some, false, length};
 ghost use Rattle.std.specs.Borrow.{Bor};
 ghost use Rattle.dw_commands.specs.declared.ending.Ending.{Ending as AnyEnding};
@@ -31,7 +31,8 @@ impl Told {
     }
 }
 
-/// Ends a program whose words are not obeyed: writes the help that was asked for, or says why.
+/// Ends a program whose arguments make no request: writes the help that was asked for as the report, or the reason as
+/// the message.
 pub(crate) fn refuse<L: Limit>(
     program: &str,
     error: &CliError,

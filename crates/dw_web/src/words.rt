@@ -32,7 +32,7 @@ pub(crate) fn program_of(arguments: &[u8]) -> Option<Program>
     }
 }
 
-/// Returns the name of the program in its messages.
+/// Returns the name of the program for its messages; `dw`, if the first word names none.
 pub(crate) fn name_of(arguments: &[u8]) -> &'static str {
     match program_of(arguments) {
         Some(Program::Desk) => "dw-desk",
@@ -57,7 +57,7 @@ fn line_feed_in(bytes: &[u8]) -> Option<usize>
     bytes.iter().position(|byte| *byte == LINE_FEED)
 }
 
-/// Returns the words, as the arguments of this program.
+/// Splits the words of the arguments. `program` names the program in the error for words that are not UTF-8.
 pub(crate) fn words_of(
     alloc: Global,
     program: &str,

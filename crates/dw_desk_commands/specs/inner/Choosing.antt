@@ -42,11 +42,11 @@ abbrev pub EndIsTrue : {B S : Type 0} → Option (List ℕ) → (has_ended : Boo
 EndIsTrue coming has_ended (Fens lines) = problems.EndIsTrue coming has_ended (reader_of lines)
 EndIsTrue coming has_ended (Pdn sections) = games.EndIsTrue coming has_ended (reading_of sections)
 
--- the same of the source of a text
+-- for the source of a text: the end that was met is the source's
 abbrev pub EndIsKnown : {B S : Type 0} → (S → Option (List ℕ)) → (S → Bool) → Text B S → Type 0
 EndIsKnown coming has_ended text = EndIsTrue (coming (source_of text)) (has_ended (source_of text)) text
 
--- what a game is followed by, or that none comes
+-- the next game comes with games after it, or none comes
 abbrev pub Comes : {B : Type 0} → (Old New : List NumberedGame → Type 0) → Option (Game B) → Type 0
 Comes Old New None = Old []
 Comes Old New (Some game) =
@@ -72,7 +72,7 @@ up_to portion (game ∷ more) =
     (if is_in portion game.number then game ∷ [] else [])
     ++ (if is_met portion.last game.number then [] else up_to portion more)
 
--- the games of a portion among those ahead, of which so many are still looked at
+-- the games of a portion among those ahead, of which this number are still looked at
 abbrev pub AreLeft : Portion → (left : ℕ) → (Ahead : List NumberedGame → Type 0) → List NumberedGame → Type 0
 AreLeft portion left Ahead found =
     ((left ≡ 0) × (found ≡ [])) ⊎ ((all : List NumberedGame) × Ahead all × (found ≡ up_to portion (take left all)))
@@ -90,7 +90,7 @@ unfoldable pub AreToCome : {B S : Type 0} → Geometry → (S → Option (List �
     → List NumberedGame → Type 0
 AreToCome g coming has_ended chosen found = AreComing g coming has_ended chosen.portion chosen.left chosen.text found
 
--- what a text still gives is known, and its end too if that was met
+-- the bytes that a text still gives are known, and its end too if that was met
 abbrev pub IsTextKnown : {B S : Type 0} → (S → Option (List ℕ)) → (S → Bool) → Text B S → Type 0
 IsTextKnown coming has_ended text =
     ((bytes : List ℕ) × (coming (source_of text) ≡ Some bytes)) × EndIsKnown coming has_ended text

@@ -1,4 +1,4 @@
--- A solution that was compared with the truth, as the code keeps it.
+-- A solution that was compared with all wins, as the code keeps it.
 use Rattle.std.specs.Prelude.{ℕ, List, [], IsTrue, ◌↔◌, ◌≤◌}
 use Rattle.dw_board.specs.Geometry.{Geometry}
 use Rattle.dw_desk_commands.specs.declared.checking.Solution.{Solution}

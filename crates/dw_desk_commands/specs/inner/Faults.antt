@@ -1,4 +1,4 @@
--- Why a problem was not reported to its end, by the fault of what was called.
+-- The fault of a command, by the fault of a call that it made.
 use Rattle.std.specs.Prelude.{◌≡◌, ℕ, Bool, false, Result, IfErr, ⊤}
 use Rattle.dw_commands.specs.declared.ending.Ending.{Ending}
 use Rattle.dw_commands.specs.declared.ending.Ending.TheVariants as end
@@ -25,7 +25,7 @@ abbrev pub of_mend : MendFault → DeskFault
 of_mend (mending.Stopped stop) = because.Stopped stop
 of_mend mending.Write = because.Write
 
--- the fault as that of a run, after so many expansions
+-- the fault as that of a run, after this number of expansions
 abbrev pub run_fault : DeskFault → ℕ → RunFault
 run_fault (because.Stopped stop) expanded = running.Stopped stop expanded
 run_fault because.Read expanded = running.Read
@@ -36,11 +36,11 @@ abbrev pub IsCaused : (source_failed sink_failed : Bool) → DeskFault → Type 
 IsCaused source_failed sink_failed fault =
     (expanded : ℕ) → HasCause source_failed sink_failed (run_fault fault expanded)
 
--- an error of what only writes has its cause in the sink
+-- an error of a call that only writes has its cause in the sink
 abbrev pub SinkFails : {X : Type 0} → (sink_failed : Bool) → Result X DeskFault → Type 0
 SinkFails sink_failed result = IfErr result (IsCaused false sink_failed)
 
--- an error of what searches and writes has its cause in the sink, or in the number of positions expanded
+-- an error of a call that searches and writes has its cause in the sink, or in the number of positions expanded
 abbrev pub ReportFails : {X : Type 0} → (sink_failed : Bool) → (expanded : ℕ) → Result X DeskFault → Type 0
 ReportFails sink_failed expanded result =
     IfErr result (λ fault. HasCause false sink_failed (run_fault fault expanded))

@@ -4,11 +4,11 @@ use Rattle.dw_study.specs.Remarks.{Remark, fails, also, leaves_open, ends}
 use Rattle.dw_desk_commands.specs.Checking.{Counted}
 use Rattle.dw_desk_commands.specs.declared.checking.Tally.{Tally}
 
--- what they say
+-- the value of a tally
 abbrev pub tallied : Tally → Counted
 tallied t = record { that_fail = t.fails; that_end = t.ends; left_open = t.open; left_out = t.also }
 
--- how many remarks these are
+-- the number of all remarks of a tally
 abbrev pub total : Tally → ℕ
 total t = t.fails + t.ends + t.open + t.also
 

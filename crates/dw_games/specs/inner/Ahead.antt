@@ -1,4 +1,4 @@
--- What the reader of tokens holds: the bytes still to be read.
+-- The bytes that a reader of tokens has still to read.
 use Rattle.std.specs.Prelude.{ℕ, ◌+◌, List, length, drop}
 use Rattle.dw_games.specs.Tokens as of
 use Rattle.dw_games.specs.declared.tokens.Token.{Token}

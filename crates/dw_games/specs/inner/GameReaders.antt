@@ -1,4 +1,4 @@
--- What a reader of games is to its callers, and what its parts do.
+-- The value of a reader of games for its callers, and the effects of its parts.
 use Rattle.std.specs.Prelude.{◌≡◌, ℕ, List, [], ◌∷◌, ◌++◌, Bool, true, false, Option, Some, None, Result, Err, IfOk}
 use Rattle.std.specs.Prelude.{MatchOption, nat_lt, if◌then◌else◌}
 use Rattle.dw_board.specs.Geometry.{Geometry}
@@ -18,7 +18,7 @@ use Rattle.dw_games.specs.declared.games.Stage.TheVariants.{Reading, Open, Over,
 use Rattle.dw_games.specs.declared.play.PlayEnd.{PlayEnd}
 use Rattle.dw_games.specs.declared.play.PlayEnd.TheVariants.{Section, Text, Open as LeftOpen}
 
--- the source of a reader of games as it stands, and what was read of it
+-- the source of a reader of games as it stands, with the bytes read of it
 abbrev pub input_in : {B S : Type 0} → Games B S → Input S
 input_in games = input_of games.source.now games.buffer
 
@@ -64,7 +64,7 @@ reading_of games = record {
   fault = fault_of games.stage;
 }
 
--- what a section says is handed out, or that it is one too many, by how many games were
+-- the problem of a section, or the refusal of one too many, if this many were handed out before
 abbrev pub counted_found : ℕ → Found → Found
 counted_found handed found = if nat_lt handed MAX_PROBLEMS then found else Err TooManyProblems
 

@@ -1,4 +1,4 @@
--- What is kept of a text.
+-- The kept part of a text.
 use Rattle.std.specs.Prelude.{◌≡◌, ◌+◌, ◌-◌, ℕ, List, [], ◌∷◌, ◌++◌, length, take, if◌then◌else◌, Ok, Err}
 use Rattle.std.specs.Str.{IsTrimAsciiEnd}
 use Rattle.dw_notation.specs.TextLines.{Found}
@@ -6,17 +6,17 @@ use Rattle.dw_notation.specs.Tags.{is_space}
 use Rattle.dw_games.specs.declared.movetext.TheConstants.{MAX_MOVETEXT}
 use Rattle.dw_games.specs.declared.bounded_buf.BoundedBuf.{BoundedBuf}
 
--- so many bytes of a text are kept
+-- a buffer keeps the first bytes of a text, up to a limit
 pub record IsKept (limit : ℕ) (text : List ℕ) (kept : BoundedBuf) : Type 0 where
   pub most : kept.limit ≡ limit
   pub bytes : kept.bytes.items ≡ take limit text
 
--- of a text what is kept that is a movetext's beginning, by what its section says
+-- a buffer keeps the start of a movetext: nothing, if its section is refused
 abbrev pub IsKeptFor : Found → List ℕ → BoundedBuf → Type 0
 IsKeptFor (Ok position) text kept = IsKept (MAX_MOVETEXT + 1) text kept
 IsKeptFor (Err fault) text kept = IsKept 0 text kept
 
--- what is told of a section's tags, by what it says and by the bytes that are kept of it and of the spaces after
+-- the tags of a game: the kept bytes without the spaces at their end; nothing, if its section is refused
 abbrev pub IsTold : Found → (kept tags : List ℕ) → Type 0
 IsTold (Ok position) kept tags = IsTrimAsciiEnd kept tags
 IsTold (Err fault) kept tags = tags ≡ []

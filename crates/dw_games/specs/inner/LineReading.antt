@@ -1,4 +1,4 @@
--- What a reader of a written line holds.
+-- The state of a reader of a written line.
 use Rattle.std.specs.Prelude.{◌≡◌, ◌≢◌, ◌⊎◌, ◌<◌, ◌+◌, ◌%◌, ℕ, Bool, true, false, Result, Ok, Err, List, [], ◌∷◌, ◌++◌}
 use Rattle.std.specs.Prelude.{length}
 use Rattle.dw_board.specs.Geometry.{Geometry}
@@ -48,7 +48,7 @@ LineHasEnded g p old now reader (Err (text.Refused what place)) = (ts : List Tok
     × AreAhead old (ts ++ t ∷ []) rest × LineFaultAt g p ts t what × (place ≡ t.place)
 LineHasEnded g p old now reader (Err text.Memory) = Unit {0}
 
--- the fault after so many bytes of moves that are not odd in number
+-- the fault of moves that are none or even in number, after a text of this many bytes
 abbrev pub IsNoOddNumber : List Move → ℕ → LineFault → Type 0
 IsNoOddNumber moves bytes why = ((moves ≡ []) × (why ≡ Refused (Movetext Empty) (bytes + 1)))
     ⊎ ((0 < length moves) × (length moves % 2 ≡ 0) × (why ≡ Refused Even (bytes + 1)))

@@ -16,7 +16,7 @@ use Rattle.dw_games.specs.declared.bounded_buf.BoundedBuf.{BoundedBuf}
 use Rattle.dw_games.specs.declared.play.PlayEnd.{PlayEnd}
 use Rattle.dw_games.specs.declared.play.PlayEnd.TheVariants.{Section, Text, Open}
 
--- what a comment left open says
+-- the game of a comment that is left open
 abbrev pub unclosed : Said
 unclosed = said_with (Err UnclosedComment) [] []
 
@@ -37,11 +37,11 @@ Follows g Section text games = HasGames g text [] games
 Follows g Text text games = (text ≡ []) × (games ≡ [])
 Follows g Open text games = (text ≡ []) × (games ≡ unclosed ∷ [])
 
--- what stands after the bytes where the text ends
+-- how a text ends: within a comment, or outside
 abbrev pub end_of_text : SectionFinder → PlayEnd
 end_of_text finder = if in_comment finder then Open else Text
 
--- what is known where bytes without a section end
+-- the state at each end of bytes without a section
 abbrev pub EndsAt : {S : Type 0} → PlayEnd → Input S → Type 0
 EndsAt Section input = input.unread ≡ open_bracket ∷ drop 1 input.unread
 EndsAt Text input = (input.unread ≡ []) × (input.met_end ≡ true)

@@ -1,4 +1,4 @@
--- What a reader of a movetext holds: the tree so far, and where it stands in the variations that are open.
+-- The state of a reader of a movetext: the tree so far, and its place in the variations that are open.
 use Rattle.std.specs.Prelude.{◌≡◌, ◌≢◌, ◌⊎◌, ◌<◌, ℕ, Bool, true, false, Option, Some, None, Result, Ok, Err, List, []}
 use Rattle.std.specs.Prelude.{◌∷◌, ◌++◌, length}
 use Rattle.std.proofs.Common.{suc}

@@ -1,4 +1,4 @@
--- What is found of one neighbour, and what is written of it.
+-- The soundness of one neighbour, and the text for it.
 use Rattle.std.specs.Prelude.{◌≡◌, ℕ, ◌+◌, ◌≤◌, Option, Some, List, [], Result, Err, IfOk, IfSome}
 use Rattle.dw_board.specs.Geometry.{Geometry}
 use Rattle.dw_board.specs.Placement.{Placement}
@@ -17,25 +17,25 @@ use Rattle.dw_mend.specs.declared.mend.Soundness.TheVariants.{Sound, Unsound, Un
 use Rattle.dw_mend.specs.declared.mend.MendFault.{MendFault}
 use Rattle.dw_mend.specs.declared.mend.MendFault.TheVariants.{Stopped}
 
--- what is found of a position holds
+-- the soundness of a position is right
 abbrev pub IsSoundnessOf : {B : Type 0} → Geometry → Placement → ℕ → finds.Soundness B → Type 0
 IsSoundnessOf g p n (Sound key) = IsVerdict g p n (sound key)
 IsSoundnessOf g p n Unsound = (key : Move) → IsVerdict g p n (sound key) → ⊥
 IsSoundnessOf g p n Undecided = Unit {0}
 
--- it is not known whether the position is sound
+-- a soundness is undecided
 abbrev pub IsUndecided : {B : Type 0} → finds.Soundness B → Type 0
 IsUndecided (Sound key) = ⊥
 IsUndecided Unsound = ⊥
 IsUndecided Undecided = Unit {0}
 
--- what is written of a neighbour of which this is found
+-- the text for a neighbour of some soundness
 abbrev pub Adds : {B : Type 0} → Wording → Geometry → ℕ → Change × Placement → finds.Soundness B → List ℕ → Type 0
 Adds w g n x (Sound key) text = IsVerdict g x.1 n (sound key) × IsLineOf w g n x key text
 Adds w g n x Unsound text = ((key : Move) → IsVerdict g x.1 n (sound key) → ⊥) × (text ≡ [])
 Adds w g n x Undecided text = text ≡ []
 
--- what can be asked about each neighbour: a win within 1 to 20 moves, and one position at least
+-- the bounds for each neighbour: a win within 1 to 20 moves, and one position at least
 pub record CanAsk (n : ℕ) (each : Option ℕ) : Type 0 where
   pub some : 1 ≤ n
   pub few : n ≤ 20

@@ -13,7 +13,7 @@ place_of line = record { now = line.now; before = line.before }
 abbrev pub around : {B : Type 0} → Reader B → List Place
 around reader = map place_of reader.outer.items
 
--- a text is shown of a piece: whatever is shown of the rest stands after it
+-- a text shows the first piece of a movetext: the text that shows the rest stands after it
 abbrev pub IsPieceShown : {B : Type 0} → Geometry → (more : List ℕ) → (old new : Reader B) → (bytes rest text : List ℕ)
     → Type 0
 IsPieceShown g more old new bytes rest text =

@@ -10,10 +10,10 @@ use Rattle.dw_study.specs.Remarks.{Remark}
 use Rattle.dw_study.specs.Telling.{remark_in}
 use Rattle.dw_study.specs.declared.remark.Remark as remarks
 
--- what it says of a tree can be told
+-- a remark on a tree can be written
 abbrev pub CanTell : {B : Type 0} → Geometry → Placement → List (List Move) → remarks.Remark B → Type 0
 CanTell g p tree one = (r : Remark) × (remark_in tree one ≡ Some r) × CanBeTold g p r
 
--- the members of what it says
+-- the members of a remark on a tree
 abbrev pub TellsIt : {B : Type 0} → Geometry → Placement → List (List Move) → remarks.Remark B → List Member → Type 0
 TellsIt g p tree one members = (r : Remark) × (remark_in tree one ≡ Some r) × IsRemarkObject g p r members

@@ -33,7 +33,7 @@ last_line [] = []
 last_line (l ∷ []) = l
 last_line (l ∷ k ∷ lines) = last_line (k ∷ lines)
 
--- where the lines end: with so many steps there are so many lines of the tree
+-- the numbers of steps at which lines end: the steps up to each of them are the tree of the lines up to there
 abbrev pub AreEnds : {B : Type 0} → List (TreeStep B) → List ℕ → Type 0
 AreEnds steps ends = (place end : ℕ) → slice_get ends place ≡ Some end → (end ≤ length steps)
     × IsTreeOf (take (place + 1) (lines_of (whole_tree steps))) (whole_tree (take end steps))

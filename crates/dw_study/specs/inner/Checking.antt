@@ -46,8 +46,7 @@ abbrev pub FindsFirst : Geometry → Placement → ℕ → Option Move → Type 
 FindsFirst g q n None = Lost g q n
 FindsFirst g q n (Some reply) = IsFirstRefutation g q n reply
 
--- what is remarked where the attacker (true) or the defender (false) is to move, and the moves after which more is
--- looked at
+-- the remarks where the attacker (true) or the defender (false) is to move, and the moves after which more is examined
 abbrev pub At : Geometry → List (List Move) → Bool → ℕ → Placement → List Move → List Remark → List Move → Type 0
 At g tree true n p b here moves = AtAttacker g p n tree b here moves
 At g tree false n q b here moves = AtDefender g q tree b here moves
@@ -56,7 +55,7 @@ abbrev pub Behind : Geometry → List (List Move) → Bool → ℕ → Placement
 Behind g tree true n p b remarks = AreRemarks g tree n p b remarks
 Behind g tree false n q b remarks = AfterKey (AreRemarks g tree n) g tree q b remarks
 
--- what holds there: the attacker has a move left, or the defender has lost
+-- the condition at each place: the attacker has a move left, or the defender has lost
 abbrev pub IsKept : Geometry → Bool → ℕ → Placement → Type 0
 IsKept g true n p = 1 ≤ n
 IsKept g false n q = Lost g q n
@@ -67,7 +66,7 @@ left_after true zero = zero
 left_after true (suc n) = n
 left_after false n = n
 
--- what was seen of a beginning
+-- the remarks on a beginning are right, and so are the children that are examined further
 pub record IsSeen {B : Type 0} (g : Geometry) (tree : List (List Move)) (attacks : Bool) (n : ℕ) (p : Placement)
     (b : List Move) (seen : Seen B) : Type 0 where
   pub here : Say tree seen.remarks.items (λ here. At g tree attacks n p b here (map (λ c. c.mv) seen.followed.items))

@@ -18,7 +18,7 @@ abbrev pub IsLooked : Geometry → Placement → ℕ → Result ℕ Cut → Type
 IsLooked g p most (Ok k) = (1 ≤ k) × (k ≤ most) × IsJudgedAt g p most k
 IsLooked g p most (Err cut) = (cut.no_win_in < most) × (Win g p cut.no_win_in → ⊥)
 
--- the limit of a search that may expand so many positions
+-- the limit of a search that has a bound on its expansions, or none
 abbrev pub lowered : (each : Option ℕ) → (limit expanded : ℕ) → ℕ
 lowered None limit expanded = limit
 lowered (Some bound) limit expanded = min limit (expanded + bound)
