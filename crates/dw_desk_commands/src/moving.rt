@@ -1,12 +1,11 @@
 //! The command `moves`: the effect of each first move of a problem.
-ghost use Rattle.std.specs.Prelude.{◌≡◌, ℕ, List, false, map, IfOk, IsErrOf};
+ghost use Rattle.std.specs.Prelude.{◌≡◌, ℕ, List, false, IfOk, IsErrOf};
 ghost use Rattle.std.specs.Io.KnownBytes.{Appends};
 ghost use Rattle.std.specs.String.{string_bytes};
 ghost use Rattle.dw_desk_commands.specs.Moving.{IsFirstMovesLine, IsMovesOf, SaysFirstMoves};
 ghost use Rattle.dw_desk_commands.specs.ProblemText.{IsProblemText};
 ghost use Rattle.dw_desk_commands.specs.inner.Faults.{ReportFails};
 ghost use Rattle.dw_first_moves.specs.FirstMoves.{AreFirstMoves};
-ghost use Rattle.dw_first_moves.specs.Telling.{told_by};
 ghost use Rattle.dw_games.specs.Games.{problem_of};
 ghost use Rattle.dw_notation.specs.Problems.{numbered};
 ghost use Rattle.dw_solve.specs.declared.stop.Stop.TheVariants.{Limit};
@@ -19,7 +18,7 @@ use dw_arguments::MovesArgs;
 use dw_board::{Board, Position};
 use dw_commands::Ending;
 use dw_first_moves::first_moves::first_moves;
-use dw_first_moves::{FirstMove, first_moves_text};
+use dw_first_moves::{FirstMoves, first_moves_text};
 use dw_games::Game;
 use dw_notation::{Problem, Sink, write_all};
 use dw_parts::Part;
@@ -72,8 +71,8 @@ fn write_words<B: Board, W: DeskWatcher, K: Sink>(
     let Ok(position) = &problem.found else {
         return Ok(true);
     };
-    let done = searched(desk, slices, asked, problem.number, position)?;
-    let text = first_moves_text(desk.alloc, position, done.as_slice())?;
+    let found = searched(desk, slices, asked, problem.number, position)?;
+    let text = first_moves_text(desk.alloc, &found)?;
     write_all(sink, text.as_str().as_bytes())?;
     Ok(false)
 }
@@ -112,8 +111,8 @@ fn row_of<B: Board, W: DeskWatcher>(
     let number = problem.number;
     match &problem.found {
         Ok(position) => {
-            let done = searched(desk, slices, asked, number, position)?;
-            let line = first_moves_row(desk.alloc, number, position, asked.n, done.as_slice())?;
+            let found = searched(desk, slices, asked, number, position)?;
+            let line = first_moves_row(desk.alloc, number, asked.n, &found)?;
             Ok((line, false))
         }
         Err(fault) => Ok((refused_line(desk.alloc, number, *fault)?, true)),
@@ -127,9 +126,10 @@ fn searched<B: Board, W: DeskWatcher>(
     asked: &MovesArgs,
     number: u32,
     position: &Position<B>,
-) -> Result<Vec<FirstMove<B>>, Stop>
-    ensures done { IfOk result (λ done. AreFirstMoves B.geometry position.now asked.now.n asked.now.part
-        asked.now.parts (map told_by done.items)) }
+) -> Result<FirstMoves<B>, Stop>
+    ensures start { IfOk result (λ found. found.start ≡ position.now) }
+    ensures effects { IfOk result (λ found. AreFirstMoves B.geometry position.now asked.now.n asked.now.part
+        asked.now.parts found.effects) }
     ensures stop { IsErrOf result Limit → desk.new.solver.expanded ≡ u64.MAX }
 {
     let part = Part {
@@ -137,7 +137,7 @@ fn searched<B: Board, W: DeskWatcher>(
         parts: asked.parts,
     };
     desk.begin(slices, number);
-    let done = first_moves(
+    let found = first_moves(
         desk.alloc,
         &mut desk.solver,
         position,
@@ -146,5 +146,5 @@ fn searched<B: Board, W: DeskWatcher>(
         slices,
     );
     slices.watcher.end();
-    done
+    found
 }

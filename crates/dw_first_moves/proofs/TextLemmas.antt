@@ -6,10 +6,10 @@ use Rattle.std.proofs.lemmas.List.{take_more, map_push}
 use Rattle.dw_board.specs.Geometry.{Geometry}
 use Rattle.dw_board.specs.Placement.{Placement}
 use Rattle.dw_board.specs.Lists.{Member}
-use Rattle.dw_moves.specs.Moves.{Move, Legal, play}
+use Rattle.dw_moves.specs.Moves.{Move, play}
 use Rattle.dw_notation.specs.Text.{AreJoined, IsMoveText}
 use Rattle.dw_moves.specs.inner.MemberLemmas.{mem_map}
-use Rattle.dw_first_moves.specs.FirstMoves.{Effect, wins_in, refuted_by, AreEffects, HasEffect}
+use Rattle.dw_first_moves.specs.FirstMoves.{Effect, refuted_by, AreEffects, HasEffect, HaveEffects}
 use Rattle.dw_first_moves.specs.FirstMovesText.{AreEffectLines, IsEffectLine, IsEffectText}
 
 -- one line more
@@ -37,8 +37,8 @@ lines_next told g p done i one lines line now low at before here is =
     (subst (AreEffectLines g p (map told (take i done) ++ told one ∷ [])) (sym is)
     (lines_more g p (map told (take i done)) (told one) lines line before here)))
 
--- what one of these moves does
-effects_have : (g : Geometry) (p : Placement) (n : ℕ) (moves : List Move) (done : List (Move × Effect))
+-- each of these moves has its effect
+pub effects_have : (g : Geometry) (p : Placement) (n : ℕ) (moves : List Move) (done : List (Move × Effect))
     → AreEffects g p n moves done → (x : Move × Effect) → Member x done → HasEffect g p n x.0 x.1
 effects_have g p n [] done none x member = absurd (subst (Member x) none member)
 effects_have g p n (m ∷ moves) done h x member = elim (subst (Member x) h.4 member) [
@@ -51,18 +51,13 @@ item_member [] i x low at = absurd (omega (arith, low))
 item_member (y ∷ xs) zero x low at = inl at
 item_member (y ∷ xs) (suc i) x low at = inr (item_member xs i x (omega (arith, low)) at)
 
-pub effect_at : {V : Type 0} (told : V → Move × Effect) (g : Geometry) (p : Placement) (n : ℕ) (moves : List Move)
-    (done : List V) (i : ℕ) (one : V) → AreEffects g p n moves (map told done) → i < length done
-    → one ≡ get_or done i one → HasEffect g p n (told one).0 (told one).1
-effect_at told g p n moves done i one all low at =
-    effects_have g p n moves (map told done) all (told one) (mem_map told one done (item_member done i one low at))
-
--- a move that does something is legal
-pub is_legal : (g : Geometry) (p : Placement) (n : ℕ) (m : Move) (effect : Effect) → HasEffect g p n m effect
-    → Legal g p m
-is_legal g p n m (wins_in zero) h = absurd h.wins
-is_legal g p n m (wins_in (suc k)) h = h.wins.0
-is_legal g p n m (refuted_by replies) h = h.0
+pub effect_at : {V : Type 0} (told : V → Move × Effect) (g : Geometry) (p start : Placement)
+    (effects : List (Move × Effect)) (done : List V) (i : ℕ) (one : V) (have : HaveEffects g start effects)
+    → map told done ≡ effects → p ≡ start → i < length done → one ≡ get_or done i one
+    → HasEffect g p have.0 (told one).0 (told one).1
+effect_at told g p start effects done i one have same there low at =
+    subst (λ z. HasEffect g z have.0 (told one).0 (told one).1) (sym there)
+    (have.1 (told one) (subst (Member (told one)) same (mem_map told one done (item_member done i one low at))))
 
 joined_2 : (a b : List ℕ) → a ++ (b ++ []) ≡ a ++ b
 joined_2 a b = simp (append_assoc, append-nil)
@@ -80,14 +75,6 @@ refuted_made g p after m effect replies joined one text there is are same e =
       subst (λ z. AreJoined g z (codes ", ") replies joined) there are,
       e ∙ (joined_2 (codes " refuted by ") one ∙ ap (λ z. codes " refuted by " ++ z) same),
     )
-
--- a reply that refutes is legal
-pub reply_legal : (g : Geometry) (p after : Placement) (n : ℕ) (m : Move) (effect : Effect) (replies all : List Move)
-    → after ≡ play g p m → refuted_by replies ≡ effect → all ≡ replies → HasEffect g p n m effect → (r : Move)
-    → Member r all → Legal g after r
-reply_legal g p after n m effect replies all there is same has r member =
-    let here = subst (HasEffect g p n m) (sym is) has in
-    subst (λ z. Legal g z r) (sym there) ((here.2.exactly r).0 (subst (Member r) same member)).0
 
 pub line_made : (g : Geometry) (p : Placement) (one : Move × Effect) (move text a b line : List ℕ)
     → IsMoveText g p one.0 move → IsEffectText g p one.0 one.1 text → a ≡ move → b ≡ text

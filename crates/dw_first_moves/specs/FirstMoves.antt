@@ -2,6 +2,7 @@
 use Rattle.std.specs.Prelude.{◌≡◌, ℕ, ◌-◌, ◌<◌, ◌≤◌, List, [], ◌∷◌}
 use Rattle.dw_board.specs.Geometry.{Geometry}
 use Rattle.dw_board.specs.Placement.{Placement}
+use Rattle.dw_board.specs.Lists.{Member}
 use Rattle.dw_moves.specs.Moves.{Move, Legal, play}
 use Rattle.dw_moves.specs.Order.{Precedes, IsListOf}
 use Rattle.dw_verdict.specs.Verdict.{IsWinning, Refutes}
@@ -27,6 +28,15 @@ Refutations g p n m replies = IsListOf (Precedes g (play g p m)) (Refutes g (pla
 abbrev pub HasEffect : Geometry → Placement → ℕ → Move → Effect → Type 0
 HasEffect g p n m (wins_in k) = WinsFirstIn g p n m k
 HasEffect g p n m (refuted_by replies) = Legal g p m × (IsWinning g p n m → ⊥) × Refutations g p n m replies
+
+-- a position, and some of its first moves with their effects
+pub record EffectsFrom : Type 0 where
+  pub start : Placement
+  pub effects : List (Move × Effect)
+
+-- each of these moves has its effect, within some number of moves
+abbrev pub HaveEffects : Geometry → Placement → List (Move × Effect) → Type 0
+HaveEffects g p done = (n : ℕ) × ((one : Move × Effect) → Member one done → HasEffect g p n one.0 one.1)
 
 -- the effects of these moves, in their order
 abbrev pub AreEffects : Geometry → Placement → ℕ → List Move → List (Move × Effect) → Type 0

@@ -12,7 +12,7 @@ ghost use Rattle.dw_first_moves.specs.FirstMoves.{AreEffects, AreFirstMoves};
 ghost use Rattle.dw_first_moves.specs.Telling.{told_by};
 
 use crate::effects::{effect_of, push};
-use crate::first_move::FirstMove;
+use crate::first_move::{FirstMove, FirstMoves};
 use dw_board::{Board, Position};
 use dw_memo::Memo;
 use dw_moves::Move;
@@ -33,11 +33,12 @@ pub fn first_moves<B: Board, M: Memo<B>, G: Guide<B>, W: Watcher>(
     moves: u8,
     part: Part,
     slices: &mut Slices<W>,
-) -> Result<Vec<FirstMove<B>>, Stop>
+) -> Result<FirstMoves<B>, Stop>
     requires some { 1 ≤ moves }
     requires few { moves ≤ 20 }
-    ensures done { IfOk result (λ done. AreFirstMoves B.geometry position.now moves part.number part.parts
-        (map told_by done.items)) }
+    ensures start { IfOk result (λ found. found.start ≡ position.now) }
+    ensures effects { IfOk result (λ found. AreFirstMoves B.geometry position.now moves part.number part.parts
+        found.effects) }
     ensures count { IsCounted solver.old.expanded solver.old.limit solver.new.expanded solver.new.limit }
     ensures stop { IsErrOf result Limit → solver.new.expanded ≡ solver.new.limit }
     ensures right { AreTrue B.geometry (M.content solver.new.memo) }
@@ -48,7 +49,11 @@ pub fn first_moves<B: Board, M: Memo<B>, G: Guide<B>, W: Watcher>(
     slices.begin(solver.expanded());
     let all = all_moves(alloc, position)?;
     let some = part_of(alloc, all.as_slice(), part)?;
-    effects_of(alloc, solver, position, some.as_slice(), moves, slices)
+    let found = effects_of(alloc, solver, position, some.as_slice(), moves, slices)?;
+    Ok(FirstMoves {
+        position: *position,
+        moves: found,
+    })
 }
 
 /// Lists all legal moves, in order.

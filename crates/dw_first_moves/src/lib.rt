@@ -1,8 +1,8 @@
 //! The effects of the first moves of a position: the least number of moves within which each wins, or the replies that
 //! refute it.
 //!
-//! Begin with `first_moves`, which returns a `FirstMove` for each legal move of a part. Its text is that of
-//! `first_moves_text`.
+//! Begin with `first_moves`, which returns the `FirstMoves` of a part: each legal move with its effect. Their text is
+//! that of `first_moves_text`.
 #![tactic(auto)]
 
 mod effects;
@@ -11,5 +11,5 @@ pub mod first_moves;
 pub mod laws;
 pub mod text;
 
-pub use first_move::{Effect, FirstMove};
-pub use text::{first_moves_text, wins_among};
+pub use first_move::{Effect, FirstMove, FirstMoves};
+pub use text::first_moves_text;

@@ -3,13 +3,12 @@ ghost use Rattle.std.specs.Prelude.{◌≡◌, ℕ, List, length, map, IfOk};
 ghost use Rattle.std.specs.String.{string_bytes};
 ghost use Rattle.dw_board.specs.Lists.{Member};
 ghost use Rattle.dw_moves.specs.Moves as of;
-ghost use Rattle.dw_first_moves.specs.FirstMoves.{AreEffects, HasEffect};
+ghost use Rattle.dw_first_moves.specs.FirstMoves.{HasEffect};
 ghost use Rattle.dw_first_moves.specs.FirstMovesText.{AreEffectLines, IsEffectLine, IsEffectText, IsFirstMovesText};
-ghost use Rattle.dw_first_moves.specs.FirstMovesText.{wins_among};
 ghost use Rattle.dw_first_moves.specs.FirstMovesText as of_text;
 ghost use Rattle.dw_first_moves.specs.Telling.{effect_of, told_by};
 
-use crate::first_move::{Effect, FirstMove};
+use crate::first_move::{Effect, FirstMove, FirstMoves};
 use dw_board::{Board, Position};
 use dw_moves::Move;
 use dw_moves::play::play;
@@ -18,23 +17,21 @@ use dw_report::joined_text;
 use itoa::Buffer;
 use std::alloc::{AllocError, Global};
 
-/// Writes the effects that `first_moves` found: a line for each move, and a last line with the number of those that
-/// win. They must be effects of moves of this position.
+/// Writes first moves with their effects: a line for each, and a last line with the number of those that win.
 pub fn first_moves_text<B: Board>(
     alloc: Global,
-    position: &Position<B>,
-    done: &[FirstMove<B>],
+    found: &FirstMoves<B>,
 ) -> Result<String, AllocError>
-    requires { (n : ℕ) × (moves : List of.Move) × AreEffects B.geometry position.now n moves (map told_by done.now) }
-    ensures { IfOk result (λ text. IsFirstMovesText B.geometry position.now (map told_by done.now)
-        (string_bytes text)) }
+    ensures { IfOk result (λ text. IsFirstMovesText B.geometry found.now.start found.now.effects (string_bytes text)) }
 {
+    let position = found.position();
+    let moves = found.as_slice();
     let mut text = String::new(alloc);
-    'moves: for one in done {
-        let line = effect_line(alloc, position, one)?;
+    'moves: for one in moves {
+        let line = effect_line(alloc, &position, one)?;
         text.push_str(line.as_str())?;
     }
-    let line = count_line(alloc, wins_among(done), done.len())?;
+    let line = count_line(alloc, found.wins(), moves.len())?;
     text.push_str(line.as_str())?;
     Ok(text)
 }
@@ -73,22 +70,9 @@ fn effect_text<B: Board>(
     }
 }
 
-/// Counts the first moves that win.
-pub fn wins_among<B: Board>(done: &[FirstMove<B>]) -> usize
-    ensures { result ≡ wins_among (map told_by done.now) }
-{
-    let mut wins = 0;
-    'moves: for one in done {
-        if matches!(one.effect, Effect::WinsIn(_)) {
-            wins += 1;
-        }
-    }
-    wins
-}
-
 /// Writes the last line: how many first moves win, of how many.
 fn count_line(alloc: Global, wins: usize, all: usize) -> Result<String, AllocError>
-    ensures { (done : _) → wins ≡ wins_among done → all ≡ length done
+    ensures { (done : _) → wins ≡ of_text.wins_among done → all ≡ length done
         → IfOk result (λ line. string_bytes line ≡ of_text.count_line done) }
 {
     let mut digits = Buffer::new();

@@ -1,17 +1,17 @@
 -- Rows, member by member.
-use Rattle.std.proofs.Common.{◌≡◌, ℕ, zero, suc, List, [], ◌∷◌, ◌++◌, map, refl, sym, ◌∙◌, ap, subst, inl, inr}
+use Rattle.std.proofs.Common.{◌≡◌, ℕ, List, [], ◌∷◌, ◌++◌, map, refl, sym, ◌∙◌, ap, subst, inl, inr}
 use Rattle.std.proofs.Common.{append_assoc, append-nil, Some}
 use Rattle.std.specs.Prelude.{codes}
 use Rattle.dw_board.specs.Geometry.{Geometry}
 use Rattle.dw_board.specs.Lists.{Member as Has}
 use Rattle.dw_board.specs.Placement.{Placement}
-use Rattle.dw_first_moves.specs.FirstMoves.{Effect, wins_in, refuted_by, AreEffects, HasEffect}
+use Rattle.dw_first_moves.specs.FirstMoves.{Effect, HasEffect, HaveEffects}
 use Rattle.json.specs.Json.{string}
 use Rattle.json.specs.Written.{Written}
 use Rattle.dw_json.specs.Rows.{AreObjects, Member, texts}
 use Rattle.dw_json.specs.Writing.{WritesMembers}
 use Rattle.dw_json.specs.inner.Composing.{both}
-use Rattle.dw_moves.specs.Moves.{Move, Legal, play}
+use Rattle.dw_moves.specs.Moves.{Move}
 use Rattle.dw_moves.specs.inner.MemberLemmas.{mem_map}
 use Rattle.dw_rows.specs.CheckRow.{IsRemarkObject, refutation_members, word_members}
 use Rattle.dw_study.specs.RemarkWords.{Words}
@@ -21,35 +21,12 @@ use Rattle.dw_study.specs.Remarks.{Remark}
 use Rattle.dw_study.specs.Telling.{remark_in}
 use Rattle.dw_study.specs.declared.remark.Remark as remarks
 
--- what one of these moves does
-effects_have : (g : Geometry) (p : Placement) (n : ℕ) (moves : List Move) (done : List (Move × Effect))
-    → AreEffects g p n moves done → (x : Move × Effect) → Has x done → HasEffect g p n x.0 x.1
-effects_have g p n [] done none x member = absurd (subst (Has x) none member)
-effects_have g p n (m ∷ moves) done h x member = elim (subst (Has x) h.4 member) [
-  | inl e ↦ subst (λ (z : Move × Effect). HasEffect g p n z.0 z.1) (sym e) h.2
-  | inr later ↦ effects_have g p n moves h.1 h.3 x later
-]
-
-pub effect_of_one : {V : Type 0} (told : V → Move × Effect) (g : Geometry) (p : Placement) (n : ℕ) (moves : List Move)
-    (done : List V) → AreEffects g p n moves (map told done) → (one : V) → Has one done
-    → HasEffect g p n (told one).0 (told one).1
-effect_of_one told g p n moves done all one member =
-    effects_have g p n moves (map told done) all (told one) (mem_map told one done member)
-
--- a move that does something is legal
-pub is_legal : (g : Geometry) (p : Placement) (n : ℕ) (m : Move) (effect : Effect) → HasEffect g p n m effect
-    → Legal g p m
-is_legal g p n m (wins_in zero) h = absurd h.wins
-is_legal g p n m (wins_in (suc k)) h = h.wins.0
-is_legal g p n m (refuted_by replies) h = h.0
-
--- a reply that refutes is legal
-pub reply_legal : (g : Geometry) (p after : Placement) (n : ℕ) (m : Move) (effect : Effect) (replies all : List Move)
-    → after ≡ play g p m → refuted_by replies ≡ effect → all ≡ replies → HasEffect g p n m effect → (r : Move)
-    → Has r all → Legal g after r
-reply_legal g p after n m effect replies all there is same has r member =
-    let here = subst (HasEffect g p n m) (sym is) has in
-    subst (λ z. Legal g z r) (sym there) ((here.2.exactly r).0 (subst (Has r) same member)).0
+pub effect_of_one : {V : Type 0} (told : V → Move × Effect) (g : Geometry) (p start : Placement)
+    (effects : List (Move × Effect)) (done : List V) (have : HaveEffects g start effects) → map told done ≡ effects
+    → p ≡ start → (one : V) → Has one done → HasEffect g p have.0 (told one).0 (told one).1
+effect_of_one told g p start effects done have same there one member =
+    subst (λ z. HasEffect g z have.0 (told one).0 (told one).1) (sym there)
+    (have.1 (told one) (subst (Has (told one)) same (mem_map told one done member)))
 
 some_same : {X : Type 0} (x y : X) → Some x ≡ Some y → x ≡ y
 some_same x y e = cc

@@ -1,15 +1,15 @@
 //! The row of the effects of the first moves of a problem.
-ghost use Rattle.std.specs.Prelude.{◌≡◌, ◌∷◌, [], ℕ, List, codes, map, IfOk, OnOk};
+ghost use Rattle.std.specs.Prelude.{◌≡◌, ◌∷◌, [], ℕ, codes, IfOk, OnOk};
 ghost use Rattle.std.specs.String.{string_bytes};
 ghost use Rattle.dw_moves.specs.Moves as of;
-ghost use Rattle.dw_first_moves.specs.FirstMoves.{AreEffects, HasEffect};
+ghost use Rattle.dw_first_moves.specs.FirstMoves.{HasEffect};
 ghost use Rattle.dw_first_moves.specs.Telling.{effect_of, told_by};
 ghost use Rattle.dw_json.specs.Rows.{Member};
 ghost use Rattle.dw_json.specs.Writing.{WritesMembers};
 ghost use Rattle.dw_rows.specs.FirstMovesRow.{IsEffectMember, IsFirstMoveObject, IsFirstMovesRow};
 
 use dw_board::{Board, Position, fen_text};
-use dw_first_moves::{Effect, FirstMove, wins_among};
+use dw_first_moves::{Effect, FirstMove, FirstMoves};
 use dw_json::{PutObject, begin_row, end_row, put_number, put_objects, put_text, put_texts};
 use dw_moves::play::play;
 use dw_notation::text_in;
@@ -17,24 +17,27 @@ use dw_study::move_texts;
 use json::Writer;
 use std::alloc::{AllocError, Global};
 
-/// Makes the row of the effects that `first_moves` found.
+/// Makes the row of first moves with their effects within `moves` moves.
 pub fn first_moves_row<B: Board>(
     alloc: Global,
     number: u32,
-    position: &Position<B>,
     moves: u8,
-    done: &[FirstMove<B>],
+    found: &FirstMoves<B>,
 ) -> Result<String, AllocError>
-    requires { (n : ℕ) × (all : List of.Move) × AreEffects B.geometry position.now n all (map told_by done.now) }
-    ensures { IfOk result (λ line. IsFirstMovesRow B.geometry number position.now moves (map told_by done.now)
+    ensures { IfOk result (λ line. IsFirstMovesRow B.geometry number found.now.start moves found.now.effects
         (string_bytes line)) }
 {
+    let position = found.position();
+    let each = FirstMovesOf {
+        alloc,
+        position: &position,
+    };
     let mut row = begin_row(alloc)?;
     put_number(&mut row, "problem", number.into())?;
-    put_text(&mut row, "fen", fen_text(position).as_str())?;
+    put_text(&mut row, "fen", fen_text(&position).as_str())?;
     put_number(&mut row, "n", moves.into())?;
-    put_number(&mut row, "winning", wins_among(done) as u64)?;
-    put_objects(&mut row, "moves", done, &FirstMovesOf { alloc, position })?;
+    put_number(&mut row, "winning", found.wins() as u64)?;
+    put_objects(&mut row, "moves", found.as_slice(), &each)?;
     end_row(row)
 }
 

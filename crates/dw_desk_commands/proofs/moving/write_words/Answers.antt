@@ -1,8 +1,7 @@
-use Rattle.std.proofs.Common.{◌∙◌, refl, false, subst, map}
+use Rattle.std.proofs.Common.{◌∙◌, refl, false, subst}
 use Rattle.std.specs.Io.KnownBytes.{Appends}
 use Rattle.std.specs.String.{string_bytes}
 use Rattle.dw_first_moves.specs.FirstMovesText.{IsFirstMovesText}
-use Rattle.dw_first_moves.specs.Telling.{told_by}
 use Rattle.dw_notation.specs.Problems.{numbered}
 use Rattle.dw_desk_commands.specs.Moving.{SaysFirstMoves}
 use Rattle.dw_desk_commands.proofs.ProblemLemmas.{line_and_more}
@@ -14,13 +13,13 @@ returns-clause-text g c =
     let taken = g.K.Sink.taken in
     let asked = c.args.asked.now in
     let p = c.in-Ok.position in
-    let done = c.in_ok-done.done in
+    let found = c.in_ok-found.found in
     line_and_more geo (SaysFirstMoves geo asked.n asked.part asked.parts)
     (numbered c.args.problem.now) p false (string_bytes c.in_ok-text.text) (taken c.args.sink.now)
     (taken c.write_all.new.sink) (taken c.write_all-2.new.sink) c.in-Ok.is (
-      map told_by done.items,
-      c.in_ok-done.ensures.done,
-      subst (λ z. IsFirstMovesText geo p (map told_by z) (string_bytes c.in_ok-text.text)) c.as_slice.ensures.value
+      found.effects,
+      c.in_ok-found.ensures.effects,
+      subst (λ z. IsFirstMovesText geo z found.effects (string_bytes c.in_ok-text.text)) c.in_ok-found.ensures.start
           c.in_ok-text.ensures,
       refl,
     )

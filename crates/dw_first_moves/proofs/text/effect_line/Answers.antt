@@ -1,6 +1,7 @@
 use Rattle.std.specs.String.{string_bytes}
 use Rattle.dw_first_moves.specs.Telling.{effect_of, told_by}
-use Rattle.dw_first_moves.proofs.TextLemmas.{is_legal, line_made, ok_so}
+use Rattle.dw_first_moves.specs.inner.EffectMoves.{is_legal}
+use Rattle.dw_first_moves.proofs.TextLemmas.{line_made, ok_so}
 use Rattle.dw_first_moves.proofs.text.effect_line.Goals as goal
 
 pub text_in-requires : goal.text_in-requires

@@ -2,7 +2,8 @@ use Rattle.std.proofs.Common.{sym, ap, ◌∙◌}
 use Rattle.std.specs.String.{string_bytes}
 use Rattle.dw_first_moves.specs.FirstMoves.{refuted_by}
 use Rattle.dw_first_moves.specs.Telling.{effect_of}
-use Rattle.dw_first_moves.proofs.TextLemmas.{ok_so, refuted_made, reply_legal}
+use Rattle.dw_first_moves.specs.inner.EffectMoves.{reply_legal}
+use Rattle.dw_first_moves.proofs.TextLemmas.{ok_so, refuted_made}
 use Rattle.dw_first_moves.proofs.text.effect_text.Goals as goal
 
 pub joined_text-requires : goal.joined_text-requires

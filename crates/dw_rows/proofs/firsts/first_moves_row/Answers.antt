@@ -1,4 +1,5 @@
-use Rattle.std.proofs.Common.{◌∙◌, ◌∷◌, []}
+use Rattle.std.proofs.Common.{◌∙◌, ◌∷◌, [], List, ap, subst}
+use Rattle.dw_board.specs.FenText.{written}
 use Rattle.std.specs.Prelude.{codes}
 use Rattle.json.specs.Json.{string}
 use Rattle.dw_first_moves.specs.Telling.{told_by}
@@ -6,13 +7,16 @@ use Rattle.dw_json.specs.Rows.{Member, count, objects, row}
 use Rattle.dw_json.specs.inner.Composing.{begun_more, if_ok, objects_told}
 use Rattle.dw_rows.specs.FirstMovesRow.{IsFirstMoveObject}
 use Rattle.dw_rows.proofs.RowLemmas.{effect_of_one}
+use Rattle.dw_first_moves.specs.FirstMoves.{Effect}
+use Rattle.dw_moves.specs.Moves.{Move}
+use Rattle.dw_json.specs.Rows.{AreObjects}
 use Rattle.dw_rows.proofs.firsts.first_moves_row.Goals as goal
 
 pub put_objects-requires : goal.put_objects-requires
 put_objects-requires g c = λ one member. (
-  c.requires.0,
-  effect_of_one told_by g.B.Board.geometry c.args.position.now c.requires.0 c.requires.1 c.args.done.now c.requires.2
-      one member,
+  c.as_slice.ensures.right.0,
+  effect_of_one told_by g.B.Board.geometry c.position.result c.args.found.now.start c.args.found.now.effects
+      c.as_slice.result.now c.as_slice.ensures.right c.as_slice.ensures.effects c.position.ensures one member,
 )
 
 pub returns : goal.returns
@@ -21,7 +25,7 @@ returns g c =
     let m1 : Member = (codes "problem", count c.into.result) in
     let m2 : Member = (codes "fen", string c.as_str.result.now) in
     let m3 : Member = (codes "n", count c.into-2.result) in
-    let m4 : Member = (codes "winning", count c.wins_among.result) in
+    let m4 : Member = (codes "winning", count c.wins.result) in
     let each = c.in_ok-put_objects.ensures.0 in
     let last : Member = (codes "moves", objects each) in
     let b1 = begun_more [] (m1 ∷ []) _ _ c.in_ok-row.ensures c.in_ok-put_number.ensures in
@@ -31,9 +35,12 @@ returns g c =
     let b5 = begun_more (m1 ∷ m2 ∷ m3 ∷ m4 ∷ []) (last ∷ []) _ _ b4 c.in_ok-put_objects.ensures.2 in
     if_ok c.end_row.result (c.end_row.ensures (m1 ∷ m2 ∷ m3 ∷ m4 ∷ last ∷ []) b5) (λ line is. (
       each,
-      objects_told (IsFirstMoveObject geo c.args.position.now) told_by c.args.done.now each
-          c.in_ok-put_objects.ensures.1,
+      subst (λ p. AreObjects (IsFirstMoveObject geo p) c.args.found.now.effects each) c.position.ensures
+          (subst (λ (z : List (Move × Effect)). AreObjects (IsFirstMoveObject geo c.position.result) z each)
+          c.as_slice.ensures.effects
+          (objects_told (IsFirstMoveObject geo c.position.result) told_by c.as_slice.result.now each
+          c.in_ok-put_objects.ensures.1)),
       is ∙ (λ i. row ((codes "problem", count (c.into.ensures i))
-          ∷ (codes "fen", string ((c.as_str.ensures.value ∙ c.fen_text.ensures) i))
-          ∷ (codes "n", count (c.into-2.ensures i)) ∷ (codes "winning", count (c.wins_among.ensures i)) ∷ last ∷ [])),
+          ∷ (codes "fen", string ((c.as_str.ensures.value ∙ (c.fen_text.ensures ∙ ap (written geo) c.position.ensures)) i))
+          ∷ (codes "n", count (c.into-2.ensures i)) ∷ (codes "winning", count (c.wins.ensures i)) ∷ last ∷ [])),
     ))

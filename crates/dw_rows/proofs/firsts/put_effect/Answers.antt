@@ -6,7 +6,7 @@ use Rattle.dw_json.specs.Rows.{count, texts}
 use Rattle.dw_json.specs.inner.Composing.{then_ok}
 use Rattle.dw_notation.specs.Text.{AreMoveTexts}
 use Rattle.dw_rows.specs.FirstMovesRow.{IsEffectMember}
-use Rattle.dw_rows.proofs.RowLemmas.{reply_legal}
+use Rattle.dw_first_moves.specs.inner.EffectMoves.{reply_legal}
 use Rattle.dw_rows.proofs.firsts.put_effect.Goals as goal
 
 pub move_texts-requires : goal.move_texts-requires

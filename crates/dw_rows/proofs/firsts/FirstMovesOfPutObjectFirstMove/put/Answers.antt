@@ -6,7 +6,7 @@ use Rattle.dw_notation.specs.Text.{IsMoveText}
 use Rattle.dw_first_moves.specs.Telling.{effect_of}
 use Rattle.dw_json.specs.Rows.{Member}
 use Rattle.dw_json.specs.inner.Composing.{both, then_ok}
-use Rattle.dw_rows.proofs.RowLemmas.{is_legal}
+use Rattle.dw_first_moves.specs.inner.EffectMoves.{is_legal}
 use Rattle.dw_rows.proofs.firsts.FirstMovesOfPutObjectFirstMove.put.Goals as goal
 
 pub text_in-requires : goal.text_in-requires

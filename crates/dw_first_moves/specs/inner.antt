@@ -1,0 +1,3 @@
+-- What only relates the code to the definitions: no contract of a public call names it.
+pub mod EffectCodes
+pub mod EffectMoves
