@@ -21,8 +21,7 @@ put_kind put.Taken = Twice
 put_kind put.LastRow = LastRow
 put_kind put.TooMany = TooMany
 
--- a list must follow these tokens, which set these pieces: the first list, or a second one after a first of the given
--- colour
+-- a list must follow these tokens: the first one, or a second one after a first of the given colour
 pub data ListNext (g : Geometry) : (before : List Token) → Option Side → Placement → Type 0 where
   first : {turn c : Token} {mover : Side} → side_named turn.text ≡ Some mover → is_sign colon c.text ≡ true
       → ListNext g (turn ∷ c ∷ []) None (empty mover)
@@ -30,8 +29,7 @@ pub data ListNext (g : Geometry) : (before : List Token) → Option Side → Pla
       → ListNext g before None p → IsList g (texts ws) side is → Sets g p (all_named side is) q
       → is_sign colon c.text ≡ true → ListNext g (before ++ ws ++ c ∷ []) (Some side) q
 
--- these tokens end with a list of this colour and these items, after which these pieces stand; a second list differs in
--- colour from the first
+-- these tokens end with a list of this colour and these items, and leave these pieces; two lists differ in colour
 pub data ListRead (g : Geometry) : List Token → Side → List Placing → Placement → Type 0 where
   listed : {before : List Token} (ws : List Token) {earlier : Option Side} {side : Side} {is : List Placing}
       {p q : Placement} → ListNext g before earlier p → IsList g (texts ws) side is → earlier ≢ Some side
@@ -56,8 +54,7 @@ pub data NumberNext (g : Geometry) : (before after : List Token) → Option ℕ 
       → NumberNext g before (v ∷ d ∷ after) None kings side p → number_named g v.text ≡ Some m
       → is_sign dash d.text ≡ true → NumberNext g (before ++ v ∷ d ∷ []) after (Some m) kings side p
 
--- after the tokens before come all numbers of an item, and then the rest; after a single number the rest begins with no
--- dash, which would continue the item
+-- all numbers of an item follow, and then the rest; a dash after a single number would continue the item
 pub data RangeNext (g : Geometry) : (before ts rest : List Token) → Placing → Side → Placement → Type 0 where
   whole : {before ts rest : List Token} {m n : ℕ} {kings : Bool} {side : Side} {p : Placement}
       → NumberNext g before (ts ++ rest) None kings side p → IsRange g (texts ts) m n
@@ -90,8 +87,7 @@ pub data FaultAt (g : Geometry) : (before after : List Token) → FenFaultKind �
       → ListRead g before side is p → is_sign full_stop stop.text ≡ true → is_empty after ≡ false
       → FaultAt g (before ++ stop ∷ []) after Rest
 
--- the earliest fault of a text, at the first of the tokens after; a text that is too long has that fault before any
--- other
+-- the earliest fault of a text, at the first of the tokens after; that it is too long comes before any other
 pub data IsFirstFault (g : Geometry) : List ℕ → FenFault → Type 0 where
   too_long : {text : List ℕ} → 1024 < length text → IsFirstFault g text (record { what = TooLong; place = 1025 })
   fault_at : {text : List ℕ} (before after : List Token) {what : FenFaultKind} → length text ≤ 1024

@@ -64,8 +64,7 @@ named side i = map (λ s. (s, record { side = side; kind = if i.is_king then Kin
 abbrev pub all_named : Side → List Placing → List (ℕ × Piece)
 all_named side is = flat_map (named side) is
 
--- p becomes q by putting each piece on its square in turn; the square is empty and not a man's last row, and no side
--- gets too many pieces
+-- p becomes q by putting each piece in turn on an empty square: no man on its last row, and no piece too many
 abbrev pub Sets : Geometry → Placement → List (ℕ × Piece) → Placement → Type 0
 Sets g p [] q = p ≡ q
 Sets g p (first ∷ others) q = (put_fault g p first.0 first.1 ≡ None) × Sets g (placed p first.0 (Some first.1)) others q

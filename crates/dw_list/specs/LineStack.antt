@@ -33,8 +33,7 @@ abbrev pub IsAhead : Option (List Move) → List Move → Type 0
 IsAhead None l = Unit {0}
 IsAhead (Some moves) l = BeginsAmong moves l
 
--- at a level whose move m was played, a list of moves begins with a move ahead, or with m and then goes on in one of
--- these ways
+-- at a level whose move m was played, moves begin with a move ahead, or with m and then go on in one of these ways
 abbrev pub IsBehind : Option (List Move) → Move → (List Move → Type 0) → List Move → Type 0
 IsBehind ahead m Ways l = IsAhead ahead l ⊎ ((rest : List Move) × (l ≡ m ∷ rest) × Ways rest)
 

@@ -61,8 +61,7 @@ IsExposed g p side s = (d : Dir) × IsOpen g p side s d × IsOpen g p side s (ba
 abbrev pub SafeStep : Geometry → Placement → ℕ → ℕ → Type 0
 SafeStep g p from to = OneStep g (passed p) from to × (IsExposed g p (other p.turn) from → ⊥)
 
--- the other side has a sure reply: nothing can be taken and it could step to two squares, or pieces of it that are not
--- exposed could
+-- the other side has a sure reply: steps to two squares if nothing can be taken, else such steps by pieces not exposed
 abbrev pub HasSureReply : Geometry → Placement → Type 0
 HasSureReply g p = IsLoose g p ⊎ LeadToTwo (SafeStep g p)
 

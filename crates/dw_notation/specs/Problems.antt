@@ -30,8 +30,7 @@ abbrev pub TextSays : Geometry → Form → Bool → List ℕ → List Found →
 TextSays g Fens over bytes found = LinesSay g over (without_mark bytes) found
 TextSays g Pdn over bytes found = SectionsSay g over (without_mark bytes) found
 
--- the problems of a text; if more bytes may come, only those that end in it, by a line feed or by a byte after their
--- section
+-- the problems of a text; if more bytes may come, those that end in it, by a line feed or a byte after their section
 pub record AreProblems (g : Geometry) (form : Form) (over : Bool) (bytes : List ℕ) (problems : List Numbered) :
     Type 0 where
   pub found : List Found

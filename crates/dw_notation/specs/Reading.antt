@@ -48,8 +48,7 @@ ReadsAtNeed g old read =
     (read ≡ []) ⊎ ((old.handed ≤ MAX_PROBLEMS) × (before : List ℕ) × (last : List ℕ) × (read ≡ before ++ last)
     × (length last ≤ MAX_READ) × (old.ahead g false before ≡ []))
 
--- the effect of a call for the next problem: bytes are taken off the source, if they are needed, and this result is
--- given
+-- the effect of a call for the next problem: these bytes are taken off the source, and this result is given
 pub record NextGives {B : Type 0} (g : Geometry) (coming left : Option (List ℕ)) (old new : Reader)
     (result : Result (Option (Problem B)) ReadFault) : Type 0 where
   pub read : List ℕ

@@ -24,8 +24,7 @@ pub record IsComplete (g : Geometry) (p : Placement) (most : ℕ) (lines : List 
   pub are : AreLineTexts g p lines texts
   pub is : text ≡ texts ++ codes "complete " ++ decimal (length lines) ++ codes "\n"
 
--- the last line of a list that is cut: `more after` and the token of its last line of play; or `more` alone on boards
--- that have not 10 or 8 rows, where lines have no tokens
+-- the last line of a list that is cut: `more after` and the token of its last line, or `more` where lines have none
 unfoldable pub more_after : Geometry → List Move → List ℕ
 more_after g last =
     if (g.rows == 10) || (g.rows == 8) then codes "more after " ++ token_of g last ++ codes "\n" else codes "more\n"

@@ -5,8 +5,7 @@ use Rattle.dw_notation.specs.declared.problems.Form.{Form}
 use Rattle.dw_report.specs.declared.settings.Command.{Command}
 use Rattle.dw_report.specs.declared.settings.Settings.{Settings}
 
--- the command; the form of the text; the number of moves within which to win; the number of the only problem to report,
--- or all; the most lines to list; the line after which they begin, or none
+-- the command, the form of the text, the number of moves, the only problem to report, the most lines, the line before
 pub record Request : Type 0 where
   pub command : Command
   pub form : Form

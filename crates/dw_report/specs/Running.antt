@@ -61,8 +61,7 @@ pub record ReadsUpTo (g : Geometry) (form : Form) (number : ℕ) (read : List �
   pub are : AreProblems g form false before ended
   pub fewer : length ended < number
 
--- the source was read to its end, or up to the problem with which the run ends: the only one requested, or the one too
--- many
+-- the source was read to its end, or up to the problem with which the run ends: the one requested, or one too many
 abbrev pub IsReadThrough : Geometry → Request → List Numbered → Option (List ℕ) → List ℕ → Type 0
 IsReadThrough g request problems left read =
     IsAtEnd left ⊎ ((number : ℕ) × ((request.only ≡ Some number) ⊎ (number ≡ MAX_PROBLEMS + 1))
@@ -79,8 +78,7 @@ pub record Finishes (g : Geometry) (request : Request) (bytes : List ℕ) (left 
   pub took : Consumes (Some bytes) left read
   pub through : IsReadThrough g request problems left read
 
--- after a failed read the sink has the texts of the chosen problems that ended in the bytes read, and nothing else; a
--- problem requested alone is not among them
+-- after a failed read the sink has the texts of the chosen problems that ended in the bytes read, none requested alone
 pub record StopsReading (g : Geometry) (request : Request) (bytes : List ℕ)
     (left taken after : Option (List ℕ)) : Type 0 where
   pub read : List ℕ
@@ -138,8 +136,7 @@ pub record StopsAhead (P : (read text out : List ℕ) → Type 0) (bytes : List 
   pub wrote : Appends taken after out
   pub front : ((more : List ℕ) → P read (read ++ more) out) ⊎ ((ended ≡ true) × P read read out)
 
--- the output of a run, if the source tells its bytes: the whole report; or after a stop, a failed read or a failed
--- write a beginning of it
+-- the output of a run, if the source tells its bytes: the whole report, or a stated beginning of it
 abbrev pub RunEnds : Geometry → Request → Option (List ℕ) → Option (List ℕ) → Bool → Option (List ℕ)
     → Option (List ℕ) → Result Summary RunFault → Type 0
 RunEnds g request None left ended taken after result = Unit {0}
@@ -150,8 +147,7 @@ RunEnds g request (Some bytes) left ended taken after (Err ends.Read) = StopsRea
 RunEnds g request (Some bytes) left ended taken after (Err ends.Write) =
     StopsAhead (λ read text out. BeginsReport g request text out) bytes left ended taken after
 
--- how a run may be stopped: `show` never; `moves` only for lack of memory, with nothing expanded; a search for lack of
--- memory, or at its limit, which the expansions never pass
+-- how a run may be stopped: `show` never, `moves` only for lack of memory, a search for that or at its limit
 abbrev pub MayStop : Command → ℕ → Stop → ℕ → Type 0
 MayStop asked.Show limit why expanded = ⊥
 MayStop asked.Moves limit why expanded = (why ≡ Memory) × (expanded ≡ 0)
