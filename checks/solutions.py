@@ -27,6 +27,25 @@ TOP = pathlib.Path(__file__).resolve().parent.parent
 DESK = TOP / "dw-desk"
 SEED, MOST, MOST_LINES = 29, 3, 40
 SPOILT = 12  # movetexts made of each
+# Worked solutions, and the rows of `check --json -n 2`.
+WORKED = b"""[FEN "W:W27,45:B16"] 1. 45-40 16-21 2. 27x16 *
+[FEN "W:W27,32:B18"] 1. 32-28 18-22 2. 27x18 2-0
+[FEN "W:W27,32:B18"] 1. 27-22! {why not} 18x38 *
+[FEN "W:W27,32:B18"] 1. 32-28 *
+[FEN "W:W27,32:B18"] 1. 32-27
+[FEN "W:W3:B20"] *
+"""
+WORKED_ROWS = """\
+{"problem":1,"fen":"W:W27,45:B16","n":2,"win":true,"holds":true,"fail":0,"end":0,"open":0,"also":0,"remarks":[]}
+{"problem":2,"fen":"W:W27,32:B18","n":2,"win":true,"holds":true,"fail":0,"end":0,"open":1,"also":1,"remarks":[\
+{"kind":"open","line":"1. 32-28","moves":["18-23"]},{"kind":"also","line":"1. 32-28 18-22","moves":["28x17"]}]}
+{"problem":3,"fen":"W:W27,32:B18","n":2,"win":true,"holds":false,"fail":1,"end":0,"open":0,"also":1,"remarks":[\
+{"kind":"fails","line":"","moves":["27-22"],"refutation":"18x38"},{"kind":"also","line":"","moves":["32-28"]}]}
+{"problem":4,"fen":"W:W27,32:B18","n":2,"win":true,"holds":false,"fail":0,"end":1,"open":0,"also":0,"remarks":[\
+{"kind":"ends","line":"1. 32-28","moves":[]}]}
+{"problem":5,"fen":"W:W27,32:B18","solution_refused":"2 no such move at 5"}
+{"problem":6,"refused":"7 last row at 4"}
+"""
 RESULTS = {"2-0", "0-2", "1-1", "0-0", "1-0", "0-1", "1/2-1/2", "*"}
 NAMES = {1: "token", 2: "no such move", 3: "ambiguous", 4: "variation", 5: "unclosed", 6: "rest", 7: "too deep",
          8: "too long", 10: "empty"}
@@ -413,9 +432,21 @@ def usable(entry):
     return True
 
 
+def check_worked(folder):
+    """The rows of worked solutions; with --faults all but those of the one without a remark."""
+    file = folder / "worked.pdn"
+    file.write_bytes(WORKED)
+    for more, rows in (([], WORKED_ROWS), (["--faults"], WORKED_ROWS.split("\n", 1)[1])):
+        ran = subprocess.run([DESK, "check", "--json", "-n", "2", *more, file], capture_output=True, text=True,
+                             check=False)
+        assert (ran.returncode, ran.stdout, ran.stderr) == (1, rows, ""), ran
+    print("worked solutions: their rows, with and without --faults")
+
+
 def main():
     count, source = count_asked(150), random.Random(SEED)
     with tempfile.TemporaryDirectory() as name:
+        check_worked(pathlib.Path(name))
         for rows in (10, 8):
             check(rows, count, source, pathlib.Path(name))
 

@@ -1,5 +1,5 @@
 /** Comparing an author's solution with the truth. */
-import { byId, control, make, reveal } from './dom.js';
+import { byId, control, make, reveal, unbroken } from './dom.js';
 import { movesOf, rowsOf, solutionFault, summaryOf } from './answers.js';
 import { textOf } from './engine.js';
 import { keyOf } from './languages.js';
@@ -96,7 +96,8 @@ export function comparing(app) {
         const path = kind === 'fails' ? [...movesOf(line), ...moves] : movesOf(line);
         const data = { 'data-kind': kind, 'data-line': line, 'data-moves': moves.join(', ') };
         const button = make('button', { type: 'button', class: `remark ${kind}`, ...data },
-            make('span', { class: 'sign', 'aria-hidden': 'true' }, isBad ? '✗' : '!'), ` ${sentence(remark)}`);
+            make('span', { class: 'sign', 'aria-hidden': 'true' }, isBad ? '✗' : '!'), ' ',
+            make('span', {}, ...unbroken(sentence(remark))));
         button.addEventListener('click', () => void playOut(path));
         return make('li', {}, button);
     }

@@ -105,6 +105,13 @@ export function save(name, content, type) {
 }
 
 /**
+ * The parts of a sentence, in which no move is broken over two lines.
+ * @param {string} text
+ */
+export const unbroken = (text) => text.split(/(\d+(?:[-x]\d+)+)/)
+    .map((part, i) => (i % 2 ? make('span', { class: 'whole' }, part) : part));
+
+/**
  * Copies a text to the clipboard; answers whether the browser let it.
  * @param {string} text
  */

@@ -1,5 +1,5 @@
 /** Asking what a problem is, and showing the answer. */
-import { byId, control, copyText, make, reveal, save } from './dom.js';
+import { byId, control, copyText, make, reveal, save, unbroken } from './dom.js';
 import { rowsOf } from './answers.js';
 import { boardOf, knows } from './rules.js';
 import { Failed, find, judge, reportOf } from './search.js';
@@ -222,7 +222,7 @@ export class Solving {
         verdict.dataset.line = found.line;
         verdict.dataset.verdict = found.verdict;
         const sign = make('span', { class: 'sign', 'aria-hidden': 'true' }, SIGNS[found.verdict]);
-        verdict.replaceChildren(sign, ` ${this.sentence()}`);
+        verdict.replaceChildren(sign, ' ', ...unbroken(this.sentence()));
         byId('about').textContent = found.line;
         this.showDual();
         reveal('tries-part', found.tries.length > 0);
@@ -239,7 +239,7 @@ export class Solving {
         reveal('dual', found?.verdict === 'dual');
         if (found?.verdict !== 'dual') return;
         const choices = found.choices.flatMap((move, i) => [i ? ' / ' : '', this.jump([...found.at, move])]);
-        byId('dual').replaceChildren(app.say('sayChoice', found.at.join(' ')), ' ', ...choices);
+        byId('dual').replaceChildren(...unbroken(app.say('sayChoice', found.at.join(' '))), ' ', ...choices);
     }
 
     /**
