@@ -7,10 +7,10 @@ Every link must lead to a file and a heading, and every named file must exist. N
 contract in docs/PROVED.md must be that of `run`, word for word, the quoted contracts in docs/CONTRACTS.md must stand in
 their files, and each definition in docs/DEFINITIONS.md in its file. `dw show` must give the answers to the FEN texts of
 docs/FORMATS.md. The program in docs/LIBRARY.md must be the crate `dw_example`. The problems in docs/REPORT.md must have
-their diagrams, verdicts and tries. Each call `$ echo FEN | ./PROGRAM WORDS` in README.md, docs/DESK.md and
-docs/COMPOSERS.md must give the answer below it. docs/diagram.svg must be the diagram that `dw-desk page` draws. Each
-function on the ways in docs/ARCHITECTURE.md must be in its file, and each crate must be named there, with files that it
-has.
+their diagrams, verdicts and tries. Each call `$ echo FEN | ./PROGRAM WORDS` in README.md, docs/DESK.md, docs/JSON.md
+and docs/COMPOSERS.md must give the answer below it. docs/diagram.svg must be the diagram that `dw-desk page` draws.
+Each function on the ways in docs/ARCHITECTURE.md must be in its file, and each crate must be named there, with files
+that it has.
 """
 import pathlib
 import re
@@ -21,8 +21,8 @@ TOP = pathlib.Path(__file__).resolve().parent.parent
 DW = TOP / "dw"
 TEXTS = [*(TOP / name for name in ("README.md", "CONTRIBUTING.md", "CHANGELOG.md", "examples/README.md")),
          *sorted((TOP / "docs").glob("*.md"))]
-README, PROVED, DEFINITIONS, FORMATS, REPORT, DESK, COMPOSERS = TOP / "README.md", *(
-    TOP / f"docs/{name}.md" for name in ("PROVED", "DEFINITIONS", "FORMATS", "REPORT", "DESK", "COMPOSERS"))
+README, PROVED, DEFINITIONS, FORMATS, REPORT, DESK, JSON, COMPOSERS = TOP / "README.md", *(
+    TOP / f"docs/{name}.md" for name in ("PROVED", "DEFINITIONS", "FORMATS", "REPORT", "DESK", "JSON", "COMPOSERS"))
 RUN = TOP / "crates/dw_report/src/run.rt"
 CONTRACTS = TOP / "docs/CONTRACTS.md"
 ARCHITECTURE, LIBRARY, EXAMPLE = TOP / "docs/ARCHITECTURE.md", TOP / "docs/LIBRARY.md", TOP / "crates/dw_example"
@@ -163,7 +163,7 @@ def check_verdicts():
 
 def check_calls():
     """What a page shows a program to answer to a FEN text is what it answers."""
-    for page in (README, DESK, COMPOSERS):
+    for page in (README, DESK, JSON, COMPOSERS):
         called = r"^ {4}\$ echo (\S+) \| \./(\S+) (.*)\n((?: {4}[^$\n].*\n|\n(?= {4}[^$.\n]))+)"
         calls = re.findall(called, page.read_text(), re.MULTILINE)
         assert len(calls) >= 2, calls

@@ -1,7 +1,7 @@
 -- Rows, member by member.
-use Rattle.std.proofs.Common.{◌≡◌, ℕ, List, [], ◌∷◌, ◌++◌, map, refl, sym, ◌∙◌, ap, subst, inl, inr}
-use Rattle.std.proofs.Common.{append_assoc, append-nil, Some}
-use Rattle.std.specs.Prelude.{codes}
+use Rattle.std.proofs.Common.{◌≡◌, ℕ, zero, suc, ◌+◌, ◌<◌, List, [], ◌∷◌, ◌++◌, map, refl, sym, ◌∙◌, ap, subst, inl, inr}
+use Rattle.std.proofs.Common.{append_assoc, append-nil, arith, get_or, length, take, Some}
+use Rattle.std.specs.Prelude.{Option, codes}
 use Rattle.dw_board.specs.Geometry.{Geometry}
 use Rattle.dw_board.specs.Lists.{Member as Has}
 use Rattle.dw_board.specs.Placement.{Placement}
@@ -13,13 +13,8 @@ use Rattle.dw_json.specs.Writing.{WritesMembers}
 use Rattle.dw_json.specs.inner.Composing.{both}
 use Rattle.dw_moves.specs.Moves.{Move}
 use Rattle.dw_moves.specs.inner.MemberLemmas.{mem_map}
-use Rattle.dw_rows.specs.CheckRow.{IsRemarkObject, refutation_members, word_members}
+use Rattle.dw_rows.specs.CheckRow.{refutation_members, word_members}
 use Rattle.dw_study.specs.RemarkWords.{Words}
-use Rattle.dw_rows.specs.inner.Remarking.{CanTell, TellsIt}
-use Rattle.dw_study.specs.RemarkText.{CanBeTold}
-use Rattle.dw_study.specs.Remarks.{Remark}
-use Rattle.dw_study.specs.Telling.{remark_in}
-use Rattle.dw_study.specs.declared.remark.Remark as remarks
 
 pub effect_of_one : {V : Type 0} (told : V → Move × Effect) (g : Geometry) (p start : Placement)
     (effects : List (Move × Effect)) (done : List V) (have : HaveEffects g start effects) → map told done ≡ effects
@@ -28,37 +23,45 @@ effect_of_one told g p start effects done have same there one member =
     subst (λ z. HasEffect g z have.0 (told one).0 (told one).1) (sym there)
     (have.1 (told one) (subst (Has (told one)) same (mem_map told one done member)))
 
-some_same : {X : Type 0} (x y : X) → Some x ≡ Some y → x ≡ y
-some_same x y e = cc
+-- the thing at a place of a list, which says something, and the things said up to it
+pub said_at : {X Y : Type 0} (says : X → Option Y) (xs : List X) (said : List Y) (i : ℕ) (one : X)
+    → map says xs ≡ map (λ y. Some y) said → i < length xs → one ≡ get_or xs i one
+    → (y : Y) × (says one ≡ Some y) × Has y said × (take (i + 1) said ≡ take i said ++ y ∷ [])
+said_at says [] said i one same low at = absurd (omega (arith, low))
+said_at says (x ∷ xs) [] i one same low at = let bad = same in cc
+said_at says (x ∷ xs) (y ∷ said) zero one same low at =
+    (y, ap says at ∙ (let both = same in cc), inl refl, refl)
+said_at says (x ∷ xs) (y ∷ said) (suc i) one same low at =
+    let later = said_at says xs said i one (let both = same in cc) (omega (arith, low)) at in
+    (later.0, later.1, inr later.2, ap (λ z. y ∷ z) later.3)
 
--- remarks that can be told
-pub can_tell_each : {B : Type 0} (g : Geometry) (p : Placement) (tree : List (List Move))
-    (items : List (remarks.Remark B)) (said : List Remark) → map (remark_in tree) items ≡ map (λ r. Some r) said
-    → ((r : Remark) → Has r said → CanBeTold g p r) → (one : remarks.Remark B) → Has one items → CanTell g p tree one
-can_tell_each g p tree [] said same can one member = absurd member
-can_tell_each g p tree (i ∷ items) [] same can one member = let bad = same in cc
-can_tell_each g p tree (i ∷ items) (r ∷ said) same can one (inl e) =
-    (r, ap (remark_in tree) e ∙ (let both = same in cc), can r (inl refl))
-can_tell_each g p tree (i ∷ items) (r ∷ said) same can one (inr later) =
-    can_tell_each g p tree items said (let both = same in cc) (λ s here. can s (inr here)) one later
+-- as many are said as there are things
+pub all_said : {X Y : Type 0} (says : X → Option Y) (xs : List X) (said : List Y)
+    → map says xs ≡ map (λ y. Some y) said → take (length xs) said ≡ said
+all_said says [] [] same = refl
+all_said says [] (y ∷ said) same = let bad = same in cc
+all_said says (x ∷ xs) [] same = let bad = same in cc
+all_said says (x ∷ xs) (y ∷ said) same = ap (λ z. y ∷ z) (all_said says xs said (let both = same in cc))
 
--- objects of remarks are those of what they say
-pub told_objects : {B : Type 0} (g : Geometry) (p : Placement) (tree : List (List Move))
-    (items : List (remarks.Remark B)) (said : List Remark) (each : List (List Member))
-    → map (remark_in tree) items ≡ map (λ r. Some r) said → AreObjects (TellsIt g p tree) items each
-    → AreObjects (IsRemarkObject g p) said each
-told_objects g p tree [] [] each same none = none
-told_objects g p tree [] (r ∷ said) each same none = let bad = same in cc
-told_objects g p tree (i ∷ items) [] each same h = let bad = same in cc
-told_objects g p tree (i ∷ items) (r ∷ said) each same h =
-    let first : remark_in tree i ≡ Some r = let both = same in cc in
-    let one : h.2.0 ≡ r = some_same h.2.0 r (sym h.2.1 ∙ first) in (
-      h.0,
-      h.1,
-      subst (λ z. IsRemarkObject g p z h.0) one h.2.2,
-      told_objects g p tree items said h.1 (let both = same in cc) h.3,
-      h.4,
-    )
+-- objects, and one more
+pub one_more : {X : Type 0} (One : X → List Member → Type 0) (xs : List X) (x : X) (each : List (List Member))
+    (members : List Member) → AreObjects One xs each → One x members
+    → AreObjects One (xs ++ x ∷ []) (each ++ members ∷ [])
+one_more One [] x each members none here =
+    (members, [], here, refl, ap (λ z. z ++ members ∷ []) none)
+one_more One (y ∷ xs) x each members h here = (
+  h.0,
+  h.1 ++ members ∷ [],
+  h.2,
+  one_more One xs x h.1 members h.3 here,
+  ap (λ z. z ++ members ∷ []) h.4,
+)
+
+-- objects whose members are known
+pub all_told : {X : Type 0} (told : X → List Member) (xs : List X) (each : List (List Member))
+    → AreObjects (λ x members. members ≡ told x) xs each → each ≡ map told xs
+all_told told [] each none = none
+all_told told (x ∷ xs) each h = h.4 ∙ (λ i. h.2 i ∷ all_told told xs h.1 h.3 i)
 
 -- the members of a remark: its kind, its line and its moves, and then the reply that refutes, if there is one
 pub two_parts : (kind : List ℕ) (words : Words) (one line : List ℕ) (moves : List (List ℕ)) (more : List Member)

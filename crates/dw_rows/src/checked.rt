@@ -1,11 +1,11 @@
 //! The row of the remarks on an author's solution.
-ghost use Rattle.std.specs.Prelude.{◌≡◌, ◌∷◌, [], ℕ, List, Some, codes, map, IfOk, OnOk};
+ghost use Rattle.std.specs.Prelude.{◌≡◌, ◌∷◌, [], ℕ, List, Some, Unit, codes, map, IfOk, IfSome, IsSome, OnOk};
 ghost use Rattle.std.specs.String.{string_bytes};
 ghost use Rattle.dw_board.specs.Lists.{Member as Has};
-ghost use Rattle.dw_json.specs.Rows.{Member};
+ghost use Rattle.dw_json.specs.Rows.{AreObjects, Member};
 ghost use Rattle.dw_json.specs.Writing.{WritesMembers};
 ghost use Rattle.dw_rows.specs.CheckRow.{IsCheckedRow, IsRemarkObject, kind_word, refused_solution_row, word_members};
-ghost use Rattle.dw_rows.specs.inner.Remarking.{CanTell, TellsIt};
+ghost use Rattle.dw_rows.specs.inner.Remarking.{members_told};
 ghost use Rattle.dw_study.specs.RemarkText.{CanBeTold};
 ghost use Rattle.dw_study.specs.Remarks.{Remark as AnyRemark};
 ghost use Rattle.dw_study.specs.Telling.{remark_in, texts_in};
@@ -37,7 +37,8 @@ pub struct CheckNumbers {
     pub also: u64,
 }
 
-/// Makes the row of a solution: its numbers, and the remarks on it, in order.
+/// Makes the row of a solution: its numbers, and the remarks on it, in order. Returns `None` if a remark names a move
+/// that is not legal in its place, or comes after more than 39 moves.
 pub fn checked_row<B: Board>(
     alloc: Global,
     number: u32,
@@ -46,10 +47,34 @@ pub fn checked_row<B: Board>(
     numbers: CheckNumbers,
     tree: &Tree<B>,
     remarks: &[Remark<B>],
+) -> Result<Option<String>, AllocError>
+    ensures row { (said : List AnyRemark) → map (remark_in tree.now) remarks.now ≡ map (λ r. Some r) said
+        → IfOk result (λ made. IfSome made (λ line. IsCheckedRow B.geometry number position.now moves numbers said
+        (string_bytes line))) }
+    ensures some { (said : List AnyRemark) → map (remark_in tree.now) remarks.now ≡ map (λ r. Some r) said
+        → ((r : AnyRemark) → Has r said → CanBeTold B.geometry position.now r)
+        → IfOk result (λ made. IsSome made) }
+{
+    match told_remarks(alloc, position, tree, remarks)? {
+        Some(told) => {
+            let line = told_row(alloc, number, position, moves, numbers, told.as_slice())?;
+            Ok(Some(line))
+        }
+        None => Ok(None),
+    }
+}
+
+/// Makes the row of a solution with remarks in words.
+fn told_row<B: Board>(
+    alloc: Global,
+    number: u32,
+    position: &Position<B>,
+    moves: u8,
+    numbers: CheckNumbers,
+    remarks: &[ToldRemark],
 ) -> Result<String, AllocError>
-    requires { (said : List AnyRemark) × (map (remark_in tree.now) remarks.now ≡ map (λ r. Some r) said)
-        × ((r : AnyRemark) → Has r said → CanBeTold B.geometry position.now r) }
-    ensures { (said : List AnyRemark) → map (remark_in tree.now) remarks.now ≡ map (λ r. Some r) said
+    ensures { (said : List AnyRemark)
+        → AreObjects (IsRemarkObject B.geometry position.now) said (map members_told remarks.now)
         → IfOk result (λ line. IsCheckedRow B.geometry number position.now moves numbers said (string_bytes line)) }
 {
     let mut row = begin_row(alloc)?;
@@ -62,13 +87,43 @@ pub fn checked_row<B: Board>(
     put_number(&mut row, "end", numbers.end)?;
     put_number(&mut row, "open", numbers.open)?;
     put_number(&mut row, "also", numbers.also)?;
-    let each = RemarksOn {
-        alloc,
-        position,
-        tree,
-    };
-    put_objects(&mut row, "remarks", remarks, &each)?;
+    put_objects(&mut row, "remarks", remarks, &ToldRemarks {})?;
     end_row(row)
+}
+
+/// A remark in words.
+#[derive(Drop)]
+struct ToldRemark {
+    kind: &'static str,
+    words: RemarkWords,
+}
+
+/// Puts the remarks on a tree of a position in words. Returns `None` if one of them names a move that is not legal in
+/// its place, or comes after more than 39 moves.
+fn told_remarks<B: Board>(
+    alloc: Global,
+    position: &Position<B>,
+    tree: &Tree<B>,
+    remarks: &[Remark<B>],
+) -> Result<Option<Vec<ToldRemark>>, AllocError>
+    ensures told { (said : List AnyRemark) → map (remark_in tree.now) remarks.now ≡ map (λ r. Some r) said
+        → IfOk result (λ made. IfSome made (λ told. AreObjects (IsRemarkObject B.geometry position.now) said
+        (map members_told told.items))) }
+    ensures some { (said : List AnyRemark) → map (remark_in tree.now) remarks.now ≡ map (λ r. Some r) said
+        → ((r : AnyRemark) → Has r said → CanBeTold B.geometry position.now r)
+        → IfOk result (λ made. IsSome made) }
+{
+    let mut told = Vec::new(alloc);
+    'remarks: for remark in remarks {
+        match remark_words(alloc, position, tree, remark)? {
+            Some(words) => {
+                let kind = kind_of(remark);
+                told.push(ToldRemark { kind, words })?;
+            }
+            None => return Ok(None),
+        }
+    }
+    Ok(Some(told))
 }
 
 /// Makes the row of a solution that is refused.
@@ -99,24 +154,17 @@ pub fn refused_solution_row<B: Board>(
     end_row(row)
 }
 
-/// Remarks on a tree of a position, as objects.
+/// Remarks in words, as objects.
 #[derive(Clone, Copy)]
-struct RemarksOn<'a, B: Board> {
-    alloc: Global,
-    position: &'a Position<B>,
-    tree: &'a Tree<B>,
-}
+struct ToldRemarks {}
 
-impl<B: Board> PutObject<Remark<B>> for RemarksOn<'_, B> {
-    ghost asks = { λ it one. CanTell B.geometry it.position.now it.tree.now one };
+impl PutObject<ToldRemark> for ToldRemarks {
+    ghost asks = { λ it one. Unit {0} };
 
-    ghost says = { λ it one members. TellsIt B.geometry it.position.now it.tree.now one members };
+    ghost says = { λ it one members. members ≡ members_told one };
 
-    fn put(&self, row: &mut Writer, item: &Remark<B>) -> Result<(), AllocError> {
-        match remark_words(self.alloc, self.position, self.tree, item)? {
-            Some(words) => put_words(row, kind_of(item), &words),
-            None => Err(AllocError),
-        }
+    fn put(&self, row: &mut Writer, item: &ToldRemark) -> Result<(), AllocError> {
+        put_words(row, item.kind, &item.words)
     }
 }
 
