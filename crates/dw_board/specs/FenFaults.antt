@@ -42,8 +42,8 @@ pub data ItemNext (g : Geometry) : (before after : List Token) → Side → Plac
   behind_comma : {before after : List Token} (c : Token) {side : Side} {i : Placing} {is : List Placing} {p : Placement}
       → ListRead g before side (i ∷ is) p → is_sign comma c.text ≡ true → ItemNext g (before ++ c ∷ []) after side p
 
--- a number of men or kings must follow: the first one of an item, after K for kings; or after a dash the last one, and
--- the first one is given
+-- the number of a square must follow, for men or, after K, for kings: the first of an item; or, after a dash, the last,
+-- and then the first is given
 pub data NumberNext (g : Geometry) : (before after : List Token) → Option ℕ → Bool → Side → Placement → Type 0 where
   of_men : {before after : List Token} {side : Side} {p : Placement} → ItemNext g before after side p
       → first_is is_king_letter after ≡ false → NumberNext g before after None false side p
@@ -54,7 +54,7 @@ pub data NumberNext (g : Geometry) : (before after : List Token) → Option ℕ 
       → NumberNext g before (v ∷ d ∷ after) None kings side p → number_named g v.text ≡ Some m
       → is_sign dash d.text ≡ true → NumberNext g (before ++ v ∷ d ∷ []) after (Some m) kings side p
 
--- all numbers of an item follow, and then the rest; a dash after a single number would continue the item
+-- the tokens ts are the numbers of an item, and the rest follows; after a single number it does not begin with a dash
 pub data RangeNext (g : Geometry) : (before ts rest : List Token) → Placing → Side → Placement → Type 0 where
   whole : {before ts rest : List Token} {m n : ℕ} {kings : Bool} {side : Side} {p : Placement}
       → NumberNext g before (ts ++ rest) None kings side p → IsRange g (texts ts) m n

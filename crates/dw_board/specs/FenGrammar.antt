@@ -50,7 +50,7 @@ pub data IsEnd : List (List ℕ) → Type 0 where
   nothing : IsEnd []
   stop : {w : List ℕ} → is_sign full_stop w ≡ true → IsEnd (w ∷ [])
 
--- after a second list further fields may follow, which are passed over
+-- the rest after a second list: the end of the text, or a colon and any further fields, which are passed over
 pub data IsTail : List (List ℕ) → Type 0 where
   ends : {ws : List (List ℕ)} → IsEnd ws → IsTail ws
   fields : {w : List ℕ} {ws : List (List ℕ)} → is_sign colon w ≡ true → IsTail (w ∷ ws)

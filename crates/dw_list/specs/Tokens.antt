@@ -73,11 +73,11 @@ unfoldable pub number_below : Squares → ℕ → ℕ
 number_below v zero = 0
 number_below v (suc n) = bit_or (number_below v n) (cond (set.contains v (suc n)) (2 ^ n) 0)
 
--- the number of a set of squares
+-- a set of squares as one number: bit s - 1 is set for square s
 unfoldable pub number_of : Geometry → Squares → ℕ
 number_of g v = number_below v (squares g)
 
--- the ten bytes of a move: its start, its end, and the number of its taken squares
+-- the ten bytes of a move: its start, its end, and the set of its taken squares as a number of eight bytes
 unfoldable pub move_bytes : Geometry → Move → List ℕ
 move_bytes g m = m.from ∷ m.to ∷ to_be_bytes w64 (number_of g m.taken)
 

@@ -30,7 +30,7 @@ abbrev pub AllEmpty : Placement → List ℕ → Type 0
 AllEmpty p [] = Unit {0}
 AllEmpty p (s ∷ ss) = (at p s ≡ None) × AllEmpty p ss
 
--- White's men go up, Black's men down
+-- a direction is forward for the men of a side: up for White, down for Black
 abbrev pub IsForward : Side → Dir → Type 0
 IsForward White d = is_down d ≡ false
 IsForward Black d = is_down d ≡ true
@@ -81,7 +81,7 @@ Jumps g p piece s (t ∷ ts) (c ∷ cs) = Jump g p piece s c t × Jumps g p piec
 Jumps g p piece s [] (c ∷ cs) = ⊥
 Jumps g p piece s (t ∷ ts) [] = ⊥
 
--- a capture path: the square that was left counts as empty, jumped pieces stay to the end, none is jumped twice
+-- a path of jumps, perhaps none: the square that was left counts as empty, jumped pieces stay, none is jumped twice
 pub record Path (g : Geometry) (p : Placement) (from : ℕ) (landings taken : List ℕ) : Type 0 where
   pub piece : Piece
   pub stands : Stands g p from piece

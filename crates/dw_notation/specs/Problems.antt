@@ -18,7 +18,7 @@ pub record Numbered : Type 0 where
 abbrev pub numbered : {B : Type 0} → Problem B → Numbered
 numbered problem = record { number = problem.number; found = problem.found }
 
--- problems with their numbers, which follow those handed out; one more than there may be is a fault, and it is the last
+-- problems numbered after those handed out; the first above `MAX_PROBLEMS` becomes `TooManyProblems` and is the last
 abbrev pub number_from : ℕ → List Found → List Numbered
 number_from handed [] = []
 number_from handed (found ∷ more) =

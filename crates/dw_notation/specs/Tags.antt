@@ -86,13 +86,13 @@ pub record IsUnclosed (text : List ℕ) : Type 0 where
 abbrev pub is_space : ℕ → Bool
 is_space byte = is_blank byte || ends_line byte
 
--- spaces alone, and after an unclosed tag the end of its line first
+-- the bytes between two tags: blanks and ends of lines only; after an unclosed tag the first is the end of its line
 abbrev pub IsGap : Bool → List ℕ → Type 0
 IsGap false gap = list_all is_space gap ≡ true
 IsGap true [] = ⊥
 IsGap true (byte ∷ gap) = (ends_line byte ≡ true) × (list_all is_space gap ≡ true)
 
--- a row of tags, spaces alone between them: its whole tags, the last in front, and whether some or the last is unclosed
+-- a row of tags with gaps between: its whole tags, the last one first; whether any is unclosed; whether the last one is
 pub data IsSection : List ℕ → List Tag → Bool → Bool → Type 0 where
   single : {text : List ℕ} {tag : Tag} → IsTag text tag → IsSection text (tag ∷ []) false false
   broken : {text : List ℕ} → IsUnclosed text → IsSection text [] true true
@@ -116,7 +116,7 @@ values_named name [] = []
 values_named name (tag ∷ tags) =
     if same_name tag.name name then tag.value ∷ values_named name tags else values_named name tags
 
--- the number of a text whose digits continue those of another number
+-- the number n continued by the digits at the front of a text
 abbrev pub number_on : ℕ → List ℕ → ℕ
 number_on n [] = n
 number_on n (byte ∷ text) = if is_ascii_digit byte then number_on (n * 10 + (byte - 48)) text else n
@@ -137,7 +137,7 @@ FensSay g [] found = found ≡ Err NoFen
 FensSay g (text ∷ []) found = FenSays g text found
 FensSay g (text ∷ other ∷ fens) found = found ≡ Err TwoFens
 
--- the problem of a section with these tags and this length, given whether a tag of it is unclosed
+-- the problem of a section: the fault of its length, of an unclosed tag, or of a wrong game, else that of its FEN tag
 abbrev pub SectionSays : Geometry → ℕ → Bool → List Tag → Found → Type 0
 SectionSays g size some tags found =
     MatchBool (nat_lt MAX_SECTION size) (found ≡ Err SectionTooLong)

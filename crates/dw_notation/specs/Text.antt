@@ -52,7 +52,7 @@ abbrev pub ArePlayable : Geometry → Placement → List Move → Type 0
 ArePlayable g p [] = Unit {0}
 ArePlayable g p (m ∷ moves) = Legal g p m × ArePlayable g (play g p m) moves
 
--- the attacker moves at the even plies, counted from 0, and has the number of the move and a dot before it
+-- words at a ply, counted from 0; at an even one the attacker moves, and the number of the move and a dot come first
 abbrev pub numbered : ℕ → List (List ℕ) → List (List ℕ)
 numbered ply words = if ply % 2 == 0 then (decimal (ply / 2 + 1) ++ codes ".") ∷ words else words
 

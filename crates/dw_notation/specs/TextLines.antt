@@ -51,7 +51,7 @@ LineSays g line said =
     MatchBool (nat_lt MAX_LINE (length line)) (said ≡ Err why.LineTooLong ∷ [])
     (MatchBool (list_all is_blank line) (said ≡ []) ((found : Found) × FenSays g line found × (said ≡ found ∷ [])))
 
--- an unfinished line at the end of a text has a problem only if no more bytes can come
+-- an unfinished line, comment or section at the end of a text counts only if no more bytes can come
 abbrev pub if_over : Bool → List Found → List Found
 if_over over said = if over then said else []
 

@@ -6,7 +6,7 @@ use Rattle.dw_moves.specs.Moves.{Move, play}
 use Rattle.dw_notation.specs.Text.{IsMoveText, IsLineText, AreJoined}
 use Rattle.dw_verdict.specs.Verdict.{Verdict, unsolvable, cooked, dual, sound, IsVerdict, Tries, reach}
 
--- the number of the attacker's next move, after whole turns
+-- the number of the attacker's next move, after a beginning in which each of his moves has its reply
 abbrev pub next_number : List Move → ℕ
 next_number beginning = length beginning / 2 + 1
 

@@ -5,7 +5,7 @@ use Rattle.dw_notation.specs.declared.problems.Form.{Form}
 use Rattle.dw_report.specs.declared.settings.Command.{Command}
 use Rattle.dw_report.specs.declared.settings.Settings.{Settings}
 
--- the command, the form of the text, the number of moves, the only problem to report, the most lines, the line before
+-- the command, the form of the text, the number of moves, the only problem, the most lines, the line to list after
 pub record Request : Type 0 where
   pub command : Command
   pub form : Form

@@ -22,7 +22,7 @@ use Rattle.dw_report.specs.declared.settings.RunFault.TheVariants as ends
 use Rattle.dw_report.specs.declared.settings.Command.{Command}
 use Rattle.dw_report.specs.declared.settings.Command.TheVariants as asked
 
--- the problems up to the only one requested, or all
+-- the problems up to and including the requested one; all, if none is requested or it is not there
 abbrev pub up_to_asked : Option ℕ → List Numbered → List Numbered
 up_to_asked only [] = []
 up_to_asked only (first ∷ more) = first ∷ (if number_is_asked only first.number then [] else up_to_asked only more)
@@ -50,8 +50,8 @@ pub record Counts (g : Geometry) (request : Request) (summary : Summary) (proble
   pub shown : summary.shown ≡ length (chosen request.only problems)
   pub refusals : AreRefused g request (chosen request.only problems) summary.refused
 
--- No more was read than the problem of this number needs: the bytes read after the byte that ended it are fewer than
--- one read gives, because without the bytes of the last read it had not ended.
+-- No more was read than the problem of this number needs: before the last bytes, at most as many as one read gives,
+-- fewer problems had ended.
 pub record ReadsUpTo (g : Geometry) (form : Form) (number : ℕ) (read : List ℕ) : Type 0 where
   pub before : List ℕ
   pub last : List ℕ
@@ -67,7 +67,7 @@ IsReadThrough g request problems left read =
     IsAtEnd left ⊎ ((number : ℕ) × ((request.only ≡ Some number) ⊎ (number ≡ MAX_PROBLEMS + 1))
     × (number ≤ length problems) × ReadsUpTo g request.form number read)
 
--- the whole report on these bytes was written, and nothing else
+-- the whole report on these bytes was written and nothing else; the counts are right, and no more was read than needed
 pub record Finishes (g : Geometry) (request : Request) (bytes : List ℕ) (left taken after : Option (List ℕ))
     (summary : Summary) : Type 0 where
   pub problems : List Numbered
@@ -78,7 +78,7 @@ pub record Finishes (g : Geometry) (request : Request) (bytes : List ℕ) (left 
   pub took : Consumes (Some bytes) left read
   pub through : IsReadThrough g request problems left read
 
--- after a failed read the sink has the texts of the chosen problems that ended in the bytes read, none requested alone
+-- after a failed read: the chosen problems that had ended were written, and the requested one had not ended
 pub record StopsReading (g : Geometry) (request : Request) (bytes : List ℕ)
     (left taken after : Option (List ℕ)) : Type 0 where
   pub read : List ℕ
@@ -127,7 +127,7 @@ pub record IsPart (g : Geometry) (request : Request) (read bytes out : List ℕ)
   pub need : ReadsUpTo g request.form number read
   pub part : IsPartOn g request number problems out
 
--- the output is right whatever bytes follow those read; or the source's end was met, and none follow
+-- P holds of the bytes read and the output, whatever bytes follow; or the source's end was met, and P holds if none do
 pub record StopsAhead (P : (read text out : List ℕ) → Type 0) (bytes : List ℕ) (left : Option (List ℕ)) (ended : Bool)
     (taken after : Option (List ℕ)) : Type 0 where
   pub read : List ℕ
@@ -147,7 +147,7 @@ RunEnds g request (Some bytes) left ended taken after (Err ends.Read) = StopsRea
 RunEnds g request (Some bytes) left ended taken after (Err ends.Write) =
     StopsAhead (λ read text out. BeginsReport g request text out) bytes left ended taken after
 
--- how a run may be stopped: `show` never, `moves` only for lack of memory, a search for that or at its limit
+-- how a run may be stopped: `show` never; `moves` only for lack of memory; a search also at its limit, never above it
 abbrev pub MayStop : Command → ℕ → Stop → ℕ → Type 0
 MayStop asked.Show limit why expanded = ⊥
 MayStop asked.Moves limit why expanded = (why ≡ Memory) × (expanded ≡ 0)

@@ -74,7 +74,7 @@ abbrev pub FindsRefutation : Geometry → Placement → ℕ → Option Move → 
 FindsRefutation g q n None = (r : Move) → IsRefutation g q n r → ⊥
 FindsRefutation g q n (Some r) = IsRefutation g q n r
 
--- a legal move that fails to one reply only
+-- a try: a legal move that does not win within n moves, and the only reply that refutes it
 abbrev pub IsTry : Geometry → Placement → ℕ → Move × Move → Type 0
 IsTry g p n t = Legal g p t.0 × (IsWinning g p n t.0 → ⊥) × IsRefutation g (play g p t.0) (n - 1) t.1
 
