@@ -3,61 +3,23 @@ use Rattle.std.proofs.Common.{Vec, Global, vec_len, ◌==◌, ◌<◌, arith, le
 use Rattle.std.proofs.lemmas.Bool.{eq-eqb, ne_eqb}
 use Rattle.dw_rows.specs.declared.checked.CheckNumbers.{CheckNumbers}
 use Rattle.dw_desk_commands.specs.Checking.{is_none, numbers_of, holds}
-use Rattle.std.proofs.Common.{◌≡◌, ℕ, zero, suc, ◌+◌, ◌<◌, ◌≤◌, List, [], ◌∷◌, ◌++◌, length, map, take, get_or, Option}
-use Rattle.std.proofs.Common.{Some, Bool, true, false, cond, refl, sym, ap, ◌∙◌, subst, inl, inr, add-zero, arith}
-use Rattle.std.proofs.Common.{take_all}
+use Rattle.std.proofs.Common.{◌≡◌, ℕ, ◌+◌, ◌<◌, List, [], ◌∷◌, ◌++◌, length, map, Option}
+use Rattle.std.proofs.Common.{IfSome, IsSome, None, Some, Bool, true, false, cond, refl, ap, ◌∙◌, subst, add-zero, arith}
 use Rattle.std.specs.List.{count_by}
 use Rattle.std.proofs.lemmas.List.Sums.{sum_by_push}
-use Rattle.std.proofs.lemmas.List.{length-map}
-use Rattle.dw_board.specs.Lists.{Member}
 use Rattle.dw_study.specs.Remarks.{Remark, fails, also, leaves_open, ends}
 use Rattle.dw_games.specs.declared.fault.MovetextFaultKind.{MovetextFaultKind}
 use Rattle.dw_desk_commands.specs.Checking.{Counted, counted, is_fail, is_end, is_open, is_also, refused_line}
 use Rattle.dw_desk_commands.specs.inner.Tallies.{one_more}
 
--- what the item at a place says: one thing, which comes next
-pub record Says {A R : Type 0} (f : A → Option R) (said : List R) (i : ℕ) (x : A) : Type 0 where
-  pub this : R
-  pub says : f x ≡ Some this
-  pub among : Member this said
-  pub next : take (i + 1) said ≡ take i said ++ this ∷ []
+-- a value that is there
+pub of_some : {X : Type 0} {P : X → Type 0} (made : Option X) (x : X) → made ≡ Some x → IfSome made P → P x
+of_some made x is holds = subst (λ z. IfSome z P) is holds
 
-some_same : {R : Type 0} (r s : R) → Some r ≡ Some s → r ≡ s
-some_same r s e = cc
-
-head_same : {X : Type 0} (x y : X) (xs ys : List X) → x ∷ xs ≡ y ∷ ys → x ≡ y
-head_same x y xs ys e = cc
-
-tail_same : {X : Type 0} (x y : X) (xs ys : List X) → x ∷ xs ≡ y ∷ ys → xs ≡ ys
-tail_same x y xs ys e = cc
-
-pub says_at : {A R : Type 0} (f : A → Option R) (items : List A) (said : List R) (i : ℕ) (x : A)
-    → map f items ≡ map (λ r. Some r) said → i < length items → x ≡ get_or items i x → Says f said i x
-says_at f [] said i x e low is = absurd (omega arith)
-says_at f (a ∷ items) [] i x e low is = cc
-says_at f (a ∷ items) (r ∷ said) zero x e low is = record {
-  this = r;
-  says = ap f is ∙ head_same (f a) (Some r) (map f items) (map (λ r. Some r) said) e;
-  among = inl refl;
-  next = refl;
-}
-says_at f (a ∷ items) (r ∷ said) (suc i) x e low is =
-    let h = says_at f items said i x (tail_same (f a) (Some r) (map f items) (map (λ r. Some r) said) e)
-    (omega (arith, low)) is in
-    let step : suc (i + 1) ≡ suc i + 1 = omega arith in
-    record {
-      this = h.this;
-      says = h.says;
-      among = inr h.among;
-      next = subst (λ z. take z (r ∷ said) ≡ r ∷ (take i said ++ h.this ∷ [])) step (ap (λ z. r ∷ z) h.next);
-    }
-
--- at the end all is said
-pub all_said : {A R : Type 0} (f : A → Option R) (items : List A) (said : List R) (i : ℕ)
-    → map f items ≡ map (λ r. Some r) said → length items ≤ i → take i said ≡ said
-all_said f items said i e past =
-    let many : length items ≡ length said = sym (length-map items f) ∙ (ap length e ∙ length-map said (λ r. Some r)) in
-    take_all i said (omega (arith, many, past))
+-- none is there, though one is
+pub is_some : {X Q : Type 0} (made : Option X) → made ≡ None → IsSome made → Q
+is_some None is some = let bad = some in cc
+is_some (Some x) is some = let bad = is in cc
 
 abbrev numbers : (a b c d : ℕ) → Counted
 numbers a b c d = record { that_fail = a; that_end = b; left_open = c; left_out = d }

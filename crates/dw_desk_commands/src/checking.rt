@@ -282,7 +282,7 @@ fn row_of<B: Board>(
         open: tally.open,
         also: tally.also,
     };
-    checked_row(
+    let made = checked_row(
         alloc,
         solution.problem.number,
         solution.position,
@@ -290,7 +290,11 @@ fn row_of<B: Board>(
         numbers,
         solution.tree,
         solution.checked.remarks.as_slice(),
-    )
+    )?;
+    match made {
+        Some(line) => Ok(line),
+        None => Ok(String::new(alloc)),
+    }
 }
 
 /// Writes the remarks on a solution in words.

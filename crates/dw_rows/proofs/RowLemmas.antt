@@ -1,7 +1,8 @@
 -- Rows, member by member.
-use Rattle.std.proofs.Common.{◌≡◌, ℕ, zero, suc, ◌+◌, ◌<◌, List, [], ◌∷◌, ◌++◌, map, refl, sym, ◌∙◌, ap, subst, inl, inr}
-use Rattle.std.proofs.Common.{append_assoc, append-nil, arith, get_or, length, take, Some}
-use Rattle.std.specs.Prelude.{Option, codes}
+use Rattle.std.proofs.Common.{◌≡◌, ℕ, ◌+◌, List, [], ◌∷◌, ◌++◌, map, take, refl, sym, ◌∙◌, ap, subst}
+use Rattle.std.proofs.Common.{append_assoc, append-nil}
+use Rattle.std.specs.Prelude.{codes}
+use Rattle.std.proofs.lemmas.List.{map_push}
 use Rattle.dw_board.specs.Geometry.{Geometry}
 use Rattle.dw_board.specs.Lists.{Member as Has}
 use Rattle.dw_board.specs.Placement.{Placement}
@@ -23,28 +24,8 @@ effect_of_one told g p start effects done have same there one member =
     subst (λ z. HasEffect g z have.0 (told one).0 (told one).1) (sym there)
     (have.1 (told one) (subst (Has (told one)) same (mem_map told one done member)))
 
--- the thing at a place of a list, which says something, and the things said up to it
-pub said_at : {X Y : Type 0} (says : X → Option Y) (xs : List X) (said : List Y) (i : ℕ) (one : X)
-    → map says xs ≡ map (λ y. Some y) said → i < length xs → one ≡ get_or xs i one
-    → (y : Y) × (says one ≡ Some y) × Has y said × (take (i + 1) said ≡ take i said ++ y ∷ [])
-said_at says [] said i one same low at = absurd (omega (arith, low))
-said_at says (x ∷ xs) [] i one same low at = let bad = same in cc
-said_at says (x ∷ xs) (y ∷ said) zero one same low at =
-    (y, ap says at ∙ (let both = same in cc), inl refl, refl)
-said_at says (x ∷ xs) (y ∷ said) (suc i) one same low at =
-    let later = said_at says xs said i one (let both = same in cc) (omega (arith, low)) at in
-    (later.0, later.1, inr later.2, ap (λ z. y ∷ z) later.3)
-
--- as many are said as there are things
-pub all_said : {X Y : Type 0} (says : X → Option Y) (xs : List X) (said : List Y)
-    → map says xs ≡ map (λ y. Some y) said → take (length xs) said ≡ said
-all_said says [] [] same = refl
-all_said says [] (y ∷ said) same = let bad = same in cc
-all_said says (x ∷ xs) [] same = let bad = same in cc
-all_said says (x ∷ xs) (y ∷ said) same = ap (λ z. y ∷ z) (all_said says xs said (let both = same in cc))
-
 -- objects, and one more
-pub one_more : {X : Type 0} (One : X → List Member → Type 0) (xs : List X) (x : X) (each : List (List Member))
+one_more : {X : Type 0} (One : X → List Member → Type 0) (xs : List X) (x : X) (each : List (List Member))
     (members : List Member) → AreObjects One xs each → One x members
     → AreObjects One (xs ++ x ∷ []) (each ++ members ∷ [])
 one_more One [] x each members none here =
@@ -56,6 +37,16 @@ one_more One (y ∷ xs) x each members h here = (
   one_more One xs x h.1 members h.3 here,
   ap (λ z. z ++ members ∷ []) h.4,
 )
+
+pub told_next : {X V : Type 0} (One : X → List Member → Type 0) (told : V → List Member) (said : List X)
+    (items now : List V) (i : ℕ) (y : X) (one : V) → take (i + 1) said ≡ take i said ++ y ∷ []
+    → AreObjects One (take i said) (map told items) → One y (told one) → now ≡ items ++ one ∷ []
+    → AreObjects One (take (i + 1) said) (map told now)
+told_next One told said items now i y one next before here is =
+    subst (λ z. AreObjects One z (map told now)) (sym next)
+    (subst (λ z. AreObjects One (take i said ++ y ∷ []) (map told z)) (sym is)
+    (subst (AreObjects One (take i said ++ y ∷ [])) (sym (map_push told items one))
+    (one_more One (take i said) y (map told items) (told one) before here)))
 
 -- objects whose members are known
 pub all_told : {X : Type 0} (told : X → List Member) (xs : List X) (each : List (List Member))

@@ -1,5 +1,5 @@
 //! The row of the remarks on an author's solution.
-ghost use Rattle.std.specs.Prelude.{◌≡◌, ◌∷◌, [], ℕ, List, Some, Unit, codes, map, IfOk, IfSome, IsSome, OnOk};
+ghost use Rattle.std.specs.Prelude.{◌≡◌, ◌∷◌, [], ℕ, List, Some, codes, map, IfOk, IfSome, IsSome, OnOk};
 ghost use Rattle.std.specs.String.{string_bytes};
 ghost use Rattle.dw_board.specs.Lists.{Member as Has};
 ghost use Rattle.dw_json.specs.Rows.{AreObjects, Member};

@@ -1,5 +1,5 @@
 -- The moves of effects are legal.
-use Rattle.std.proofs.Common.{◌≡◌, ℕ, zero, suc, List, refl, sym, subst}
+use Rattle.std.proofs.Common.{◌≡◌, ℕ, zero, suc, List, sym, subst}
 use Rattle.dw_board.specs.Geometry.{Geometry}
 use Rattle.dw_board.specs.Lists.{Member}
 use Rattle.dw_board.specs.Placement.{Placement}

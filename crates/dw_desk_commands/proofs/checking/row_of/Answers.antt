@@ -4,27 +4,26 @@ use Rattle.dw_rows.specs.CheckRow.{IsCheckedRow}
 use Rattle.dw_study.specs.Telling.{remark_in}
 use Rattle.dw_desk_commands.specs.inner.Tallies.{tallied}
 use Rattle.dw_desk_commands.specs.Checking.{counted}
-use Rattle.dw_desk_commands.proofs.CheckingLemmas.{numbers_same}
-use Rattle.dw_desk_commands.proofs.ProblemLemmas.{ok_so}
+use Rattle.dw_desk_commands.proofs.CheckingLemmas.{is_some, numbers_same, of_some}
 use Rattle.dw_desk_commands.proofs.checking.row_of.Goals as goal
 
-pub checked_row-requires : goal.checked_row-requires
-checked_row-requires g c =
-    let s = c.args.solution.now in
-    let said = c.requires.compared.remarks in (
-      said.0,
-      ap (map (remark_in s.tree.now)) c.as_slice.ensures.value ∙ said.1,
-      λ r here. c.remarks_can_be_told.ensures g.B.Board.geometry s.position.now c.requires.compared.tree.0 s.tree.now
-          c.requires.compared.tree.1 s.n said.0 said.2 r here,
-    )
-
-pub returns : goal.returns
-returns g c said is =
-    let s = c.args.solution.now in
-    ok_so _ _ c.checked_row.result (λ line row. (
+pub returns-in-Some : goal.returns-in-Some
+returns-in-Some g c said is =
+    let s = c.args.solution.now in (
       s.checked.now.wins,
       c.requires.compared.wins,
-      subst (λ z. IsCheckedRow g.B.Board.geometry s.problem.now.number s.position.now s.n z said (string_bytes line))
-          (numbers_same s.checked.now.wins c.holds.result (tallied c.args.tally) (counted said) c.holds.ensures
-          (c.requires.tally said is) _ refl) row,
-    )) (c.checked_row.ensures said (ap (map (remark_in s.tree.now)) c.as_slice.ensures.value ∙ is))
+      subst (λ z. IsCheckedRow g.B.Board.geometry s.problem.now.number s.position.now s.n z said
+          (string_bytes c.in-Some.line)) (numbers_same s.checked.now.wins c.holds.result (tallied c.args.tally)
+          (counted said) c.holds.ensures (c.requires.tally said is) _ refl)
+          (of_some c.in_ok-made.made c.in-Some.line c.in-Some.is
+          (c.in_ok-made.ensures.row said (ap (map (remark_in s.tree.now)) c.as_slice.ensures.value ∙ is))),
+    )
+
+pub returns-in-None : goal.returns-in-None
+returns-in-None g c =
+    let s = c.args.solution.now in
+    let said = c.requires.compared.remarks in
+    is_some c.in_ok-made.made c.in-None.is (c.in_ok-made.ensures.some said.0
+    (ap (map (remark_in s.tree.now)) c.as_slice.ensures.value ∙ said.1) (λ r here. c.remarks_can_be_told.ensures
+    g.B.Board.geometry s.position.now c.requires.compared.tree.0 s.tree.now c.requires.compared.tree.1 s.n said.0 said.2
+    r here))

@@ -2,7 +2,8 @@ use Rattle.std.proofs.Common.{◌∙◌, ◌+◌, ap, sym, take}
 use Rattle.dw_study.specs.Telling.{remark_in}
 use Rattle.dw_desk_commands.specs.Checking.{counted}
 use Rattle.dw_desk_commands.specs.inner.Tallies.{one_more}
-use Rattle.dw_desk_commands.proofs.CheckingLemmas.{all_said, counted_next, says_at}
+use Rattle.dw_rows.specs.inner.SayingLemmas.{all_said, says_at}
+use Rattle.dw_desk_commands.proofs.CheckingLemmas.{counted_next}
 use Rattle.dw_desk_commands.proofs.checking.tally_of.Goals as goal
 
 pub remarks-preserved : goal.remarks-preserved

@@ -3,7 +3,7 @@ use Rattle.std.proofs.KnownBytes.{Appends-nil, Appends-trans}
 use Rattle.dw_study.specs.RemarkText.{IsRemarkText}
 use Rattle.dw_study.specs.Telling.{remark_in}
 use Rattle.dw_desk_commands.specs.ProblemText.{AreTexts, nothing, one_more}
-use Rattle.dw_desk_commands.proofs.CheckingLemmas.{all_said, says_at}
+use Rattle.dw_rows.specs.inner.SayingLemmas.{all_said, says_at}
 use Rattle.dw_desk_commands.proofs.checking.write_remarks.Goals as goal
 
 pub remarks-init : goal.remarks-init

@@ -15,8 +15,8 @@ use Rattle.dw_rows.proofs.firsts.first_moves_row.Goals as goal
 pub put_objects-requires : goal.put_objects-requires
 put_objects-requires g c = λ one member. (
   c.as_slice.ensures.right.0,
-  effect_of_one told_by g.B.Board.geometry c.position.result c.args.found.now.start c.args.found.now.effects
-      c.as_slice.result.now c.as_slice.ensures.right c.as_slice.ensures.effects c.position.ensures one member,
+  effect_of_one told_by g.B.Board.geometry c.position-position.result c.args.found.now.start c.args.found.now.effects
+      c.as_slice.result.now c.as_slice.ensures.right c.as_slice.ensures.effects c.position-position.ensures one member,
 )
 
 pub returns : goal.returns
@@ -35,12 +35,12 @@ returns g c =
     let b5 = begun_more (m1 ∷ m2 ∷ m3 ∷ m4 ∷ []) (last ∷ []) _ _ b4 c.in_ok-put_objects.ensures.2 in
     if_ok c.end_row.result (c.end_row.ensures (m1 ∷ m2 ∷ m3 ∷ m4 ∷ last ∷ []) b5) (λ line is. (
       each,
-      subst (λ p. AreObjects (IsFirstMoveObject geo p) c.args.found.now.effects each) c.position.ensures
-          (subst (λ (z : List (Move × Effect)). AreObjects (IsFirstMoveObject geo c.position.result) z each)
+      subst (λ p. AreObjects (IsFirstMoveObject geo p) c.args.found.now.effects each) c.position-position.ensures
+          (subst (λ (z : List (Move × Effect)). AreObjects (IsFirstMoveObject geo c.position-position.result) z each)
           c.as_slice.ensures.effects
-          (objects_told (IsFirstMoveObject geo c.position.result) told_by c.as_slice.result.now each
+          (objects_told (IsFirstMoveObject geo c.position-position.result) told_by c.as_slice.result.now each
           c.in_ok-put_objects.ensures.1)),
       is ∙ (λ i. row ((codes "problem", count (c.into.ensures i))
-          ∷ (codes "fen", string ((c.as_str.ensures.value ∙ (c.fen_text.ensures ∙ ap (written geo) c.position.ensures)) i))
+          ∷ (codes "fen", string ((c.as_str.ensures.value ∙ (c.fen_text.ensures ∙ ap (written geo) c.position-position.ensures)) i))
           ∷ (codes "n", count (c.into-2.ensures i)) ∷ (codes "winning", count (c.wins.ensures i)) ∷ last ∷ [])),
     ))
