@@ -177,8 +177,8 @@ impl<B: Board> Desk<B> {
 }
 
 /// Runs a command on the problems of a source, and returns how the program ends. The board must have 10 or 8 rows, and
-/// neither the source nor the sink may have failed before. It fails only if memory was refused, if a stream failed, or
-/// if 2^64 - 1 positions were expanded.
+/// neither the source nor the sink may have failed before. It fails if memory is refused, if a stream fails, or if
+/// 2^64 - 1 positions are expanded; then the contract does not say what was written.
 pub fn run_on<'a, B: Board, W: DeskWatcher, S: Source, K: Sink>(
     alloc: Global,
     slices: &mut Slices<W>,
