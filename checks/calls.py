@@ -19,8 +19,8 @@ HEAD = """# Functions with a contract
 
 This index has each public function with a contract, and the methods of the crates' own traits. `rt ci` proves them all.
 Follow a link to the file: a comment above each function says what it does, and its clauses state it exactly.
-[CONTRACTS.md](CONTRACTS.md) explains the notation. Import a function from the root of its crate
-(`dw_report::key_texts`); if a module has its name, call it by its path (`dw_moves::legal::legal`).
+[CONTRACTS.md](CONTRACTS.md) explains the notation. Most functions are at the root of their crate
+(`dw_report::key_texts`), the others in the module of their file (`dw_page::escape::push_text`).
 
 `checks/calls.py --write` makes this page from the source.
 """
