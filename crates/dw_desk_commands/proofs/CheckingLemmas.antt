@@ -13,8 +13,8 @@ use Rattle.dw_desk_commands.specs.Checking.{Counted, counted, is_fail, is_end, i
 use Rattle.dw_desk_commands.specs.inner.Tallies.{one_more}
 
 -- a value that is there
-pub of_some : {X : Type 0} {P : X → Type 0} (made : Option X) (x : X) → made ≡ Some x → IfSome made P → P x
-of_some made x is holds = subst (λ z. IfSome z P) is holds
+pub of_some : {X : Type 0} (P : X → Type 0) (made : Option X) (x : X) → made ≡ Some x → IfSome made P → P x
+of_some P made x is there = subst (λ z. IfSome z P) is there
 
 -- none is there, though one is
 pub is_some : {X Q : Type 0} (made : Option X) → made ≡ None → IsSome made → Q

@@ -1,5 +1,5 @@
 -- A solution that was compared with all wins, as the code keeps it.
-use Rattle.std.specs.Prelude.{ℕ, List, [], IsTrue, ◌↔◌, ◌≤◌}
+use Rattle.std.specs.Prelude.{ℕ, List, [], IsTrue, ◌↔◌}
 use Rattle.dw_board.specs.Geometry.{Geometry}
 use Rattle.dw_desk_commands.specs.declared.checking.Solution.{Solution}
 use Rattle.dw_games.specs.Movetext.{IsTree}

@@ -1,4 +1,4 @@
-use Rattle.std.proofs.Common.{◌≡◌, ◌∙◌, map, refl, sym, ap, subst, Some}
+use Rattle.std.proofs.Common.{◌∙◌, map, refl, ap, subst}
 use Rattle.std.specs.String.{string_bytes}
 use Rattle.dw_rows.specs.CheckRow.{IsCheckedRow}
 use Rattle.dw_study.specs.Telling.{remark_in}
@@ -15,7 +15,7 @@ returns-in-Some g c said is =
       subst (λ z. IsCheckedRow g.B.Board.geometry s.problem.now.number s.position.now s.n z said
           (string_bytes c.in-Some.line)) (numbers_same s.checked.now.wins c.holds.result (tallied c.args.tally)
           (counted said) c.holds.ensures (c.requires.tally said is) _ refl)
-          (of_some c.in_ok-made.made c.in-Some.line c.in-Some.is
+          (of_some _ c.in_ok-made.made c.in-Some.line c.in-Some.is
           (c.in_ok-made.ensures.row said (ap (map (remark_in s.tree.now)) c.as_slice.ensures.value ∙ is))),
     )
 
