@@ -19,11 +19,12 @@ const ABOUT: &str =
     "Writes a certificate that a problem is won or not, for anyone to check without a search.";
 
 const EXAMPLES: &str = "\
-For a win, each line has a position and the number of moves in which it is won: some move there
-leaves only replies to positions of the certificate that are won in fewer moves. For no win, each
-line has a position and a number of moves in which it is not won: after each move some reply keeps
-it so. The cache must hold everything that the search finds: --memo lru does, up to --cache
-positions. checks/certificate.py (installed as dw-certificate) checks it.
+For a win, each line has a position and the number of moves in which it is won. One move there
+leaves only replies to positions of other lines, which are won in fewer moves. For no win, each
+line has a position and a number of moves in which it is not won. After each move there, some reply
+leads to the position of another line, which is not won in the moves left. The cache must hold
+everything that the search finds: --memo lru does, up to --cache positions. checks/certificate.py
+(installed as dw-certificate) checks it.
 
 Examples:
   echo W:W27,45:B16 | dw-desk certify -n 2
@@ -35,7 +36,7 @@ pub(crate) fn certify_command<'a>(alloc: Global) -> Result<Command<'a>, AllocErr
     let arguments = vec![in alloc;
         board(alloc),
         pdn(alloc),
-        one_problem(alloc, "Certify the problem I, 1 to 1000000 [default: 1]"),
+        one_problem(alloc, "Certify problem I, 1 to 1000000 [default: 1]"),
         file(alloc),
         within(alloc, help).required(true),
         memo(alloc, "lru"),

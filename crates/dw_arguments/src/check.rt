@@ -35,8 +35,9 @@ line:
   open   replies that the solution lacks
   ends   the solution ends here, but the game is not over
 The last line says whether the solution holds in N moves, and counts the remarks of each kind. A
-solution holds if nothing fails and nothing ends. Without -n, N is the number of the attacker's
-moves in the solution. --faults shows only problems with a remark or a refusal.
+solution holds if nothing fails and nothing ends. A try in parentheses counts as a move that fails.
+Without -n, N is the number of the attacker's moves in the longest line of the solution. --faults
+shows only problems with a remark or a refusal.
 
 Examples:
   dw-desk check examples/solutions.pdn
@@ -45,7 +46,8 @@ Examples:
 
 /// Returns the command with its arguments.
 pub(crate) fn check_command<'a>(alloc: Global) -> Result<Command<'a>, AllocError> {
-    let help = "Look for a win in N moves of the side to move, 1 to 20 [default: as the solution]";
+    let help =
+        "Look for a win in N moves of the side to move, 1 to 20 [default: as in the solution]";
     let arguments = vec![in alloc;
         board(alloc),
         pdn(alloc),

@@ -37,8 +37,8 @@ const ABOUT: &str = "Finds the number of moves in which each problem is won, and
 
 const EXAMPLES: &str = "\
 The output is that of `dw judge -n N` for the least N with a win, or for --most if there is none.
-With --each a problem that takes too long stays undecided, and the answer is the number of moves
-that is known to have no win. Then each problem starts with an empty cache.
+With --each a problem that takes too long stays undecided. The answer is then the greatest number
+of moves that is known to be too few. The cache starts empty for each problem.
 
 Examples:
   echo W:W10,16,48:B13 | dw-desk find

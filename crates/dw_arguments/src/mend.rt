@@ -52,7 +52,7 @@ pub(crate) fn mend_command<'a>(alloc: Global) -> Result<Command<'a>, AllocError>
     let arguments = vec![in alloc;
         board(alloc),
         pdn(alloc),
-        one_problem(alloc, "Change the problem I, 1 to 1000000 [default: 1]"),
+        one_problem(alloc, "Change problem I, 1 to 1000000 [default: 1]"),
         file(alloc),
         within(alloc, help).required(true),
         positions(alloc, "each", undecided),

@@ -44,7 +44,7 @@ pub(crate) fn moves_command<'a>(alloc: Global) -> Result<Command<'a>, AllocError
     let arguments = vec![in alloc;
         board(alloc),
         pdn(alloc),
-        one_problem(alloc, "Look at the problem I, 1 to 1000000 [default: 1]"),
+        one_problem(alloc, "Look at problem I, 1 to 1000000 [default: 1]"),
         file(alloc),
         within(alloc, help).required(true),
         part(alloc),

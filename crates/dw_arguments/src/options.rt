@@ -38,9 +38,9 @@ pub const VERSION: &str = "1.0.0";
 const MEMO_HELP: &str = "\
 The kind of cache:
 none, nothing: for very little memory
-lru, the positions used last: for most problems
 slots, a table with one place for each position: for many short problems
-deep, a table that keeps the deeper results: for long problems, with a large C";
+deep, a table that keeps the deeper results: for long problems, with a large C
+lru, the positions used last: for most problems";
 
 /// Makes `--board`, whose default is ten rows.
 pub fn board<'a>(alloc: Global) -> Arg<'a> {

@@ -25,7 +25,8 @@ For more information, try '--help'.
 
 /// Makes `--part`, whose default is the only part.
 pub(crate) fn part<'a>(alloc: Global) -> Arg<'a> {
-    let help = "Examine part I of M only, I is 1 to M, M is 1 to 1000000 [default: 1/1]";
+    let help =
+        "Examine every M-th one from the I-th on, I is 1 to M, M is 1 to 1000000 [default: 1/1]";
     option(alloc, "part", "I/M", ValueParser::string(), help)
 }
 

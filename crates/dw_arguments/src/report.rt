@@ -80,7 +80,8 @@ const PROBLEM_HELP: &str = "Report on problem I only, 1 to 1000000 [default: all
 
 const WITHIN_HELP: &str = "Look for a win in N moves of the side to move, 1 to 20";
 
-const POSITIONS_HELP: &str = "Stop after L positions, 1 to 1000000000000 [default: 1000000000000]";
+const POSITIONS_HELP: &str =
+    "Stop the run after L expanded positions, 1 to 1000000000000 [default: 1000000000000]";
 
 const ABOUT: &str =
     "Solves problems of international draughts: verdicts, and every line of a forced win.";

@@ -20,7 +20,7 @@ pub(crate) fn token_command<'a>(alloc: Global) -> Result<Command<'a>, AllocError
         pdn(alloc),
         one_problem(
             alloc,
-            "The line is one of the problem I, 1 to 1000000 [default: 1]"
+            "The line is one of problem I, 1 to 1000000 [default: 1]"
         ),
         line(alloc),
         file(alloc),
