@@ -44,7 +44,7 @@ WORKED_ROWS = """\
 {"problem":4,"fen":"W:W27,32:B18","n":2,"win":true,"holds":false,"fail":0,"end":1,"open":0,"also":0,"remarks":[\
 {"kind":"ends","line":"1. 32-28","moves":[]}]}
 {"problem":5,"fen":"W:W27,32:B18","solution_refused":"2 no such move at 5"}
-{"problem":6,"refused":"7 last row at 4"}
+{"problem":6,"refused":"1 fen: 7 last row at 4"}
 """
 RESULTS = {"2-0", "0-2", "1-1", "0-0", "1-0", "0-1", "1/2-1/2", "*"}
 NAMES = {1: "token", 2: "no such move", 3: "ambiguous", 4: "variation", 5: "unclosed", 6: "rest", 7: "too deep",
