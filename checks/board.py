@@ -399,7 +399,7 @@ def check_files(browser, folder):
 
 
 def check_looks(browser, folder):
-    """Light and dark differ; a problem with its answer is printed on one sheet."""
+    """Light and dark differ; a problem with its answer is printed on one sheet, also after a move of the solution."""
     if browser.name != "chromium":
         return
     colours = []
@@ -410,11 +410,13 @@ def check_looks(browser, folder):
     browser.colours("light")
     browser.run(call("read", "W:W27,45:B16"))
     browser.run(call("solve", 5))
+    browser.run("t.all('#solution .move')[0].click()")
+    browser.wait("t.at('#fen').value !== 'W:W27,45:B16'")
     said = browser.ask("Page.printToPDF", browser.session, preferCSSPageSize=True)
     (folder / "problem.pdf").write_bytes(base64.b64decode(said["data"]))
     text = subprocess.run(["pdftotext", "-layout", folder / "problem.pdf", "-"], capture_output=True, text=True,
                           check=True).stdout
-    assert "White to play and win in 2" in text and text.count("\f") == 1, text
+    assert "White to play and win in 2" in text and "W:W27,45:B16" in text and text.count("\f") == 1, text
     print(f"{browser.name}: light and dark, and a sheet that is printed")
 
 

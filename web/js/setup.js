@@ -101,6 +101,10 @@ export function setUp(app, play) {
         event.preventDefault();
     });
     app.on(['edited', 'looked', 'spoken'], show);
+    // (a sheet has the problem that its answer belongs to, and not a later position)
+    addEventListener('beforeprint', () => {
+        if (app.looked && !app.isPlaying) app.look(null);
+    });
     followText(app);
 }
 
