@@ -8,8 +8,8 @@ within 1 to 3. Each certificate must be right and give the answer of the recursi
 doubled and removed, and certificate.py must refuse each text at the right line. The errors of the command come last:
 they write nothing to standard output.
 
---sizes checks the certificates of the forty problems of `dw_bench`, for a win and for none in a move less, and prints
-the table of their sizes in docs/BENCHMARKS.md.
+--sizes checks the certificates of the forty problems of `dw_bench`, for a win and for none in a move less. It prints a
+row of their sizes for each number of moves: the least, the middle and the greatest.
 """
 import pathlib
 import random

@@ -195,7 +195,7 @@ def check_ways():
     """Each function on the way of a problem stands in the file that is named for it."""
     ways = ARCHITECTURE.read_text().split("\n### The way of a solution")
     for way, most in zip(ways, (30, 45), strict=True):
-        rows = re.findall(r"^\| `([\w:]+)` \| `([\w/.]+)` \| ", way, re.MULTILINE)
+        rows = re.findall(r"^\d+\. `([\w:]+)` \(`([\w/.]+)`\) ", way, re.MULTILINE)
         assert 20 < len(rows) <= most, f"ARCHITECTURE.md: {len(rows)} functions on a way"
         for function, file in rows:
             name = function.split("::")[-1]
