@@ -7,10 +7,10 @@ Every link must lead to a file and a heading, and every named file must exist. N
 contract in docs/PROVED.md must be that of `run`, word for word, the quoted contracts in docs/CONTRACTS.md must stand in
 their files, and each definition in docs/DEFINITIONS.md in its file. `dw show` must give the answers to the FEN texts of
 docs/FORMATS.md. The program in docs/LIBRARY.md must be the crate `dw_example`. The problems in docs/REPORT.md must have
-their diagrams, verdicts and tries. Each call `$ echo FEN | ./PROGRAM WORDS` in README.md, docs/DESK.md, docs/JSON.md
-and docs/COMPOSERS.md must give the answer below it. docs/diagram.svg must be the diagram that `dw-desk page` draws.
-Each function on the ways in docs/ARCHITECTURE.md must be in its file, and each crate must be named there, with files
-that it has.
+the verdicts, tries and diagrams that stand there. Each call `$ echo FEN | ./PROGRAM WORDS` in README.md, docs/DESK.md,
+docs/JSON.md and docs/COMPOSERS.md must give the answer below it. docs/diagram.svg must be the diagram that `dw-desk
+page` draws. Each function on the ways in docs/ARCHITECTURE.md must be in its file, and each crate must be named there,
+with files that it has.
 """
 import pathlib
 import re

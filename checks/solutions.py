@@ -8,7 +8,7 @@ For random small positions (150 on each board by default) it makes a tree of all
 path, changes a move, removes a variation or a reply. It writes the tree as a movetext with comments, marks and numbers
 of all kinds. `dw-desk check` must give the remarks of the recursion in judging.py, byte for byte, for the right number
 of moves, for one less, and for that of the tree, as text, as JSON, and with --faults. Then bytes of the movetexts are
-dropped, doubled and changed: a reader made from the table of tokens in docs/DESK.md must find the same error at the
+dropped, doubled and changed: a reader made from the list of parts in docs/DESK.md must find the same error at the
 same place, or the same tree. With --count 4500 there are up to 108,000 such movetexts, which takes a quarter of an
 hour.
 """
