@@ -1,17 +1,19 @@
 #!/usr/bin/env python3
-"""edits.py: tries the edits that the gate leaves out. The prover must refuse each.
+"""edits.py: tries edits that plant a bug. The prover must refuse each.
 
-    python3 checks/edits.py [CRATE ..]      without a name: each crate that has a folder in checks/edits
+    checks/edits.py [--all] [CRATE | CRATE/EDIT ..]
 
-`rt ci` tries those in crates/CRATE/must-fail; more of them would take it too long. Those in checks/edits/CRATE have the
-same form. This program copies the tracked files to a temporary folder, puts these edits in place of the gate's, and
-runs `rt must-fail` over all of them. The status is 0 if the prover refused every edit. The kept work of `rt lib` and
-`rt check` in crates/*/out is copied too. First `rt lib` runs in the crates and those below them, which takes minutes
-for each crate without kept work. After that an edit takes 15 to 40 s.
+The edits are files checks/edits/CRATE/EDIT.edit. A line `file:` names a file of the crate, and in each pair of lines
+the text after `old:`, which must stand there once, is replaced by that after `new:`. Each edit is put into a copy of
+its crate, and the prover checks the functions that it changes, over the libraries that are built. That takes 15 to 60 s.
+An edit is refused if the prover says that such a function is not proved. An edit that does not compile counts as not
+refused, and so does one that the prover gives up.
 
-borrow.py tries the files that end in .borrow.
+Without names this tries the edits that GATE names, with --all every edit, else those of the named crates.
 """
+import argparse
 import concurrent.futures
+import dataclasses
 import os
 import pathlib
 import re
@@ -22,7 +24,13 @@ import tempfile
 
 TOP = pathlib.Path(__file__).resolve().parent.parent
 EDITS = TOP / "checks" / "edits"
-MEMORY_EACH = 4_000_000  # kB
+GATE = EDITS / "gate"
+MEMORY_EACH = 2_500_000  # kB
+FUNCTION = re.compile(r"(\s*)(?:pub(?:\([a-z ]+\))? )?(?:const )?(?:unsafe )?(?:extern \"C\" )?fn (\w+)")
+HEADER = re.compile(r"(?:impl|(?:pub(?:\([a-z ]+\))? )?trait)\b")
+# What a proof says that names something that the edit took away: then no clause was tried.
+LOST_NAME = re.compile(r"(?:\./)?proofs/\S+: error.*(?:has no field|is not in scope|has no `|was not admitted)")
+ERROR = re.compile(r"\S+:\d+:\d+: error")
 
 
 def copy_tracked(room):
@@ -33,52 +41,144 @@ def copy_tracked(room):
             shutil.copy2(TOP / name, room / name)
 
 
-def copy_built(room):
-    for built in TOP.glob("crates/*/out"):
-        shutil.copytree(built, room / built.relative_to(TOP), symlinks=True)
+@dataclasses.dataclass
+class Edit:
+    path: pathlib.Path
+    # The file of the crate, and the texts to be replaced with the new ones.
+    file: str
+    pairs: list
+
+    @classmethod
+    def read(cls, path):
+        lines = path.read_text(encoding="utf-8").splitlines()
+        told = {word: [line[len(word):] for line in lines if line.startswith(word)] for word in ("file: ", "old: ")}
+        new = [line.removeprefix("new:").removeprefix(" ") for line in lines if line.startswith("new:")]
+        if len(told["file: "]) != 1 or len(told["old: "]) != len(new) or not new:
+            raise ValueError(f"{path}: it has no line `file:`, or a line `old:` without `new:`")
+        return cls(path, told["file: "][0], list(zip(told["old: "], new)))
+
+    @property
+    def crate(self):
+        return self.path.parent.name
+
+    @property
+    def name(self):
+        return f"{self.crate}/{self.path.stem}"
+
+    def apply(self, text):
+        """The text with the edit, and the places in it that changed."""
+        places = []
+        for old, new in self.pairs:
+            if text.count(old) != 1:
+                raise ValueError(f"{self.name}: `{old.strip()}` is in {self.file} {text.count(old)} times")
+            places.append(text.index(old))
+            text = text.replace(old, new)
+        return text, places
 
 
-def named_by():
-    """Of each crate, those of the repository that it names."""
+def with_edit(path, folder):
+    """The file that an edit changes in a copy of its crate, and its text with the edit."""
+    edit = Edit.read(path)
+    file = folder / edit.file
+    return file, edit.apply(file.read_text(encoding="utf-8"))[0]
+
+
+def function_at(text, place, module):
+    """The name that the prover gives to the function at a place of a file; the module, if there is none."""
+    above = text[: text.find("\n", place) + 1].splitlines()
+    for number in reversed(range(len(above))):
+        found = FUNCTION.match(above[number])
+        if found:
+            owner = owner_of(above[:number]) if found[1] else ""
+            return "::".join(filter(None, [module, owner, found[2]]))
+    return module
+
+
+def owner_of(above):
+    """The type and the trait of the `impl` block that these lines end in, as the prover joins them."""
+    header = next((line for line in reversed(above) if HEADER.match(line)), "")
+    header = re.sub(r"^(?:impl|(?:pub(?:\([a-z ]+\))? )?trait)\b", "", header)
+    while "<" in header:
+        header = re.sub(r"<[^<>]*>", "", header.replace("->", "  "))
+    trait, _, kind = header.split("{")[0].split(" where ")[0].strip().rpartition(" for ")
+    last = [name.strip().split(":")[0] if "::" not in name else name.rsplit("::", 1)[1] for name in (kind, trait)]
+    return "".join(last)
+
+
+def module_of(file):
+    parts = pathlib.PurePath(file).with_suffix("").parts[1:]
+    return "::".join(() if parts[-1] in ("lib", "main") else parts)
+
+
+def crates_below(crate):
+    """The libraries that each crate names in crates.txt, of this crate and all that it stands on."""
     lines = (line.split(":") for line in (TOP / "crates.txt").read_text().splitlines() if ":" in line)
-    named = {crate.split()[0]: used.split() for crate, used in lines}
-    return {crate: [name for name in used if name in named] for crate, used in named.items()}
-
-
-def with_all_below(crates, named):
-    """These crates and all that they stand on."""
-    found, left = set(), list(crates)
+    named, found, left = {name.split()[0]: used.split() for name, used in lines}, {}, [crate]
     while left:
-        crate = left.pop()
-        if crate not in found:
-            found.add(crate)
-            left += named[crate]
+        name = left.pop()
+        if name not in found:
+            found[name] = named[name]
+            left += [used for used in named[name] if used in named]
     return found
 
 
-def build(room, crates):
-    """Proves and builds libraries, those side by side that stand on none that is left. Where that fails, the edits of
-    the crate can not be tried, as their run will say."""
-
-    def build_one(crate):
-        subprocess.run(["rt", "lib", "--jobs", str(side_by_side())], cwd=room / "crates" / crate,
-                       stdout=subprocess.DEVNULL, stderr=subprocess.STDOUT, check=False)
-
-    named = named_by()
-    left = {crate for crate in with_all_below(crates, named) if (room / "crates" / crate / "src/lib.rt").is_file()}
-    while left:
-        ready = [crate for crate in left if left.isdisjoint(named[crate])]
-        with concurrent.futures.ThreadPoolExecutor(len(ready)) as pool:
-            list(pool.map(build_one, ready))
-        left -= set(ready)
+def flags_of(crate, kit):
+    """The flags that tell the prover of the libraries that a crate stands on."""
+    below = crates_below(crate)
+    flags = ["--crate-name", crate, "--jobs", "1", "--antt-project", f"{kit}/rattle/logic/antt-project.json",
+             "--logic-built", f"{kit}/logic_built", "-L", f"dependency={kit}/rlibs"]
+    for name in ["std", *below[crate]]:
+        ours = TOP / f"crates/{name}/out/statements/{name}.rlib"
+        flags += ["--extern", f"{name}={ours if name in below else f'{kit}/rlibs/{name}.rlib'}"]
+    for name in below:
+        flags += ["-L", f"dependency={TOP}/crates/{name}/out/statements"]
+    return flags
 
 
-def put_edits(room, crate):
-    folder = room / "crates" / crate / "must-fail"
-    shutil.rmtree(folder, ignore_errors=True)
-    folder.mkdir()
-    for edit in sorted((EDITS / crate).glob("*.edit")):
-        shutil.copy2(edit, folder)
+def build(crates):
+    """Builds the libraries that these crates stand on, if they are not built."""
+    below = sorted({name for crate in crates for name in crates_below(crate)} - set(crates_of_programs()))
+    subprocess.run([TOP / "dw"], env={**os.environ, "DW_BUILD": " ".join(below)}, check=True)
+
+
+def crates_of_programs():
+    return [main.parent.parent.name for main in TOP.glob("crates/*/src/main.rt")]
+
+
+def checked(edit, flags, only):
+    """What the prover says of functions in a copy of the crate with the edit."""
+    with tempfile.TemporaryDirectory(prefix="dw-edit-") as name:
+        room = pathlib.Path(name)
+        for part in ("src", "specs", "proofs"):
+            if (TOP / "crates" / edit.crate / part).is_dir():
+                shutil.copytree(TOP / "crates" / edit.crate / part, room / part)
+        file, text = with_edit(edit.path, room)
+        file.write_text(text, encoding="utf-8")
+        top = "src/main.rt" if (room / "src/main.rt").is_file() else "src/lib.rt"
+        words = [word for path in only for word in ("--only", path)]
+        return subprocess.run(["rattle", "check", *flags, *words, top], cwd=room, stdin=subprocess.DEVNULL, text=True,
+                              stdout=subprocess.PIPE, stderr=subprocess.STDOUT, errors="replace", check=False)
+
+
+def result(edit, kit):
+    """Whether the edit is refused, and what to say of it."""
+    text, places = edit.apply((TOP / "crates" / edit.crate / edit.file).read_text(encoding="utf-8"))
+    module, flags = module_of(edit.file), flags_of(edit.crate, kit)
+    only = sorted({function_at(text, place, module) for place in places} - {""})
+    ran = checked(edit, flags, only)
+    if ran.returncode == 2 and only != [module]:
+        only = [module] if module else []
+        ran = checked(edit, flags, only)
+    lines = ran.stdout.splitlines()
+    refused = [line for line in lines if re.match(rf"fn {edit.crate}::.*: not proved", line)]
+    errors = [line for line in lines if ERROR.match(line)]
+    at = f"{edit.name} ({', '.join(only)})"
+    if ran.returncode == 1 and refused and not all(map(LOST_NAME.match, errors)):
+        return True, f"{at}: refused"
+    if ran.returncode == 0:
+        return False, f"{at}: NOT REFUSED"
+    why = errors[0] if errors else lines[-1] if lines else "nothing was said"
+    return False, f"{at}: NOT TRIED, status {ran.returncode}: {why[:300]}"
 
 
 def side_by_side():
@@ -86,35 +186,32 @@ def side_by_side():
     return max(1, min(len(os.sched_getaffinity(0)), free // MEMORY_EACH))
 
 
-def with_edit(edit, folder):
-    """The file that an edit changes, and its text with the edit."""
-    lines = edit.read_text(encoding="utf-8").splitlines()
-    words = ("file: ", "old: ", "new: ")
-    file, old, new = (next(line[len(word) :] for line in lines if line.startswith(word)) for word in words)
-    text = (folder / file).read_text(encoding="utf-8")
-    if text.count(old) != 1:
-        raise ValueError(f"{edit.name}: its old text is in {file} {text.count(old)} times")
-    return folder / file, text.replace(old, new)
-
-
-def main(words):
-    known = sorted(folder.name for folder in EDITS.iterdir() if folder.is_dir())
-    unknown = [word for word in words if word not in known]
+def chosen(given):
+    known = {f"{path.parent.name}/{path.stem}": path for path in sorted(EDITS.glob("*/*.edit"))}
+    names = known if given.all else given.names or GATE.read_text().split()
+    found = {name: path for name, path in known.items() if name in names or name.split("/")[0] in names}
+    unknown = [name for name in names if name not in found and not any(one.startswith(f"{name}/") for one in found)]
     if unknown:
-        print(f"edits.py: no edits of {' '.join(unknown)}; there are some of {' '.join(known)}", file=sys.stderr)
-        return 2
-    crates = words or known
-    with tempfile.TemporaryDirectory(prefix="dw-edits-") as name:
-        room = pathlib.Path(name)
-        copy_tracked(room)
-        copy_built(room)
-        build(room, crates)
-        for crate in crates:
-            put_edits(room, crate)
-        passed = subprocess.run(["rt", "must-fail", *crates], cwd=room, check=False).returncode == 0
-    print("edits.py: each edit was refused" if passed else "edits.py: not all were refused, as told above")
-    return 0 if passed else 1
+        sys.exit(f"edits.py: there is no edit and no crate with edits {', '.join(unknown)}")
+    return [Edit.read(path) for path in found.values()]
+
+
+def main():
+    words = argparse.ArgumentParser(description="Tries edits that plant a bug.")
+    words.add_argument("--all", action="store_true", help="every edit")
+    words.add_argument("names", nargs="*", metavar="CRATE | CRATE/EDIT", help="just these")
+    edits = chosen(words.parse_args())
+    kit = pathlib.Path(subprocess.run(["rt", "doc"], stdout=subprocess.PIPE, text=True, check=True).stdout.strip()).parent
+    os.environ["PATH"] = f"{kit}/bin:{os.environ['PATH']}"
+    build({edit.crate for edit in edits})
+    failed = 0
+    with concurrent.futures.ThreadPoolExecutor(side_by_side()) as pool:
+        for is_refused, told in pool.map(lambda edit: result(edit, kit), edits):
+            failed += not is_refused
+            print(told, flush=True)
+    print(f"{len(edits) - failed} of {len(edits)} edits refused")
+    return 1 if failed else 0
 
 
 if __name__ == "__main__":
-    sys.exit(main(sys.argv[1:]))
+    sys.exit(main())

@@ -42,20 +42,26 @@ Exit status: 0 done; 1 a problem, solution or line was refused, a solution does 
 problem is undecided or missing; 2 wrong arguments; 3 the program was stopped, or a file could not
 be read or written.";
 
+/// The commands of `dw-desk`.
+#[derive(Clone, Copy)]
+enum DeskCommand {
+    Find,
+    Check,
+    Solution,
+    Moves,
+    Page,
+    Certify,
+    Mend,
+    Token,
+}
+
 /// Returns the commands that `dw-desk` knows, with their options and their help.
 ///
 /// # Errors
 ///
 /// Memory was refused.
 pub fn command<'a>(alloc: Global) -> Result<Command<'a>, AllocError> {
-    let find = find_command(alloc)?;
-    let check = check_command(alloc)?;
-    let solution = solution_command(alloc)?;
-    let moves = moves_command(alloc)?;
-    let page = page_command(alloc)?;
-    let certify = certify_command(alloc)?;
-    let mend = mend_command(alloc)?;
-    let token = token_command(alloc)?;
+    let commands = subcommands(alloc)?;
     Command::new(alloc, "dw-desk")
         .bin_name("dw-desk")?
         .version(VERSION)
@@ -63,14 +69,38 @@ pub fn command<'a>(alloc: Global) -> Result<Command<'a>, AllocError> {
         .after_help(EXAMPLES)
         .subcommand_required(true)
         .arg_required_else_help(true)
-        .subcommand(find)?
-        .subcommand(check)?
-        .subcommand(solution)?
-        .subcommand(moves)?
-        .subcommand(page)?
-        .subcommand(certify)?
-        .subcommand(mend)?
-        .subcommand(token)
+        .subcommands(commands)
+}
+
+fn subcommands<'a>(alloc: Global) -> Result<Vec<Command<'a>>, AllocError> {
+    let mut commands = Vec::new(alloc);
+    for command in [
+        DeskCommand::Find,
+        DeskCommand::Check,
+        DeskCommand::Solution,
+        DeskCommand::Moves,
+        DeskCommand::Page,
+        DeskCommand::Certify,
+        DeskCommand::Mend,
+        DeskCommand::Token,
+    ] {
+        commands.push(subcommand(alloc, command)?)?;
+    }
+    Ok(commands)
+}
+
+/// Returns a command with its arguments.
+fn subcommand<'a>(alloc: Global, command: DeskCommand) -> Result<Command<'a>, AllocError> {
+    match command {
+        DeskCommand::Find => find_command(alloc),
+        DeskCommand::Check => check_command(alloc),
+        DeskCommand::Solution => solution_command(alloc),
+        DeskCommand::Moves => moves_command(alloc),
+        DeskCommand::Page => page_command(alloc),
+        DeskCommand::Certify => certify_command(alloc),
+        DeskCommand::Mend => mend_command(alloc),
+        DeskCommand::Token => token_command(alloc),
+    }
 }
 
 impl<'a> DeskArgs<'a> {
