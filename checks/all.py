@@ -3,8 +3,8 @@
 
     checks/all.py [--slow] [--jobs N] [NAME ..]
 
-Without names it runs all checks except those that need the prover for hours. --slow adds these, and draws more random
-positions. With names, such as `judging` or `judging.py`, it runs only these. It runs one check for each processor at a
+Without names it runs all checks. --slow draws more random positions, and tries all edits, which takes the prover hours.
+With names, such as `judging` or `judging.py`, it runs only these. It runs one check for each processor at a
 time, or as many as --jobs says, the longest first. The purpose of a check is the first paragraph of its own text. A
 failed check shows its last lines. The last line counts the checks that passed and failed. The status is 0 if all
 passed.
@@ -33,14 +33,16 @@ PRINTING = threading.Lock()
 @dataclasses.dataclass
 class Check:
     name: str
-    # What it is given with --slow.
+    # What it is given with --slow, and what without.
     slow: tuple = ()
+    usual: tuple = ()
     # A file in which its output has to stand, byte for byte.
     wanted: str = ""
 
 
 # The longest first.
 CHECKS = [
+    Check("edits", slow=("--all", "--jobs", "1"), usual=("--jobs", "1")),
     Check("judging", slow=("--count", "5000")),
     Check("desk", slow=("--count", "3000")),
     Check("solutions", slow=("--count", "4500")),
@@ -80,9 +82,6 @@ CHECKS = [
     Check("causes"),
     Check("arguments"),
 ]
-SLOW = [
-    Check("edits"),
-]
 # What is no check of this repository, but for whom reads what the programs write.
 READERS = ["certificate"]
 # What is a part of a check.
@@ -99,7 +98,8 @@ def purpose(check):
 
 def run(check, slow, output):
     """Runs a check, and answers whether it passed."""
-    ran = subprocess.run([sys.executable, HERE / f"{check.name}.py", *(check.slow if slow else ())], stdout=output,
+    words = check.slow if slow else check.usual
+    ran = subprocess.run([sys.executable, HERE / f"{check.name}.py", *words], stdout=output,
                          stdin=subprocess.DEVNULL, stderr=subprocess.STDOUT, cwd=TOP, check=False)
     if check.wanted:
         output.seek(0)
@@ -126,13 +126,13 @@ def report(check, slow):
     return passed
 
 
-def chosen(names, slow):
+def chosen(names):
     """The checks of these names, or all."""
-    known = {check.name: check for check in CHECKS + SLOW}
+    known = {check.name: check for check in CHECKS}
     there = {path.stem for path in HERE.glob("*.py")} - {"all", *READERS, *PARTS, *FIGURES}
     assert set(known) == there, f"all.py lacks, or has too much: {sorted(set(known) ^ there)}"
     if not names:
-        return CHECKS + SLOW * slow
+        return CHECKS
     unknown = [name for name in names if name.removesuffix(".py") not in known]
     if unknown:
         sys.exit(f"all.py: there is no check {', '.join(unknown)}")
@@ -150,11 +150,11 @@ def build(checks):
 
 def main():
     words = argparse.ArgumentParser(description="Runs the checks of this folder.")
-    words.add_argument("--slow", action="store_true", help="also those that ask the prover, and more random positions")
+    words.add_argument("--slow", action="store_true", help="more random positions, and all edits")
     words.add_argument("--jobs", type=int, default=len(os.sched_getaffinity(0)), help="how many run side by side")
     words.add_argument("names", nargs="*", metavar="NAME", help="just these")
     given = words.parse_args()
-    checks = chosen(given.names, given.slow)
+    checks = chosen(given.names)
     build(checks)
     with concurrent.futures.ThreadPoolExecutor(max(given.jobs, 1)) as pool:
         passed = list(pool.map(lambda check: report(check, given.slow), checks))

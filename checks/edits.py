@@ -1,7 +1,7 @@
 #!/usr/bin/env python3
 """edits.py: tries edits that plant a bug. The prover must refuse each.
 
-    checks/edits.py [--all] [CRATE | CRATE/EDIT ..]
+    checks/edits.py [--all] [--jobs N] [CRATE | CRATE/EDIT ..]
 
 The edits are files checks/edits/CRATE/EDIT.edit. A line `file:` names a file of the crate, and in each pair of lines
 the text after `old:`, which must stand there once, is replaced by that after `new:`. Each edit is put into a copy of
@@ -199,13 +199,15 @@ def chosen(given):
 def main():
     words = argparse.ArgumentParser(description="Tries edits that plant a bug.")
     words.add_argument("--all", action="store_true", help="every edit")
+    words.add_argument("--jobs", type=int, default=side_by_side(), help="how many are tried side by side")
     words.add_argument("names", nargs="*", metavar="CRATE | CRATE/EDIT", help="just these")
-    edits = chosen(words.parse_args())
+    given = words.parse_args()
+    edits = chosen(given)
     kit = pathlib.Path(subprocess.run(["rt", "doc"], stdout=subprocess.PIPE, text=True, check=True).stdout.strip()).parent
     os.environ["PATH"] = f"{kit}/bin:{os.environ['PATH']}"
     build({edit.crate for edit in edits})
     failed = 0
-    with concurrent.futures.ThreadPoolExecutor(side_by_side()) as pool:
+    with concurrent.futures.ThreadPoolExecutor(max(given.jobs, 1)) as pool:
         for is_refused, told in pool.map(lambda edit: result(edit, kit), edits):
             failed += not is_refused
             print(told, flush=True)
