@@ -5,9 +5,9 @@
 
 The edits are files checks/edits/CRATE/EDIT.edit. A line `file:` names a file of the crate, and in each pair of lines
 the text after `old:`, which must stand there once, is replaced by that after `new:`. Each edit is put into a copy of
-its crate, and the prover checks the functions that it changes, over the libraries that are built. That takes 15 to 60 s.
-An edit is refused if the prover says that such a function is not proved. An edit that does not compile counts as not
-refused, and so does one that the prover gives up.
+its crate, and the prover checks the functions that it changes, over the libraries that are built. That takes 15 to
+60 s. An edit is refused if the prover says that such a function is not proved. An edit that does not compile counts as
+not refused, and so does one that the prover gives up.
 
 Without names this tries the edits that GATE names, with --all every edit, else those of the named crates.
 """
@@ -110,42 +110,47 @@ def module_of(file):
     return "::".join(() if parts[-1] in ("lib", "main") else parts)
 
 
-def crates_below(crate):
-    """The libraries that each crate names in crates.txt, of this crate and all that it stands on."""
+def libraries():
+    """The libraries that each crate names in crates.txt."""
     lines = (line.split(":") for line in (TOP / "crates.txt").read_text().splitlines() if ":" in line)
-    named, found, left = {name.split()[0]: used.split() for name, used in lines}, {}, [crate]
+    return {name.split()[0]: used.split() for name, used in lines}
+
+
+def crates_below(crate):
+    """The crates of the repository that a crate stands on."""
+    named, found = libraries(), set()
+    left = list(named[crate])
     while left:
         name = left.pop()
-        if name not in found:
-            found[name] = named[name]
-            left += [used for used in named[name] if used in named]
-    return found
+        if name in named and name not in found:
+            found.add(name)
+            left += named[name]
+    return sorted(found)
 
 
-def flags_of(crate, kit):
-    """The flags that tell the prover of the libraries that a crate stands on."""
+def call_of(crate, kit):
+    """The prover's call for a crate, with the libraries that the crate stands on."""
     below = crates_below(crate)
-    flags = ["--crate-name", crate, "--jobs", "1", "--antt-project", f"{kit}/rattle/logic/antt-project.json",
-             "--logic-built", f"{kit}/logic_built", "-L", f"dependency={kit}/rlibs"]
-    for name in ["std", *below[crate]]:
+    call = [f"{kit}/bin/rattle", "check", "--crate-name", crate, "--jobs", "1",
+            "--antt-project", f"{kit}/rattle/logic/antt-project.json", "--logic-built", f"{kit}/logic_built",
+            "-L", f"dependency={kit}/rlibs"]
+    if f"{crate} staticlib:" in (TOP / "crates.txt").read_text():
+        call += ["--crate-type", "staticlib"]
+    for name in ["std", *libraries()[crate]]:
         ours = TOP / f"crates/{name}/out/statements/{name}.rlib"
-        flags += ["--extern", f"{name}={ours if name in below else f'{kit}/rlibs/{name}.rlib'}"]
+        call += ["--extern", f"{name}={ours if name in below else f'{kit}/rlibs/{name}.rlib'}"]
     for name in below:
-        flags += ["-L", f"dependency={TOP}/crates/{name}/out/statements"]
-    return flags
+        call += ["-L", f"dependency={TOP}/crates/{name}/out/statements"]
+    return call
 
 
 def build(crates):
     """Builds the libraries that these crates stand on, if they are not built."""
-    below = sorted({name for crate in crates for name in crates_below(crate)} - set(crates_of_programs()))
+    below = sorted({name for crate in crates for name in crates_below(crate)})
     subprocess.run([TOP / "dw"], env={**os.environ, "DW_BUILD": " ".join(below)}, check=True)
 
 
-def crates_of_programs():
-    return [main.parent.parent.name for main in TOP.glob("crates/*/src/main.rt")]
-
-
-def checked(edit, flags, only):
+def checked(edit, call, only):
     """What the prover says of functions in a copy of the crate with the edit."""
     with tempfile.TemporaryDirectory(prefix="dw-edit-") as name:
         room = pathlib.Path(name)
@@ -156,24 +161,24 @@ def checked(edit, flags, only):
         file.write_text(text, encoding="utf-8")
         top = "src/main.rt" if (room / "src/main.rt").is_file() else "src/lib.rt"
         words = [word for path in only for word in ("--only", path)]
-        return subprocess.run(["rattle", "check", *flags, *words, top], cwd=room, stdin=subprocess.DEVNULL, text=True,
-                              stdout=subprocess.PIPE, stderr=subprocess.STDOUT, errors="replace", check=False)
+        return subprocess.run([*call, *words, top], cwd=room, stdin=subprocess.DEVNULL, stdout=subprocess.PIPE,
+                              stderr=subprocess.STDOUT, text=True, errors="replace", check=False)
 
 
 def result(edit, kit):
     """Whether the edit is refused, and what to say of it."""
     text, places = edit.apply((TOP / "crates" / edit.crate / edit.file).read_text(encoding="utf-8"))
-    module, flags = module_of(edit.file), flags_of(edit.crate, kit)
+    module, call = module_of(edit.file), call_of(edit.crate, kit)
     only = sorted({function_at(text, place, module) for place in places} - {""})
-    ran = checked(edit, flags, only)
+    ran = checked(edit, call, only)
     if ran.returncode == 2 and only != [module]:
         only = [module] if module else []
-        ran = checked(edit, flags, only)
+        ran = checked(edit, call, only)
     lines = ran.stdout.splitlines()
     refused = [line for line in lines if re.match(rf"fn {edit.crate}::.*: not proved", line)]
     errors = [line for line in lines if ERROR.match(line)]
     at = f"{edit.name} ({', '.join(only)})"
-    if ran.returncode == 1 and refused and not all(map(LOST_NAME.match, errors)):
+    if ran.returncode == 1 and refused and not (errors and all(map(LOST_NAME.match, errors))):
         return True, f"{at}: refused"
     if ran.returncode == 0:
         return False, f"{at}: NOT REFUSED"
@@ -203,8 +208,7 @@ def main():
     words.add_argument("names", nargs="*", metavar="CRATE | CRATE/EDIT", help="just these")
     given = words.parse_args()
     edits = chosen(given)
-    kit = pathlib.Path(subprocess.run(["rt", "doc"], stdout=subprocess.PIPE, text=True, check=True).stdout.strip()).parent
-    os.environ["PATH"] = f"{kit}/bin:{os.environ['PATH']}"
+    kit = pathlib.Path(subprocess.check_output(["rt", "doc"], text=True).strip()).parent
     build({edit.crate for edit in edits})
     failed = 0
     with concurrent.futures.ThreadPoolExecutor(max(given.jobs, 1)) as pool:
