@@ -21,6 +21,7 @@ import shutil
 import subprocess
 import sys
 import tempfile
+import time
 
 TOP = pathlib.Path(__file__).resolve().parent.parent
 EDITS = TOP / "checks" / "edits"
@@ -168,16 +169,16 @@ def checked(edit, call, only):
 def result(edit, kit):
     """Whether the edit is refused, and what to say of it."""
     text, places = edit.apply((TOP / "crates" / edit.crate / edit.file).read_text(encoding="utf-8"))
-    module, call = module_of(edit.file), call_of(edit.crate, kit)
+    module, call, started = module_of(edit.file), call_of(edit.crate, kit), time.monotonic()
     only = sorted({function_at(text, place, module) for place in places} - {""})
     ran = checked(edit, call, only)
     if ran.returncode == 2 and only != [module]:
         only = [module] if module else []
         ran = checked(edit, call, only)
     lines = ran.stdout.splitlines()
-    refused = [line for line in lines if re.match(rf"fn {edit.crate}::.*: not proved", line)]
+    refused = [line for line in lines if re.match(rf"fn {edit.crate}::.*: (?:not proved|no proof)$", line)]
     errors = [line for line in lines if ERROR.match(line)]
-    at = f"{edit.name} ({', '.join(only)})"
+    at = f"{edit.name} ({', '.join(only)}), {time.monotonic() - started:.0f} s"
     if ran.returncode == 1 and refused and not (errors and all(map(LOST_NAME.match, errors))):
         return True, f"{at}: refused"
     if ran.returncode == 0:
