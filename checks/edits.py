@@ -176,7 +176,7 @@ def result(edit, kit):
         only = [module] if module else []
         ran = checked(edit, call, only)
     lines = ran.stdout.splitlines()
-    refused = [line for line in lines if re.match(rf"fn {edit.crate}::.*: (?:not proved|no proof)$", line)]
+    refused = [line for line in lines if re.match(rf"fn {edit.crate}::.*: (?:not proved|no proof)\b", line)]
     errors = [line for line in lines if ERROR.match(line)]
     at = f"{edit.name} ({', '.join(only)}), {time.monotonic() - started:.0f} s"
     if ran.returncode == 1 and refused and not (errors and all(map(LOST_NAME.match, errors))):
