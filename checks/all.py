@@ -38,9 +38,11 @@ class Check:
     usual: tuple = ()
     # A file in which its output has to stand, byte for byte.
     wanted: str = ""
+    # Whether it needs the module of the page.
+    page: bool = False
 
 
-# The longest first.
+# The longest first, but last those that need the module of the page, which takes minutes to make.
 CHECKS = [
     Check("edits", slow=("--all", "--jobs", "1"), usual=("--jobs", "1")),
     Check("judging", slow=("--count", "5000")),
@@ -51,10 +53,7 @@ CHECKS = [
     Check("certificates", slow=("--count", "1000")),
     Check("mends", slow=("--count", "100")),
     Check("first_moves", slow=("--count", "2000")),
-    Check("board", slow=("--count", "400")),
-    Check("board_ways"),
     Check("board_making"),
-    Check("web", slow=("--count", "1500")),
     Check("refused_memory"),
     Check("long_list"),
     Check("random_moves", slow=("--count", "1000000")),
@@ -81,6 +80,9 @@ CHECKS = [
     Check("calls"),
     Check("causes"),
     Check("arguments"),
+    Check("board", slow=("--count", "400"), page=True),
+    Check("board_ways", page=True),
+    Check("web", slow=("--count", "1500"), page=True),
 ]
 # What is no check of this repository, but for whom reads what the programs write.
 READERS = ["certificate"]
@@ -110,8 +112,10 @@ def run(check, slow, output):
     return ran.returncode == 0
 
 
-def report(check, slow):
-    """Runs a check and tells of it."""
+def report(check, slow, page):
+    """Runs a check, if it needs the page once that is made, and tells of it."""
+    if check.page:
+        page.result()
     started = time.monotonic()
     with tempfile.TemporaryFile() as output:
         passed = run(check, slow, output)
@@ -144,8 +148,10 @@ def build(checks):
     subprocess.run([TOP / "dw", "--help"], stdout=subprocess.DEVNULL, check=True)
     if any(check.name == "refused_search" for check in checks):
         refused_search.build()
-    if any(check.name in ("board", "board_ways", "web") for check in checks):
-        subprocess.run([TOP / "board", os.devnull], stderr=subprocess.DEVNULL, check=True)
+
+
+def build_page():
+    subprocess.run([TOP / "board", os.devnull], stderr=subprocess.DEVNULL, check=True)
 
 
 def main():
@@ -157,7 +163,8 @@ def main():
     checks = chosen(given.names)
     build(checks)
     with concurrent.futures.ThreadPoolExecutor(max(given.jobs, 1)) as pool:
-        passed = list(pool.map(lambda check: report(check, given.slow), checks))
+        page = pool.submit(build_page) if any(check.page for check in checks) else None
+        passed = list(pool.map(lambda check: report(check, given.slow, page), checks))
     failed = [check.name for check, well in zip(checks, passed) if not well]
     if failed:
         print(f"all.py: FAILED: {' '.join(failed)}")
