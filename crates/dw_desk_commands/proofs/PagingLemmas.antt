@@ -3,7 +3,7 @@ use Rattle.std.proofs.Common.{◌≡◌, ◌++◌, ◌∷◌, ◌∙◌, ◌+◌
 use Rattle.std.proofs.Common.{Option, Some, None, MatchOption, cond, flat_map, map, length, option_map, append-nil}
 use Rattle.std.proofs.Common.{Result, Ok, Err, IfOk, append_assoc, length-append, ◌⊎◌, inl, inr, true, false}
 use Rattle.std.specs.Io.KnownBytes.{Appends}
-use Rattle.std.specs.List.{All, cons_option, count_by, filter_map, join_by}
+use Rattle.std.specs.List.{All, cons_option, count_by, filter_map}
 use Rattle.std.specs.Prelude.{codes}
 use Rattle.std.proofs.KnownBytes.{Appends-trans}
 use Rattle.std.proofs.lemmas.Grind.{flat_map-append}
@@ -23,22 +23,6 @@ use Rattle.dw_notation.specs.declared.tags.Tag.{Tag as ReadTag}
 use Rattle.dw_notation.specs.Tags.{Tag, values_named}
 use Rattle.dw_notation.specs.declared.problems.TheConstants.{MAX_PROBLEMS}
 use Rattle.dw_page.specs.Pages.{end, head}
-
--- texts that things give, joined
-flat_map-map : {X : Type 0} (f : X → List ℕ) (sep : List ℕ) (xs : List X)
-    → flat_map (λ x. sep ++ f x) xs ≡ flat_map (λ t. sep ++ t) (map f xs)
-flat_map-map f sep [] = refl
-flat_map-map f sep (x ∷ xs) = ap (λ t. (sep ++ f x) ++ t) (flat_map-map f sep xs)
-
-pub join_texts : {X : Type 0} (f : X → List ℕ) (sep : List ℕ) (xs : List X)
-    → join_by f sep xs ≡ join_by (λ t. t) sep (map f xs)
-join_texts f sep [] = refl
-join_texts f sep (x ∷ xs) = ap (λ t. f x ++ t) (flat_map-map f sep xs)
-
--- what follows from an answer
-pub if_ok_map : {T E : Type 0} (r : Result T E) (P Q : T → Type 0) → ((x : T) → P x → Q x) → IfOk r P → IfOk r Q
-if_ok_map (Ok x) P Q f h = f x h
-if_ok_map (Err e) P Q f h = h
 
 -- what was found under a name
 pub value_is : (name : List ℕ) (tags : List Tag) (found : Option (Bor (List ℕ)))

@@ -5,7 +5,7 @@ use Rattle.std.specs.Prelude.{nat_lt}
 use Rattle.std.specs.List.{count_by, join_by}
 use Rattle.dw_board.specs.Geometry.{Geometry}
 use Rattle.dw_board.specs.Placement.{Placement}
-use Rattle.dw_desk_commands.specs.Solving.{IsSolution}
+use Rattle.dw_desk_commands.specs.Solving.{IsMovetextOf}
 use Rattle.dw_desk_commands.specs.declared.desk.Counts.{Counts}
 use Rattle.dw_arguments.specs.declared.page.PageArgs.{PageArgs}
 use Rattle.dw_arguments.specs.declared.choices.PageLanguage.{PageLanguage}
@@ -28,6 +28,8 @@ use Rattle.dw_page.specs.declared.words.Language.TheVariants.{English, Dutch, Fr
 use Rattle.dw_page.specs.declared.words.Phrase.TheVariants as phrases
 use Rattle.dw_report.specs.MoveTexts.{AreChoices, AreKeyTexts, AreTryTexts}
 use Rattle.dw_report.specs.Report.{refusal_text}
+use Rattle.dw_solution.specs.FirstLines.{LinesFrom}
+use Rattle.dw_solution.specs.declared.heading.Heading.{Heading}
 use Rattle.dw_verdict.specs.Verdict.{IsVerdict, Tries, Verdict, cooked, dual, sound, unsolvable}
 use Rattle.dw_study.specs.Finding.{IsJudgedAt}
 
@@ -92,8 +94,8 @@ abbrev pub AreRowsShown : Geometry → PageTries → Placement → List (Move ×
 AreRowsShown g AllTries p tries rows = AreTryRows g p tries rows
 AreRowsShown g NoTries p tries rows = rows ≡ []
 
--- The solution of a problem within n moves: its verdict and its tries in words, and its movetext of as many lines as
--- are asked for.
+-- The solution of a problem within n moves: its verdict and its tries in words, and its first lines. These are as many
+-- as `solution` writes in a movetext: those that are asked for, or as many of them as fit in 1,000,000 bytes.
 pub record IsSolved (g : Geometry) (language : Language) (lines : ℕ) (which : PageTries) (number : ℕ) (p : Placement)
     (n : ℕ) (is_apart : Bool) (text : List ℕ) : Type 0 where
   pub verdict : Verdict
@@ -104,9 +106,12 @@ pub record IsSolved (g : Geometry) (language : Language) (lines : ℕ) (which : 
   pub are_tries : Tries g p n tries
   pub rows : List (List ℕ)
   pub say : AreRowsShown g which p tries rows
+  pub heading : Heading
+  pub first : LinesFrom
+  pub many : ℕ
   pub movetext : List ℕ
-  pub is_solution : IsSolution g p n lines movetext
-  pub shown : IsSolutionShown g language number p is_apart row rows movetext text
+  pub is_solution : IsMovetextOf g p n lines heading first many movetext
+  pub shown : IsSolutionShown g language number is_apart row rows first many text
 
 -- a solution follows its problem, or is apart at the end, or is left out
 abbrev pub Stands : Placing → (Says : (is_apart : Bool) → List ℕ → Type 0) → (behind later : List ℕ) → Type 0

@@ -1,5 +1,5 @@
 //! The command `page`: all problems on a page, with diagrams and solutions.
-ghost use Rattle.std.specs.Prelude.{◌≡◌, ◌≤◌, ◌⊎◌, ◌++◌, ◌∷◌, [], ℕ, List, true, false, IfOk, OnOk, codes, map};
+ghost use Rattle.std.specs.Prelude.{◌≡◌, ◌≤◌, ◌⊎◌, ◌++◌, ◌∷◌, [], ℕ, List, true, false, IfOk, OnOk, map};
 ghost use Rattle.std.specs.Prelude.{filter_map, option_map, Err, IsErrOf};
 ghost use Rattle.std.specs.Io.KnownBytes.{Appends};
 ghost use Rattle.dw_desk_commands.specs.Paging.{IsAskedIn, IsPage, IsPageOf, IsPart, IsPositionPart, IsSolved, Stands};
@@ -393,9 +393,11 @@ fn push_solved<B: Board>(
     let solution = Solution {
         verdict: verdict.as_str(),
         tries: tries.as_slice(),
-        movetext: solved.movetext.text.as_slice(),
+        first: &solved.first,
+        lines: solved.movetext.lines,
     };
-    push_solution(desk.alloc, page, &look_of(asked), task, &solution, is_apart)?;
+    let look = look_of(asked);
+    push_solution(desk.alloc, page, &look, task.number, &solution, is_apart)?;
     Ok(())
 }
 

@@ -2,6 +2,4 @@ pub mod AppendLemmas
 pub mod EscapingLemmas
 pub mod DrawingLemmas
 pub mod JoinLemmas
-pub mod MoveLemmas
 pub mod RowLemmas
-pub mod ShownLemmas

@@ -5,4 +5,3 @@ pub mod Pages
 pub mod Pictures
 pub mod SolutionMoves
 pub mod Words
-pub mod inner

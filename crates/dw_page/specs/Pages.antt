@@ -1,5 +1,5 @@
 -- The texts that a page is made of: its head, the parts of its problems, their solutions, and its end.
-use Rattle.std.specs.Prelude.{◌≡◌, ◌++◌, ◌∷◌, ℕ, Bool, true, false, List, [], Option, Some, None, codes, decimal}
+use Rattle.std.specs.Prelude.{◌≡◌, ◌++◌, ◌∷◌, ℕ, Bool, List, [], Option, Some, None, codes, decimal}
 use Rattle.std.specs.Prelude.{filter_map, if◌then◌else◌, option_map}
 use Rattle.std.specs.List.{join_by}
 use Rattle.dw_board.specs.Geometry.{Geometry}
@@ -8,7 +8,7 @@ use Rattle.dw_board.specs.declared.piece.Side.{Side}
 use Rattle.dw_page.specs.Drawing.{drawing}
 use Rattle.dw_page.specs.Escaping.{shown_bytes, stands_for}
 use Rattle.dw_page.specs.Pictures.{pictures}
-use Rattle.dw_page.specs.SolutionMoves.{IsMovetextShown}
+use Rattle.dw_page.specs.SolutionMoves.{AreMovesShown}
 use Rattle.dw_page.specs.Words.{asked, moves, phrase, tag}
 use Rattle.dw_page.specs.declared.page.Heading.{Heading}
 use Rattle.dw_page.specs.declared.page.TheConstants.{POLICY}
@@ -16,6 +16,7 @@ use Rattle.dw_page.specs.declared.script.TheConstants.{SCRIPT}
 use Rattle.dw_page.specs.declared.style.TheConstants.{STYLE}
 use Rattle.dw_page.specs.declared.words.Language.{Language}
 use Rattle.dw_page.specs.declared.words.Phrase.TheVariants as phrases
+use Rattle.dw_solution.specs.FirstLines.{LinesFrom}
 
 -- the texts that are always the same: the policy of the page, its style and its script
 unfoldable pub policy : List ℕ
@@ -123,11 +124,12 @@ moves_row language shown =
     codes "<p>" ++ (phrase language phrases.Solution ++ (codes ": <span class=\"moves\">" ++ (shown
     ++ codes "</span></p>\n</div>\n")))
 
--- The solution of a problem: its verdict, its tries, and its moves, each with the position after it.
-pub record IsSolutionShown (g : Geometry) (language : Language) (number : ℕ) (p : Placement) (is_apart : Bool)
-    (verdict : List ℕ) (tries : List (List ℕ)) (movetext text : List ℕ) : Type 0 where
+-- The solution of a problem: its verdict, its tries, and the moves of its first lines, given their number, each with
+-- the position after it.
+pub record IsSolutionShown (g : Geometry) (language : Language) (number : ℕ) (is_apart : Bool) (verdict : List ℕ)
+    (tries : List (List ℕ)) (first : LinesFrom) (many : ℕ) (text : List ℕ) : Type 0 where
   pub shown : List ℕ
-  pub are_moves : IsMovetextShown g (phrase language phrases.More) p movetext shown
+  pub are_moves : AreMovesShown g (phrase language phrases.More) first many shown
   pub is : text ≡ solution_begin number is_apart ++ (verdict_row verdict ++ (tries_row language tries
       ++ moves_row language shown))
 

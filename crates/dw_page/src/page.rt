@@ -1,13 +1,12 @@
 //! A page: its head, its problems one by one, and its end.
 ghost use Rattle.std.specs.Prelude.{◌≡◌, ◌++◌, List, [], codes, map, ℕ, OnOk, filter_map, option_map};
-ghost use Rattle.std.specs.List.{flat_map, join_by};
+ghost use Rattle.std.specs.List.{join_by};
 ghost use Rattle.std.specs.String.{string_bytes};
-ghost use Rattle.dw_page.specs.Escaping.{shown_bytes, stands_for};
 ghost use Rattle.dw_page.specs.Pages.{IsSolutionShown, author, author_of, begin, end, end_of_problem, front, head};
 ghost use Rattle.dw_page.specs.Pages.{moves_row, numbered, problem, refusal, refused, solution_begin, source, styled};
 ghost use Rattle.dw_page.specs.Pages.{solutions_heading, tries_row, try_shown, values_of, verdict_row};
 ghost use Rattle.dw_page.specs.Pages as of;
-ghost use Rattle.dw_page.specs.SolutionMoves.{IsMovetextShown};
+ghost use Rattle.dw_page.specs.SolutionMoves.{AreMovesShown};
 ghost use Rattle.dw_page.specs.Words.{phrase};
 
 use crate::diagram::push_diagram;
@@ -18,6 +17,7 @@ use crate::script::SCRIPT;
 use crate::style::STYLE;
 use crate::words::{Language, Phrase};
 use dw_board::{Board, Position};
+use dw_solution::FirstLines;
 use itoa::Buffer;
 use std::alloc::{AllocError, Global};
 
@@ -273,14 +273,16 @@ fn push_source(
     Ok(())
 }
 
-/// The texts of a solution: those that stand before its moves, and its movetext.
+/// A solution as a page shows it.
 #[derive(Clone, Copy)]
-pub struct Solution<'a> {
+pub struct Solution<'a, B: Board> {
     /// The verdict, with the moves that it names.
     pub verdict: &'a str,
     /// The tries, each with the reply that refutes it.
     pub tries: &'a [String],
-    pub movetext: &'a [u8],
+    pub first: &'a FirstLines<B>,
+    /// The number of the first lines that are shown.
+    pub lines: usize,
 }
 
 /// Appends the solution of a problem, with its number in front if it is apart from the problem.
@@ -288,18 +290,18 @@ pub fn push_solution<B: Board>(
     alloc: Global,
     page: &mut Vec<u8>,
     look: &Look<'_>,
-    task: &Task<'_, B>,
-    solution: &Solution<'_>,
+    number: u32,
+    solution: &Solution<'_, B>,
     is_apart: bool,
 ) -> Result<(), AllocError>
-    ensures { OnOk result ((text : List ℕ) × IsSolutionShown B.geometry look.now.language task.now.number
-        task.now.position.now is_apart solution.now.verdict.now (map string_bytes solution.now.tries.now)
-        solution.now.movetext.now text × (page.new.items ≡ page.old.items ++ text)) }
+    ensures { OnOk result ((text : List ℕ) × IsSolutionShown B.geometry look.now.language number is_apart
+        solution.now.verdict.now (map string_bytes solution.now.tries.now) solution.now.first.now solution.now.lines
+        text × (page.new.items ≡ page.old.items ++ text)) }
 {
-    push_solution_begin(alloc, page, task.number, is_apart)?;
+    push_solution_begin(alloc, page, number, is_apart)?;
     push_verdict(alloc, page, solution.verdict)?;
     push_tries(alloc, page, look.language, solution.tries)?;
-    push_moves_row(alloc, page, look.language, task.position, solution.movetext)?;
+    push_moves_row(alloc, page, look.language, solution)?;
     Ok(())
 }
 
@@ -386,19 +388,19 @@ fn push_moves_row<B: Board>(
     alloc: Global,
     page: &mut Vec<u8>,
     language: Language,
-    position: &Position<B>,
-    movetext: &[u8],
+    solution: &Solution<'_, B>,
 ) -> Result<(), AllocError>
-    ensures { OnOk result ((shown : List ℕ) × IsMovetextShown B.geometry (phrase language Phrase.More) position.now
-        movetext.now shown × (page.new.items ≡ page.old.items ++ moves_row language shown)) }
+    ensures { OnOk result ((shown : List ℕ) × AreMovesShown B.geometry (phrase language Phrase.More)
+        solution.now.first.now solution.now.lines shown × (page.new.items ≡ page.old.items
+        ++ moves_row language shown)) }
 {
     let label = language.phrase(Phrase::Solution);
     push_all(alloc, page, &["<p>", label, ": <span class=\"moves\">"])?;
     push_moves(
         alloc,
         page,
-        position,
-        movetext,
+        solution.first,
+        solution.lines,
         language.phrase(Phrase::More),
     )?;
     push_all(alloc, page, &["</span></p>\n</div>\n"])?;

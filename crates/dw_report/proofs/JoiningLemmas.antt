@@ -1,14 +1,12 @@
 -- The texts of moves that are written one after another.
-use Rattle.std.proofs.Common.{◌≡◌, ℕ, zero, suc, ◌+◌, ◌<◌, ◌≤◌, List, [], ◌∷◌, ◌++◌, length, get_or, take, drop, refl}
-use Rattle.std.proofs.Common.{sym, ap, ◌∙◌, subst, inl, inr, arith, append_assoc, append-nil}
-use Rattle.std.specs.List.{flat_map, join_by}
-use Rattle.std.proofs.lemmas.List.{take_more, take_all, drop_more, drop_all}
-use Rattle.std.proofs.lemmas.Grind.{flat_map-append}
+use Rattle.std.proofs.Common.{◌≡◌, ℕ, zero, suc, ◌+◌, ◌<◌, ◌≤◌, List, [], ◌∷◌, ◌++◌, length, get_or, drop, refl}
+use Rattle.std.proofs.Common.{sym, ap, ◌∙◌, subst, inl, inr, arith}
+use Rattle.std.proofs.lemmas.List.{drop_more, drop_all}
 use Rattle.dw_board.specs.Geometry.{Geometry}
 use Rattle.dw_board.specs.Placement.{Placement}
 use Rattle.dw_moves.specs.Moves.{Move, Legal, play}
 use Rattle.dw_board.specs.Lists.{Member}
-use Rattle.dw_notation.specs.Text.{IsMoveText, ArePlayable, AreMoveTexts, AreJoined}
+use Rattle.dw_notation.specs.Text.{IsMoveText, ArePlayable, AreMoveTexts}
 use Rattle.dw_verdict.specs.Verdict.{reach}
 
 -- the position after the first so many of some moves
@@ -43,67 +41,3 @@ pub move_texts_more : (g : Geometry) (p : Placement) (ms : List Move) (m : Move)
 move_texts_more g p [] m texts t none is = (t, [], is, refl, ap (λ (z : List (List ℕ)). z ++ t ∷ []) none)
 move_texts_more g p (n ∷ ms) m texts t (one, rest, here, are, e) is =
     (one, rest ++ t ∷ [], here, move_texts_more g p ms m rest t are is, ap (λ (z : List (List ℕ)). z ++ t ∷ []) e)
-
--- texts joined, and a mark and one more behind them
-join_more : (mark first text : List ℕ) (rest : List (List ℕ))
-    → (join_by (λ (z : List ℕ). z) mark (first ∷ rest) ++ mark) ++ text
-    ≡ join_by (λ (z : List ℕ). z) mark (first ∷ (rest ++ text ∷ []))
-join_more mark first text rest =
-    let f = λ (y : List ℕ). mark ++ y in
-    let all : flat_map f (rest ++ text ∷ []) ≡ flat_map f rest ++ (mark ++ text) = flat_map-append f rest (text ∷ [])
-    ∙ ap (λ z. flat_map f rest ++ z) (append-nil (mark ++ text)) in
-    append_assoc (first ++ flat_map f rest) mark text ∙ (append_assoc first (flat_map f rest) (mark ++ text)
-    ∙ ap (λ z. first ++ z) (sym all))
-
--- the texts of the first move and of the first so many others
-pub record JoinedTo (g : Geometry) (p : Placement) (mark : List ℕ) (moves rest : List Move) (i : ℕ) (text : List ℕ) :
-    Type 0 where
-  pub first : Move
-  pub split : moves ≡ first ∷ rest
-  pub are : AreJoined g p mark (first ∷ take i rest) text
-
-pub joined_one : (g : Geometry) (p : Placement) (mark : List ℕ) (moves rest : List Move) (m : Move) (text t : List ℕ)
-    → moves ≡ m ∷ rest → IsMoveText g p m t → text ≡ t → JoinedTo g p mark moves rest 0 text
-joined_one g p mark moves rest m text t split is same = record {
-  first = m;
-  split = split;
-  are = (t ∷ [], (t, [], is, refl, refl), same ∙ sym (append-nil t));
-}
-
-more_joined : (g : Geometry) (p : Placement) (mark : List ℕ) (first m : Move) (ms : List Move) (text t : List ℕ)
-    → AreJoined g p mark (first ∷ ms) text → IsMoveText g p m t
-    → AreJoined g p mark (first ∷ (ms ++ m ∷ [])) ((text ++ mark) ++ t)
-more_joined g p mark first m ms text t (texts, (one, rest, here, are, e), joined) is = (
-  one ∷ (rest ++ t ∷ []),
-  (one, rest ++ t ∷ [], here, move_texts_more g p ms m rest t are is, refl),
-  ap (λ z. (z ++ mark) ++ t) (joined ∙ ap (λ (z : List (List ℕ)). join_by (λ (y : List ℕ). y) mark z) e)
-      ∙ join_more mark one t rest,
-)
-
-pub joined_more : (g : Geometry) (p : Placement) (mark : List ℕ) (moves rest : List Move) (i : ℕ) (m : Move)
-    (text marked new t : List ℕ) → JoinedTo g p mark moves rest i text → i < length rest → m ≡ get_or rest i m
-    → IsMoveText g p m t
-    → marked ≡ text ++ mark → new ≡ marked ++ t → JoinedTo g p mark moves rest (i + 1) new
-joined_more g p mark moves rest i m text marked new t h low at is one two =
-    let here : take (i + 1) rest ≡ take i rest ++ m ∷ [] = take_more rest i m low
-    ∙ ap (λ z. take i rest ++ z ∷ []) (sym at) in
-    let whole : (text ++ mark) ++ t ≡ new = sym (two ∙ ap (λ z. z ++ t) one) in
-    record {
-      first = h.first;
-      split = h.split;
-      are = subst (AreJoined g p mark (h.first ∷ take (i + 1) rest)) whole
-          (subst (λ (z : List Move). AreJoined g p mark (h.first ∷ z) ((text ++ mark) ++ t)) (sym here)
-          (more_joined g p mark h.first m (take i rest) text t h.are is));
-    }
-
-pub joined_all : (g : Geometry) (p : Placement) (mark : List ℕ) (moves rest : List Move) (i : ℕ) (text : List ℕ)
-    → JoinedTo g p mark moves rest i text → length rest ≤ i → AreJoined g p mark moves text
-joined_all g p mark moves rest i text h end =
-    subst (λ (z : List Move). AreJoined g p mark z text) (sym h.split)
-    (subst (λ (z : List Move). AreJoined g p mark (h.first ∷ z) text) (take_all i rest end) h.are)
-
--- no moves give no text
-pub joined_none : (g : Geometry) (p : Placement) (mark : List ℕ) (moves : List Move) (text : List ℕ)
-    → length moves ≡ 0 → text ≡ [] → AreJoined g p mark moves text
-joined_none g p mark [] text none e = ([], refl, e)
-joined_none g p mark (m ∷ moves) text none e = absurd (omega (arith, none))

@@ -4,7 +4,7 @@ ghost use Rattle.std.specs.String.{string_bytes};
 ghost use Rattle.dw_moves.specs.Moves.{Legal};
 ghost use Rattle.dw_board.specs.Lists.{Member};
 ghost use Rattle.dw_moves.specs.Moves as of;
-ghost use Rattle.dw_notation.specs.Text.{ArePlayable, AreJoined};
+ghost use Rattle.dw_notation.specs.Text.{ArePlayable};
 ghost use Rattle.dw_verdict.specs.Verdict.{IsVerdict, Tries, reach, cooked, dual};
 ghost use Rattle.dw_verdict.specs.Judging.{said_by};
 ghost use Rattle.dw_report.specs.JudgedText.{IsVerdictText, IsTryLine};
@@ -14,6 +14,7 @@ ghost use Rattle.dw_report.specs.JudgedText.{IsJudgedText};
 ghost use Rattle.dw_report.specs.Running.{AreLinesOf};
 ghost use Rattle.dw_report.specs.inner.Running.{TextEnds, SinkEnds, Spends};
 
+use crate::move_texts::joined_text;
 use crate::problem::TextFault;
 use dw_board::{Board, Position};
 use dw_memo::Memo;
@@ -278,26 +279,4 @@ pub(crate) fn reached<B: Board>(position: &Position<B>, moves: &[Move<B>]) -> Po
         current = play(&current, mv);
     }
     current
-}
-
-/// Returns the texts of moves, which must all be legal in the position, with a mark between them.
-pub fn joined_text<B: Board>(
-    alloc: Global,
-    position: &Position<B>,
-    moves: &[Move<B>],
-    mark: &str,
-) -> Result<String, AllocError>
-    requires { (m : of.Move) → Member m moves.now → Legal B.geometry position.now m }
-    ensures { IfOk result (λ text. AreJoined B.geometry position.now mark.now moves.now (string_bytes text)) }
-{
-    let mut text = String::new(alloc);
-    let Some((first, rest)) = moves.split_first() else {
-        return Ok(text);
-    };
-    text.push_str(text_in(alloc, position, first)?.as_str())?;
-    'rest: for mv in rest {
-        text.push_str(mark)?;
-        text.push_str(text_in(alloc, position, mv)?.as_str())?;
-    }
-    Ok(text)
 }

@@ -15,7 +15,7 @@ mod text;
 
 pub use dw_notation::{problems, streams};
 pub use dw_verdict::{Judged, Verdict, judge, verdict};
-pub use judged::{joined_text, judged_text};
-pub use move_texts::{dual_texts, key_texts, try_texts};
+pub use judged::judged_text;
+pub use move_texts::{dual_texts, each_move_text, joined_text, key_texts, try_texts};
 pub use settings::{Command, RunFault, Settings, Stop, Summary};
 pub use text::{problem_line, refusal_text};

@@ -4,7 +4,7 @@ ghost use Rattle.std.specs.String.{string_bytes};
 ghost use Rattle.dw_board.specs.Lists.{Member};
 ghost use Rattle.dw_moves.specs.Moves.{Legal, play as after};
 ghost use Rattle.dw_moves.specs.Moves as of;
-ghost use Rattle.dw_notation.specs.Text.{AreMoveTexts, IsLineText, IsMoveText};
+ghost use Rattle.dw_notation.specs.Text.{AreJoined, AreMoveTexts, IsLineText, IsMoveText};
 ghost use Rattle.dw_verdict.specs.Judging.{said_by};
 ghost use Rattle.dw_report.specs.MoveTexts.{AreKeyTexts, AreTryTexts, AreChoices};
 ghost use Rattle.dw_verdict.specs.Verdict.{IsVerdict, Tries, reach, dual};
@@ -33,9 +33,9 @@ pub fn key_texts<B: Board>(
 {
     match verdict {
         Verdict::Unsolvable => Ok(Vec::new(alloc)),
-        Verdict::Cooked { keys, .. } => move_texts(alloc, position, keys.as_slice()),
-        Verdict::Dual { at, .. } => move_texts(alloc, position, &at.as_slice()[..1]),
-        Verdict::Sound { key } => move_texts(alloc, position, slice::from_ref(key)),
+        Verdict::Cooked { keys, .. } => each_move_text(alloc, position, keys.as_slice()),
+        Verdict::Dual { at, .. } => each_move_text(alloc, position, &at.as_slice()[..1]),
+        Verdict::Sound { key } => each_move_text(alloc, position, slice::from_ref(key)),
     }
 }
 
@@ -53,7 +53,7 @@ pub fn dual_texts<B: Board>(
         (map string_bytes texts.1.items)) }
 {
     let line = line_text(alloc, position, at)?;
-    let choices = move_texts(alloc, &reached(position, at), choices)?;
+    let choices = each_move_text(alloc, &reached(position, at), choices)?;
     Ok((String::from_str(alloc, line.as_str())?, choices))
 }
 
@@ -94,8 +94,8 @@ pub(crate) fn try_words<B: Board>(
     ))
 }
 
-/// Returns the texts of moves, which must all be legal in the position, in their order.
-fn move_texts<B: Board>(
+/// Returns the text of each move, in their order. They must all be legal in the position.
+pub fn each_move_text<B: Board>(
     alloc: Global,
     position: &Position<B>,
     moves: &[Move<B>],
@@ -109,4 +109,19 @@ fn move_texts<B: Board>(
         texts.push(String::from_str(alloc, text.as_str())?)?;
     }
     Ok(texts)
+}
+
+/// Returns the texts of moves, which must all be legal in the position, with a mark between them.
+pub fn joined_text<B: Board>(
+    alloc: Global,
+    position: &Position<B>,
+    moves: &[Move<B>],
+    mark: &str,
+) -> Result<String, AllocError>
+    requires { (m : of.Move) → Member m moves.now → Legal B.geometry position.now m }
+    ensures { IfOk result (λ text. AreJoined B.geometry position.now mark.now moves.now (string_bytes text)) }
+{
+    let texts = each_move_text(alloc, position, moves)?;
+    let text = texts.as_slice().join(alloc, mark)?;
+    Ok(text)
 }

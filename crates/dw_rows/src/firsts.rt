@@ -13,7 +13,7 @@ use dw_first_moves::{Effect, FirstMove, FirstMoves};
 use dw_json::{PutObject, begin_row, end_row, put_number, put_objects, put_text, put_texts};
 use dw_moves::play::play;
 use dw_notation::text_in;
-use dw_study::move_texts;
+use dw_report::each_move_text;
 use json::Writer;
 use std::alloc::{AllocError, Global};
 
@@ -78,7 +78,7 @@ fn put_effect<B: Board>(
     match effect {
         Effect::WinsIn(moves) => put_number(row, "wins_in", (*moves).into()),
         Effect::RefutedBy(replies) => {
-            let texts = move_texts(alloc, after, replies.as_slice())?;
+            let texts = each_move_text(alloc, after, replies.as_slice())?;
             put_texts(row, "refuted_by", texts.as_slice())
         }
     }

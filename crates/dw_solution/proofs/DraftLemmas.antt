@@ -1,6 +1,6 @@
 -- The text of first lines, put together.
-use Rattle.std.proofs.Common.{◌≡◌, ℕ, ◌+◌, ◌-◌, ◌<◌, ◌≤◌, suc, List, [], ◌∷◌, ◌++◌, length, take, refl, sym, ap, subst, ◌∙◌}
-use Rattle.std.proofs.Common.{Bool, true, false, leb, cond, append_assoc, length-append, arith, decimal, codes}
+use Rattle.std.proofs.Common.{◌≡◌, ℕ, ◌+◌, ◌-◌, ◌<◌, ◌≤◌, suc, List, [], ◌∷◌, ◌++◌, length, refl, sym, ap, subst, ◌∙◌}
+use Rattle.std.proofs.Common.{Bool, true, false, leb, cond, length-append, arith, decimal, codes}
 use Rattle.std.proofs.lemmas.Fmt.{length-decimal-le}
 use Rattle.dw_board.specs.Geometry.{Geometry, IsBoard}
 use Rattle.dw_board.specs.Placement.{Placement, IsPosition}
@@ -10,15 +10,14 @@ use Rattle.dw_moves.specs.Laws.{PlayStays}
 use Rattle.dw_moves.specs.Moves.{Move}
 use Rattle.dw_notation.specs.MoveReadingLaws.{WrittenMoveIsNamed}
 use Rattle.dw_solution.specs.FirstLines.{LinesFrom, is_cut}
-use Rattle.dw_solution.specs.Tree.{Tree, over, branch, lines_of, IsTreeOf}
+use Rattle.dw_solution.specs.Tree.{Tree, over, branch, lines_of}
 use Rattle.dw_solution.specs.Words.{AreWords}
-use Rattle.dw_solution.specs.Movetext.{filled, in_lines, verdict_word, verdict_comment, first_half, result_of}
-use Rattle.dw_solution.specs.Movetext.{last_words, IsTextOf, IsTextOfFirst, IsMovetext}
-use Rattle.dw_solution.specs.inner.Feeds.{fed, feeding, IsAdded, IsUnbroken, AreUnbroken}
+use Rattle.dw_solution.specs.Movetext.{AreWordsOfFirst, IsMovetext, IsTextOfFirst, filled, first_half, in_lines}
+use Rattle.dw_solution.specs.Movetext.{in_movetext, last_words, result_of, verdict_comment, verdict_word}
+use Rattle.dw_solution.specs.inner.Feeds.{feeding, IsUnbroken, AreUnbroken}
 use Rattle.dw_solution.specs.declared.heading.Heading.{Heading}
 use Rattle.dw_solution.specs.declared.heading.VerdictKind.{VerdictKind}
 use Rattle.dw_solution.specs.declared.heading.VerdictKind.TheVariants.{Unsolvable, Cooked, Dual, Sound}
-use Rattle.dw_solution.proofs.FeedLemmas.{fed_append}
 use Rattle.dw_solution.proofs.TreeLemmas.{lines_some}
 use Rattle.dw_solution.proofs.WordLemmas.{is_no_feed, all_append, decimal_unbroken, unbroken_append, words_unbroken}
 
@@ -43,43 +42,19 @@ result_unbroken side [] = refl
 result_unbroken White (l ∷ lines) = refl
 result_unbroken Black (l ∷ lines) = refl
 
-last_unbroken : (more : Bool) (result : List ℕ) → IsUnbroken result → AreUnbroken (last_words more result)
+last_unbroken : (more : Bool) (result : List ℕ) → IsUnbroken result → AreUnbroken (last_words in_movetext more result)
 last_unbroken true result h = (refl, (h, tt))
 last_unbroken false result h = (h, tt)
 
--- ---- the whole text
-pub draft_text : (named : WrittenMoveIsNamed) (stays : PlayStays) (g : Geometry) → IsBoard g → (p : Placement)
-    → IsPosition g p.cells → (heading : Heading) (first : LinesFrom) (flag : Bool) (many : ℕ) (tree : Tree)
-    (a b c text : List ℕ) → p ≡ first.start → flag ≡ is_cut first many → IsTreeOf (take many first.lines) tree
-    → a ≡ verdict_comment heading ++ 10 ∷ []
-    → IsAdded (AreWords g p (first_half p.turn) true tree) a b
-    → c ≡ b ++ fed (last_words flag (result_of first.start.turn first.lines))
-    → ((w : List ℕ) (words : List (List ℕ)) → IsUnbroken w → AreUnbroken words → c ≡ fed (w ∷ words)
-    → text ≡ in_lines (w ∷ words))
-    → IsTextOfFirst g heading first many text
-draft_text named stays g board p pos heading first flag many tree a b c text here is whole front play end lined =
-    let lines : List (List Move) = first.lines in
-    let words : List (List ℕ) = play.words in
-    let last : List (List ℕ) = last_words flag (result_of p.turn lines) in
-    let comment : List ℕ = verdict_comment heading in
-    let unbroken : AreUnbroken (words ++ last) =
-    unbroken_append words last (words_unbroken named stays g board p pos (first_half p.turn) true tree words play.are)
-    (last_unbroken flag (result_of p.turn lines) (result_unbroken p.turn lines)) in
-    let all : c ≡ fed (comment ∷ (words ++ last)) =
-    end ∙ ap (λ z. b ++ fed (last_words flag (result_of z.turn lines))) (sym here)
-    ∙ (ap (λ z. z ++ fed last) (play.added ∙ ap (λ z. z ++ fed words) front)
-    ∙ (append_assoc (comment ++ 10 ∷ []) (fed words) (fed last)
-    ∙ (append_assoc comment (10 ∷ []) (fed words ++ fed last)
-    ∙ ap (λ z. comment ++ 10 ∷ z) (sym (fed_append words last))))) in
-    subst (λ z. IsTextOf g z comment (last_words (is_cut first many) (result_of z.turn lines)) (take many lines) text)
-    here (
-      tree,
-      words,
-      whole,
-      play.are,
-      lined comment (words ++ last) (comment_unbroken heading) unbroken all
-          ∙ ap (λ z. in_lines (comment ∷ (words ++ last_words z (result_of p.turn lines)))) is,
-    )
+pub all_unbroken : WrittenMoveIsNamed → PlayStays → (g : Geometry) → IsBoard g → (first : LinesFrom) (many : ℕ)
+    (words : List (List ℕ)) → IsPosition g first.start.cells → AreWordsOfFirst in_movetext g first many words
+    → AreUnbroken words
+all_unbroken named stays g board first many words pos (tree, played, whole, are, e) =
+    let p : Placement = first.start in
+    let last : List ℕ = result_of p.turn first.lines in
+    subst AreUnbroken (sym e) (unbroken_append played (last_words in_movetext (is_cut first many) last)
+    (words_unbroken named stays g board p pos (first_half p.turn) true tree played are)
+    (last_unbroken (is_cut first many) last (result_unbroken p.turn first.lines)))
 
 -- ---- the text without a line is short
 length_filled : (column : ℕ) (words : List (List ℕ)) → length (filled column words) ≡ length (feeding words)
@@ -110,7 +85,7 @@ comment_short heading low =
     omega (arith, digits, one, two, three)
 
 last_short : (more : Bool) (side : Side) (lines : List (List Move))
-    → length (feeding (last_words more (result_of side lines))) ≤ 20
+    → length (feeding (last_words in_movetext more (result_of side lines))) ≤ 20
 last_short true side [] = omega arith
 last_short true White (l ∷ lines) = omega arith
 last_short true Black (l ∷ lines) = omega arith
@@ -122,19 +97,20 @@ filled_list : {X : Type 0} {x : X} {xs : List X} → x ∷ xs ≡ [] → ⊥
 filled_list e = cc
 
 no_words : (g : Geometry) (p : Placement) (half : ℕ) (due : Bool) (tree : Tree) (words : List (List ℕ))
-    → lines_of tree ≡ [] → AreWords g p half due tree words → words ≡ []
+    → lines_of tree ≡ [] → AreWords in_movetext g p half due tree words → words ≡ []
 no_words g p half due over words e h = h
 no_words g p half due (branch m b o) words e h = let some = lines_some m b o in absurd (filled_list (sym some.2 ∙ e))
 
 pub none_is_short : (g : Geometry) (heading : Heading) (first : LinesFrom) (text : List ℕ) → heading.moves < 256
     → IsTextOfFirst g heading first 0 text → length text ≤ 1000000
-none_is_short g heading first text low (tree, words, whole, are, e) =
+none_is_short g heading first text low (words, (tree, played, whole, are, joined), e) =
     let p : Placement = first.start in
     let flag : Bool = is_cut first 0 in
-    let last : List (List ℕ) = last_words flag (result_of p.turn first.lines) in
-    let none : words ≡ [] = no_words g p (first_half p.turn) true tree words whole.lines are in
+    let last : List (List ℕ) = last_words in_movetext flag (result_of p.turn first.lines) in
+    let none : words ≡ last =
+    joined ∙ ap (λ z. z ++ last) (no_words g p (first_half p.turn) true tree played whole.lines are) in
     let is : text ≡ verdict_comment heading ++ filled (length (verdict_comment heading)) last =
-    e ∙ ap (λ z. in_lines (verdict_comment heading ∷ (z ++ last))) none in
+    e ∙ ap (λ z. in_lines (verdict_comment heading ∷ z)) none in
     let long = ap length is ∙ length-append (verdict_comment heading) (filled (length (verdict_comment heading)) last) in
     omega (
       arith,

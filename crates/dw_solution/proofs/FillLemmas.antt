@@ -5,8 +5,7 @@ use Rattle.std.specs.Prelude.{not, ◌==◌}
 use Rattle.std.proofs.lemmas.Bool.{cond-true, cond-false, le-leb, lt-leb, true≢false, and_parts, not_from_true, eq-eqb}
 use Rattle.std.proofs.lemmas.List.{drop_more, drop_all, set_at, drop_at, take_at}
 use Rattle.dw_solution.specs.Movetext.{filled}
-use Rattle.dw_solution.proofs.FeedLemmas.{fed_feeding}
-use Rattle.dw_solution.specs.inner.Feeds.{fed, feeding, IsUnbroken, AreUnbroken, IsFilledTo, IsWordFrom}
+use Rattle.dw_solution.specs.inner.Feeds.{feeding, IsUnbroken, AreUnbroken, IsFilledTo, IsWordFrom}
 
 heads : {m n : ℕ} {l k : List ℕ} → m ∷ l ≡ n ∷ k → m ≡ n
 heads e = cc
@@ -159,16 +158,6 @@ pub filled_all : (text whole : List ℕ) (line feed : ℕ) → IsFilledTo text w
     → text ≡ whole
 filled_all text whole line feed h high =
     all_words text whole line feed h.done h.words h.now h.at h.ahead high
-
--- ---- the last line feed taken away
-pub popped : (items new w : List ℕ) (words : List (List ℕ)) (n : ℕ) → items ≡ fed (w ∷ words) → n ≡ length items
-    → new ≡ take (n - 1) items → new ≡ w ++ feeding words
-popped items new w words n e many is =
-    let whole : items ≡ (w ++ feeding words) ++ 10 ∷ [] = e ∙ fed_feeding w words in
-    let long = ap length whole in
-    let joined = length-append (w ++ feeding words) (10 ∷ []) in
-    is ∙ (ap (take (n - 1)) whole
-    ∙ take_at (w ++ feeding words) (10 ∷ []) (n - 1) (omega (arith, many, long, joined)))
 
 pub written_back : (n : ℕ) (text items : List ℕ) → n ≡ length items → length text ≡ length items
     → take n (text ++ drop (length text) items) ≡ text

@@ -12,7 +12,7 @@ use Rattle.dw_games.specs.Tokens.{opens, closes, written, open_result, in_braces
 use Rattle.dw_games.specs.declared.tokens.TokenKind.{TokenKind}
 use Rattle.dw_games.specs.declared.tokens.TokenKind.TheVariants.{Comment, Passed, Written, Opens, Closes}
 use Rattle.dw_solution.specs.Words.{closed, in_parentheses}
-use Rattle.dw_solution.specs.Movetext.{filled, in_lines}
+use Rattle.dw_solution.specs.Movetext.{filled, in_lines, in_movetext}
 use Rattle.dw_solution.proofs.WordLemmas.{IsMade}
 
 -- what a token is, and its bytes
@@ -84,7 +84,7 @@ spelled_append (x ∷ xs) ys ks ms (a, b, s, t, e) k =
     (a, b ++ ms, s, spelled_append xs ys b ms t k, ap (λ z. z ++ ms) e ∙ append_assoc a b ms)
 
 spelled_closed : (w : List ℕ) (words : List (List ℕ)) (ks : List (TokenKind × List ℕ)) → AreSpelled (w ∷ words) ks
-    → AreSpelled (closed (w ∷ words)) (ks ++ closing ∷ [])
+    → AreSpelled (closed in_movetext (w ∷ words)) (ks ++ closing ∷ [])
 spelled_closed w [] ks (a, b, s, t, e) =
     let whole : ks ≡ a = e ∙ (ap (λ z. a ++ z) t ∙ append-nil a) in (
       a ++ closing ∷ [],
@@ -102,7 +102,7 @@ spelled_closed w (v ∷ words) ks (a, b, s, t, e) = (
 )
 
 pub spelled_within : (w : List ℕ) (words : List (List ℕ)) (ks : List (TokenKind × List ℕ)) → AreSpelled (w ∷ words) ks
-    → AreSpelled (in_parentheses (w ∷ words)) (opening ∷ (ks ++ closing ∷ []))
+    → AreSpelled (in_parentheses in_movetext (w ∷ words)) (opening ∷ (ks ++ closing ∷ []))
 spelled_within w words ks (a, b, s, t, e) =
     spelled_closed (40 ∷ w) words (opening ∷ ks)
     (opening ∷ a, b, spelled_open w a s, t, ap (λ z. opening ∷ z) e)

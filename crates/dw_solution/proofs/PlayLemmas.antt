@@ -2,7 +2,8 @@
 use Rattle.std.proofs.Common.{◌≡◌, ℕ, ◌+◌, ◌-◌, ◌<◌, ◌≤◌, suc, List, [], ◌∷◌, ◌++◌, length, map, refl, sym, ap}
 use Rattle.std.proofs.Common.{subst, ◌∙◌, inl, inr, append_assoc, append-nil, length-append, arith, Bool, true, false, cond}
 use Rattle.std.proofs.Common.{codes, decimal}
-use Rattle.std.specs.Prelude.{◌==◌, ◌%◌, ◌/◌, Ok}
+use Rattle.std.specs.List.{list_all}
+use Rattle.std.specs.Prelude.{◌==◌, ◌||◌, ◌%◌, ◌/◌, Ok}
 use Rattle.dw_board.specs.Geometry.{Geometry, IsBoard}
 use Rattle.dw_board.specs.Lists.{Member}
 use Rattle.dw_board.specs.Placement.{Placement, IsPosition}
@@ -13,12 +14,12 @@ use Rattle.dw_notation.specs.MoveReading.{IsRead}
 use Rattle.dw_notation.specs.MoveReadingLaws.{WrittenMoveIsNamed}
 use Rattle.dw_notation.specs.Text.{IsMoveText}
 use Rattle.dw_games.specs.Play.{results, crossed, after, IsMove, IsVariation, empty, passed, move, variation}
-use Rattle.dw_games.specs.Tokens.{Token}
+use Rattle.dw_games.specs.Tokens.{Token, is_dot}
 use Rattle.dw_games.specs.declared.tokens.TokenKind.{TokenKind}
 use Rattle.dw_games.specs.declared.tokens.TokenKind.TheVariants.{Passed, Written}
 use Rattle.dw_solution.specs.Tree.{Tree, over, branch, or_ended, lines_of}
-use Rattle.dw_solution.specs.Words.{AreWords, AreVariations, move_words, number_word, in_parentheses, has_move}
-use Rattle.dw_solution.proofs.FeedLemmas.{some_words}
+use Rattle.dw_solution.specs.Movetext.{in_movetext}
+use Rattle.dw_solution.specs.Words.{AreWords, AreVariations, dots, has_move, in_parentheses, move_words, number_word}
 use Rattle.dw_solution.proofs.TreeLemmas.{ended_some}
 use Rattle.dw_solution.proofs.WordLemmas.{decimal_digits, text_legal}
 use Rattle.dw_solution.proofs.ResultLemmas.{names_written, names_crossed, not_result}
@@ -31,28 +32,28 @@ Mark = TokenKind × List ℕ
 
 abbrev marks_of_move : ℕ → (due : Bool) → List ℕ → List Mark
 marks_of_move half due text =
-    cond (half % 2 == 0) ((Passed, number_word half (codes ".")) ∷ (Written, text) ∷ [])
-    (cond due ((Passed, number_word half (codes "...")) ∷ (Written, text) ∷ []) ((Written, text) ∷ []))
+    cond (due || (half % 2 == 0)) ((Passed, number_word in_movetext half) ∷ (Written, text) ∷ []) ((Written, text) ∷ [])
+
+dotted : (half : ℕ) → (0 < length (dots half)) × (list_all is_dot (dots half) ≡ true)
+dotted half =
+    elim (half % 2 == 0) as (λ b. (0 < length (cond b (codes ".") (codes "...")))
+    × (list_all is_dot (cond b (codes ".") (codes "...")) ≡ true)) [
+      | true ↦ (omega arith, refl)
+      | false ↦ (omega arith, refl)
+    ]
 
 spelled_move : (half : ℕ) (due : Bool) (text : List ℕ) → IsSpelled text ((Written, text) ∷ [])
-    → AreSpelled (move_words half due text) (marks_of_move half due text)
+    → AreSpelled (move_words in_movetext half due text) (marks_of_move half due text)
 spelled_move half due text h =
+    let word : List ℕ = number_word in_movetext half in
     let last : AreSpelled (text ∷ []) ((Written, text) ∷ []) = spelled_one text ((Written, text) ∷ []) h in
-    let one : IsSpelled (number_word half (codes ".")) ((Passed, number_word half (codes ".")) ∷ []) =
-    number_spelled (decimal (half / 2 + 1)) (codes ".") (decimal_digits (half / 2 + 1)) (omega arith) refl in
-    let three : IsSpelled (number_word half (codes "...")) ((Passed, number_word half (codes "...")) ∷ []) =
-    number_spelled (decimal (half / 2 + 1)) (codes "...") (decimal_digits (half / 2 + 1)) (omega arith) refl in
-    elim (half % 2 == 0) as (λ b. AreSpelled
-    (cond b (number_word half (codes ".") ∷ text ∷ [])
-    (cond due (number_word half (codes "...") ∷ text ∷ []) (text ∷ [])))
-    (cond b ((Passed, number_word half (codes ".")) ∷ (Written, text) ∷ [])
-    (cond due ((Passed, number_word half (codes "...")) ∷ (Written, text) ∷ []) ((Written, text) ∷ [])))) [
-      | true ↦ ((Passed, number_word half (codes ".")) ∷ [], (Written, text) ∷ [], one, last, refl)
-      | false ↦ elim due as (λ b. AreSpelled (cond b (number_word half (codes "...") ∷ text ∷ []) (text ∷ []))
-          (cond b ((Passed, number_word half (codes "...")) ∷ (Written, text) ∷ []) ((Written, text) ∷ []))) [
-            | true ↦ ((Passed, number_word half (codes "...")) ∷ [], (Written, text) ∷ [], three, last, refl)
-            | false ↦ last
-          ]
+    let number : IsSpelled word ((Passed, word) ∷ []) =
+    number_spelled (decimal (half / 2 + 1)) (dots half) (decimal_digits (half / 2 + 1)) (dotted half).0
+    (dotted half).1 in
+    elim (due || (half % 2 == 0)) as (λ b. AreSpelled (cond b (word ∷ []) [] ++ text ∷ [])
+    (cond b ((Passed, word) ∷ (Written, text) ∷ []) ((Written, text) ∷ []))) [
+      | true ↦ ((Passed, word) ∷ [], (Written, text) ∷ [], number, last, refl)
+      | false ↦ last
     ]
 
 -- ---- lists that are mapped to others
@@ -158,7 +159,8 @@ module _ (named : WrittenMoveIsNamed) (stays : PlayStays) (takes : LegalMovesTak
       let whole : us ≡ c.0 ∷ [] = c.2 ∙ ap (λ z. c.0 ∷ z) (map_none c.1 c.4) in
       subst (λ z. Goal (ts ++ z)) (sym whole)
       (play_one room before moves ts paths path q m text c.0 here join short pos is h c.3) in
-      let numbered : (n : List ℕ) → map mark_of us ≡ (Passed, n) ∷ (Written, text) ∷ [] → Goal (ts ++ us) = λ n same.
+      let n : List ℕ = number_word in_movetext half in
+      let numbered : map mark_of us ≡ (Passed, n) ∷ (Written, text) ∷ [] → Goal (ts ++ us) = λ same.
       let c = map_cons us (Passed, n) ((Written, text) ∷ []) same in
       let d = map_cons c.1 (Written, text) [] c.4 in
       let whole : us ≡ c.0 ∷ d.0 ∷ [] =
@@ -166,17 +168,12 @@ module _ (named : WrittenMoveIsNamed) (stays : PlayStays) (takes : LegalMovesTak
       subst (λ z. Goal (ts ++ z)) (sym whole) (subst Goal (append_assoc ts (c.0 ∷ []) (d.0 ∷ []))
       (play_one room before moves (ts ++ c.0 ∷ []) paths path q m text d.0 here join short pos is
       (passed c.0 h (inr (ap (λ z. z.0) c.3))) d.3)) in
-      let go : (b : Bool) → map mark_of us ≡ cond b ((Passed, number_word half (codes ".")) ∷ (Written, text) ∷ [])
-      (cond due ((Passed, number_word half (codes "...")) ∷ (Written, text) ∷ []) ((Written, text) ∷ []))
+      let go : (b : Bool) → map mark_of us ≡ cond b ((Passed, n) ∷ (Written, text) ∷ []) ((Written, text) ∷ [])
       → Goal (ts ++ us) = elim [
-        | true ↦ λ same. numbered (number_word half (codes ".")) same
-        | false ↦ λ same. elim due as (λ b. map mark_of us ≡ cond b
-            ((Passed, number_word half (codes "...")) ∷ (Written, text) ∷ []) ((Written, text) ∷ []) → Goal (ts ++ us)) [
-              | true ↦ λ e. numbered (number_word half (codes "...")) e
-              | false ↦ λ e. plain e
-            ] same
+        | true ↦ λ same. numbered same
+        | false ↦ λ same. plain same
       ] in
-      go (half % 2 == 0) e
+      go (due || (half % 2 == 0)) e
 
   -- what words that are read as these marks say of a tree: play that goes on, or variations
   abbrev pub Plays : Tree → Placement → List Mark → Type 0
@@ -320,7 +317,7 @@ module _ (named : WrittenMoveIsNamed) (stays : PlayStays) (takes : LegalMovesTak
 
   mutual
     pub play_words : (t : Tree) (q : Placement) → IsPosition g q.cells → (half : ℕ) (due : Bool)
-        (words : List (List ℕ)) → AreWords g q half due t words
+        (words : List (List ℕ)) → AreWords in_movetext g q half due t words
         → (ks : List Mark) × AreSpelled words ks × Plays t q ks
     play_words over q pos half due words h = ([], subst (λ z. AreSpelled z []) (sym h) refl, plays_over q)
     play_words (branch m b o) q pos half due words (text, variations, rest, is, beside, next, e) =
@@ -330,33 +327,29 @@ module _ (named : WrittenMoveIsNamed) (stays : PlayStays) (takes : LegalMovesTak
         let marks : List Mark = marks_of_move half due text in (
           marks ++ (v.0 ++ r.0),
           subst (λ z. AreSpelled z (marks ++ (v.0 ++ r.0))) (sym e)
-              (spelled_append (move_words half due text) (variations ++ rest) marks (v.0 ++ r.0)
+              (spelled_append (move_words in_movetext half due text) (variations ++ rest) marks (v.0 ++ r.0)
               (spelled_move half due text (text_spelled q pos m text is))
               (spelled_append variations rest v.0 r.0 v.1 r.1)),
           plays_branch m b o q half due text v.0 r.0 pos is v.2 r.2,
         )
 
     variation_words : (t : Tree) (q : Placement) → IsPosition g q.cells → (half : ℕ) (words : List (List ℕ))
-        → AreVariations g q half t words → (ks : List Mark) × AreSpelled words ks × Varies t q ks
+        → AreVariations in_movetext g q half t words → (ks : List Mark) × AreSpelled words ks × Varies t q ks
     variation_words over q pos half words h = ([], subst (λ z. AreSpelled z []) (sym h) refl, varies_over q)
     variation_words (branch m b o) q pos half words (text, rest, more, is, next, beside, e) =
         let after_move = stays g board q m pos (text_legal g q m text is) in
         let r = play_words b (play g q m) after_move (half + 1) false rest next in
         let v = variation_words o q pos half more beside in
         let marks : List Mark = marks_of_move half true text in
-        let inner : List (List ℕ) = move_words half true text ++ rest in
-        let some = some_words half true text in
-        let same : inner ≡ some.0 ∷ (some.1 ++ rest) = ap (λ z. z ++ rest) some.2 in
+        let inner : List (List ℕ) = move_words in_movetext half true text ++ rest in
+        let around : List Mark = opening ∷ ((marks ++ r.0) ++ closing ∷ []) in
         let spelled : AreSpelled inner (marks ++ r.0) =
-        spelled_append (move_words half true text) rest marks r.0
+        spelled_append (move_words in_movetext half true text) rest marks r.0
         (spelled_move half true text (text_spelled q pos m text is)) r.1 in
-        let within : AreSpelled (in_parentheses inner) (opening ∷ ((marks ++ r.0) ++ closing ∷ [])) =
-        subst (λ z. AreSpelled (in_parentheses z) (opening ∷ ((marks ++ r.0) ++ closing ∷ []))) (sym same)
-        (spelled_within some.0 (some.1 ++ rest) (marks ++ r.0) (subst (λ z. AreSpelled z (marks ++ r.0)) same spelled))
-        in
-        let all : List Mark = (opening ∷ ((marks ++ r.0) ++ closing ∷ [])) ++ v.0 in (
-          all,
-          subst (λ z. AreSpelled z all) (sym e)
-              (spelled_append (in_parentheses inner) more (opening ∷ ((marks ++ r.0) ++ closing ∷ [])) v.0 within v.1),
+        let within : AreSpelled (in_parentheses in_movetext inner) around =
+        spelled_within (number_word in_movetext half) (text ∷ rest) (marks ++ r.0) spelled in (
+          around ++ v.0,
+          subst (λ z. AreSpelled z (around ++ v.0)) (sym e)
+              (spelled_append (in_parentheses in_movetext inner) more around v.0 within v.1),
           varies_branch m b o q half text r.0 v.0 pos is r.2 v.2,
         )

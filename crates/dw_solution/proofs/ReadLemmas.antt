@@ -18,7 +18,8 @@ use Rattle.dw_games.specs.declared.tokens.TokenKind.{TokenKind}
 use Rattle.dw_games.specs.declared.tokens.TokenKind.TheVariants.{Comment, Written}
 use Rattle.dw_solution.specs.FirstLines.{LinesFrom, is_cut}
 use Rattle.dw_solution.specs.Laws.{IsBeginning, IsReadAs}
-use Rattle.dw_solution.specs.Movetext.{verdict_word, verdict_comment, first_half, result_of, last_words, IsMovetext}
+use Rattle.dw_solution.specs.Movetext.{IsMovetext, first_half, in_lines, in_movetext, last_words, result_of}
+use Rattle.dw_solution.specs.Movetext.{verdict_comment, verdict_word}
 use Rattle.dw_solution.specs.Tree.{Tree, over, branch, lines_of}
 use Rattle.dw_solution.specs.declared.heading.Heading.{Heading}
 use Rattle.dw_solution.specs.declared.heading.VerdictKind.{VerdictKind}
@@ -68,7 +69,7 @@ last_marks true result = (Comment, codes "{more}") ∷ (Written, result) ∷ []
 last_marks false result = (Written, result) ∷ []
 
 last_spelled : (more : Bool) (result : List ℕ) → IsSpelled result ((Written, result) ∷ [])
-    → AreSpelled (last_words more result) (last_marks more result)
+    → AreSpelled (last_words in_movetext more result) (last_marks more result)
 last_spelled true result h = (
   (Comment, codes "{more}") ∷ [],
   (Written, result) ∷ [],
@@ -132,23 +133,24 @@ pub read_back : WrittenMoveIsNamed → PlayStays → LegalMovesTake → (g : Geo
 read_back named stays takes g board heading begun many text pos few written some =
     let p : Placement = begun.start in
     let lines : List (List Move) = begun.lines in
-    let tree : Tree = written.is.0 in
-    let words : List (List ℕ) = written.is.1 in
-    let whole = written.is.2 in
+    let all = written.is.1 in
+    let tree : Tree = all.0 in
+    let words : List (List ℕ) = all.1 in
+    let whole = all.2 in
     let flag : Bool = is_cut begun many in
     let result : List ℕ = result_of p.turn lines in
     let comment : List ℕ = verdict_comment heading in
-    let play = play_words named stays takes g board p tree p pos (first_half p.turn) true words written.is.3 in
+    let play = play_words named stays takes g board p tree p pos (first_half p.turn) true words all.3 in
+    let last : List (List ℕ) = last_words in_movetext flag result in
     let behind : List (TokenKind × List ℕ) = last_marks flag result in
-    let spelled : AreSpelled (comment ∷ (words ++ last_words flag result)) ((Comment, comment) ∷ (play.0 ++ behind)) = (
+    let spelled : AreSpelled (comment ∷ (words ++ last)) ((Comment, comment) ∷ (play.0 ++ behind)) = (
       (Comment, comment) ∷ [],
       play.0 ++ behind,
       verdict_spelled heading,
-      spelled_append words (last_words flag result) play.0 behind play.1
-          (last_spelled flag result (result_spelled p.turn lines)),
+      spelled_append words last play.0 behind play.1 (last_spelled flag result (result_spelled p.turn lines)),
       refl,
     ) in
-    let read = lines_read comment (words ++ last_words flag result) ((Comment, comment) ∷ (play.0 ++ behind)) spelled in
+    let read = lines_read comment (words ++ last) ((Comment, comment) ∷ (play.0 ++ behind)) spelled in
     let front = map_cons read.0 (Comment, comment) (play.0 ++ behind) read.2 in
     let split = map_split front.1 play.0 behind front.4 in
     let opened : IsVariation g p 40 [] (front.0 ∷ []) [] [] = passed front.0 empty (inl (ap (λ z. z.0) front.3)) in
@@ -168,7 +170,8 @@ read_back named stays takes g board heading begun many text pos few written some
       is = record {
         size = omega (arith, written.short);
         tokens = read.0;
-        are_tokens = subst (λ z. AreTokens 1 true z read.0 []) (sym written.is.4) read.1;
+        are_tokens = subst (λ z. AreTokens 1 true z read.0 [])
+            (sym (written.is.2 ∙ ap (λ z. in_lines (comment ∷ z)) all.4)) read.1;
         paths = played.1;
         game = inr (subst (λ z. IsOver g p z played.1) tokens ended);
         distinct = once.1;

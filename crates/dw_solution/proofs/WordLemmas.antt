@@ -2,7 +2,7 @@
 use Rattle.std.proofs.Common.{◌≡◌, ℕ, ◌+◌, ◌<◌, zero, suc, List, [], ◌∷◌, ◌++◌, refl, sym, ap, subst, ◌∙◌, inl, inr}
 use Rattle.std.proofs.Common.{Bool, true, false, leb, cond, decimal, codes, arith, Some, None}
 use Rattle.std.specs.List.{list_all}
-use Rattle.std.specs.Prelude.{◌%◌, ◌/◌, ◌==◌, ◌&&◌, not}
+use Rattle.std.specs.Prelude.{◌%◌, ◌/◌, ◌==◌, ◌&&◌, ◌||◌, not}
 use Rattle.std.specs.Fmt.{digits, digits_onto, digit_glyph}
 use Rattle.std.proofs.lemmas.Bool.{cond-true, le-leb, lt-ltb, and_from, and_parts, ne_eqb, leb-true, eqb-true, or_cases}
 use Rattle.std.proofs.lemmas.List.Folds.{list_all-append}
@@ -16,7 +16,9 @@ use Rattle.dw_notation.specs.Text.{IsMoveText}
 use Rattle.dw_notation.specs.MoveReading.{IsNumber, is_cross, AreCrossed, single, more, Named, Names, by_dash, by_crosses}
 use Rattle.dw_notation.specs.MoveReadingLaws.{WrittenMoveIsNamed}
 use Rattle.dw_solution.specs.Tree.{Tree, over, branch}
-use Rattle.dw_solution.specs.Words.{AreWords, AreVariations, move_words, number_word, closed, in_parentheses, has_move}
+use Rattle.dw_solution.specs.Movetext.{in_movetext}
+use Rattle.dw_solution.specs.Words.{AreWords, AreVariations, closed, dots, has_move, in_parentheses, move_words}
+use Rattle.dw_solution.specs.Words.{number_word}
 use Rattle.dw_solution.specs.inner.Feeds.{IsUnbroken, AreUnbroken}
 
 pub all_append : (test : ℕ → Bool) (xs ys : List ℕ) → list_all test xs ≡ true → list_all test ys ≡ true
@@ -145,26 +147,29 @@ pub unbroken_append : (words later : List (List ℕ)) → AreUnbroken words → 
 unbroken_append [] later h k = k
 unbroken_append (w ∷ words) later h k = (h.0, unbroken_append words later h.1 k)
 
-unbroken_closed : (words : List (List ℕ)) → AreUnbroken words → AreUnbroken (closed words)
+unbroken_closed : (words : List (List ℕ)) → AreUnbroken words → AreUnbroken (closed in_movetext words)
 unbroken_closed [] h = tt
 unbroken_closed (w ∷ []) h = (all_append is_no_feed w (codes ")") h.0 refl, tt)
 unbroken_closed (w ∷ v ∷ words) h = (h.0, unbroken_closed (v ∷ words) h.1)
 
-unbroken_within : (words : List (List ℕ)) → AreUnbroken words → AreUnbroken (in_parentheses words)
+unbroken_within : (words : List (List ℕ)) → AreUnbroken words → AreUnbroken (in_parentheses in_movetext words)
 unbroken_within [] h = tt
 unbroken_within (w ∷ words) h = unbroken_closed ((codes "(" ++ w) ∷ words) (h.0, h.1)
 
-unbroken_move : (half : ℕ) (due : Bool) (text : List ℕ) → IsUnbroken text → AreUnbroken (move_words half due text)
+unbroken_dots : (half : ℕ) → IsUnbroken (dots half)
+unbroken_dots half = elim (half % 2 == 0) as (λ b. IsUnbroken (cond b (codes ".") (codes "..."))) [
+  | true ↦ refl
+  | false ↦ refl
+]
+
+unbroken_move : (half : ℕ) (due : Bool) (text : List ℕ) → IsUnbroken text
+    → AreUnbroken (move_words in_movetext half due text)
 unbroken_move half due text h =
-    let number : (dots : List ℕ) → IsUnbroken dots → IsUnbroken (number_word half dots) =
-    λ dots e. all_append is_no_feed (decimal (half / 2 + 1)) dots (decimal_unbroken (half / 2 + 1)) e in
-    elim (half % 2 == 0) as (λ b. AreUnbroken (cond b (number_word half (codes ".") ∷ text ∷ [])
-    (cond due (number_word half (codes "...") ∷ text ∷ []) (text ∷ [])))) [
-      | true ↦ (number (codes ".") refl, (h, tt))
-      | false ↦ elim due as (λ b. AreUnbroken (cond b (number_word half (codes "...") ∷ text ∷ []) (text ∷ []))) [
-        | true ↦ (number (codes "...") refl, (h, tt))
-        | false ↦ (h, tt)
-      ]
+    let number : IsUnbroken (number_word in_movetext half) =
+    all_append is_no_feed (decimal (half / 2 + 1)) (dots half) (decimal_unbroken (half / 2 + 1)) (unbroken_dots half) in
+    elim (due || (half % 2 == 0)) as (λ b. AreUnbroken (cond b (number_word in_movetext half ∷ []) [] ++ text ∷ [])) [
+      | true ↦ (number, (h, tt))
+      | false ↦ (h, tt)
     ]
 
 -- a move that has a text is legal
@@ -180,21 +185,22 @@ module _ (named : WrittenMoveIsNamed) (stays : PlayStays) (g : Geometry) (board 
 
   mutual
     pub words_unbroken : (p : Placement) → IsPosition g p.cells → (half : ℕ) (due : Bool) (t : Tree)
-        (words : List (List ℕ)) → AreWords g p half due t words → AreUnbroken words
+        (words : List (List ℕ)) → AreWords in_movetext g p half due t words → AreUnbroken words
     words_unbroken p pos half due over words h = subst AreUnbroken (sym h) tt
     words_unbroken p pos half due (branch m behind others) words (text, variations, rest, is, beside, next, e) =
-        subst AreUnbroken (sym e) (unbroken_append (move_words half due text) (variations ++ rest)
+        subst AreUnbroken (sym e) (unbroken_append (move_words in_movetext half due text) (variations ++ rest)
         (unbroken_move half due text (text_unbroken p pos m text is))
         (unbroken_append variations rest (variations_unbroken p pos half others variations beside)
         (words_unbroken (play g p m) (stays g board p m pos (text_legal g p m text is)) (half + 1) (has_move others)
         behind rest next)))
 
     variations_unbroken : (p : Placement) → IsPosition g p.cells → (half : ℕ) (t : Tree) (words : List (List ℕ))
-        → AreVariations g p half t words → AreUnbroken words
+        → AreVariations in_movetext g p half t words → AreUnbroken words
     variations_unbroken p pos half over words h = subst AreUnbroken (sym h) tt
     variations_unbroken p pos half (branch m behind others) words (text, rest, later, is, next, beside, e) =
-        subst AreUnbroken (sym e) (unbroken_append (in_parentheses (move_words half true text ++ rest)) later
-        (unbroken_within (move_words half true text ++ rest) (unbroken_append (move_words half true text) rest
+        let moved : List (List ℕ) = move_words in_movetext half true text in
+        subst AreUnbroken (sym e) (unbroken_append (in_parentheses in_movetext (moved ++ rest)) later
+        (unbroken_within (moved ++ rest) (unbroken_append moved rest
         (unbroken_move half true text (text_unbroken p pos m text is))
         (words_unbroken (play g p m) (stays g board p m pos (text_legal g p m text is)) (half + 1) false behind rest
         next)))

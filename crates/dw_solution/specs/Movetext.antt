@@ -3,16 +3,16 @@ use Rattle.std.specs.Prelude.{◌≡◌, ℕ, ◌+◌, ◌<◌, ◌≤◌, if◌
 use Rattle.std.specs.Prelude.{length, take, codes, decimal, nat_le}
 use Rattle.std.proofs.Common.{suc}
 use Rattle.dw_board.specs.Geometry.{Geometry}
-use Rattle.dw_board.specs.Placement.{Placement}
 use Rattle.dw_board.specs.declared.piece.Side.{Side}
 use Rattle.dw_board.specs.declared.piece.Side.TheVariants.{White, Black}
 use Rattle.dw_moves.specs.Moves.{Move}
 use Rattle.dw_solution.specs.FirstLines.{LinesFrom, is_cut}
 use Rattle.dw_solution.specs.Tree.{Tree, IsTreeOf}
-use Rattle.dw_solution.specs.Words.{AreWords}
+use Rattle.dw_solution.specs.Words.{AreWords, Style, mark, move_text, plain_text}
 use Rattle.dw_solution.specs.declared.heading.Heading.{Heading}
 use Rattle.dw_solution.specs.declared.heading.VerdictKind.{VerdictKind}
 use Rattle.dw_solution.specs.declared.heading.VerdictKind.TheVariants.{Unsolvable, Cooked, Dual, Sound}
+use Rattle.dw_solution.specs.declared.style.Mark.TheVariants.{Gap, Opening, Closing, MoreLines}
 use Rattle.dw_solution.specs.declared.movetext.TheConstants.{MAX_WRITTEN, MAX_COLUMN}
 
 -- words after the first bytes of a line, given how many those are: with a blank before each, or with a line feed if the
@@ -55,23 +55,32 @@ abbrev pub result_of : Side → List (List Move) → List ℕ
 result_of side [] = codes "*"
 result_of side (l ∷ lines) = win_of side
 
--- the words after the play: `{more}` if there are more lines, and the result
-abbrev pub last_words : (more : Bool) → (result : List ℕ) → List (List ℕ)
-last_words true result = codes "{more}" ∷ result ∷ []
-last_words false result = result ∷ []
+-- the words after the play: the comment that there are more lines, if there are, and the result
+abbrev pub last_words : Style → (more : Bool) → (result : List ℕ) → List (List ℕ)
+last_words shown true result = shown (mark MoreLines) ∷ shown (plain_text result) ∷ []
+last_words shown false result = shown (plain_text result) ∷ []
 
--- the text of some lines, with the comment before them and the words after them
-abbrev pub IsTextOf : Geometry → Placement → (front : List ℕ) → (last : List (List ℕ)) → List (List Move) → List ℕ
-    → Type 0
-IsTextOf g p front last lines text =
-    (tree : Tree) × (words : List (List ℕ)) × IsTreeOf lines tree × AreWords g p (first_half p.turn) true tree words
-    × (text ≡ in_lines (front ∷ (words ++ last)))
+-- the words of the first lines, given their number: those of their tree, and the last words
+abbrev pub AreWordsOfFirst : Style → Geometry → LinesFrom → (many : ℕ) → List (List ℕ) → Type 0
+AreWordsOfFirst shown g first many words =
+    (tree : Tree) × (played : List (List ℕ)) × IsTreeOf (take many first.lines) tree
+    × AreWords shown g first.start (first_half first.start.turn) true tree played
+    × (words ≡ played ++ last_words shown (is_cut first many) (result_of first.start.turn first.lines))
 
--- the text of the first lines, given their number
+-- A part as it stands in a movetext. A gap is a line feed, until `in_lines` puts blanks in place of some.
+abbrev pub in_movetext : Style
+in_movetext (mark Gap) = codes "\n"
+in_movetext (mark Opening) = codes "("
+in_movetext (mark Closing) = codes ")"
+in_movetext (mark MoreLines) = codes "{more}"
+in_movetext (plain_text text) = text
+in_movetext (move_text text after) = text
+
+-- the text of the first lines, given their number: the comment in front, and their words
 abbrev pub IsTextOfFirst : Geometry → Heading → LinesFrom → (many : ℕ) → List ℕ → Type 0
 IsTextOfFirst g heading first many text =
-    IsTextOf g first.start (verdict_comment heading)
-    (last_words (is_cut first many) (result_of first.start.turn first.lines)) (take many first.lines) text
+    (words : List (List ℕ)) × AreWordsOfFirst in_movetext g first many words
+    × (text ≡ in_lines (verdict_comment heading ∷ words))
 
 -- The movetext of first lines, and how many of them it has: all, or as many as fit in 1,000,000 bytes. With one line
 -- more the text would be longer.

@@ -3,7 +3,8 @@
 //!
 //! Everything is generic over the board. The tree and its text take memory.
 //!
-//! Begin with `first_lines`, which makes the tree. `movetext::movetext` writes it, and `placed_moves` lists its moves.
+//! Begin with `first_lines`, which makes the tree. `movetext::movetext` writes it, `write_words` does so in any style,
+//! and `placed_moves` lists its moves.
 #![tactic(auto)]
 
 mod fill;
@@ -15,7 +16,8 @@ pub mod listed;
 pub mod movetext;
 pub mod placed;
 mod step;
-mod writer;
+pub mod style;
+pub mod writer;
 
 pub use first::first_lines;
 pub use heading::{Heading, VerdictKind};
@@ -23,3 +25,5 @@ pub use line_tree::LineTree;
 pub use listed::FirstLines;
 pub use movetext::{MAX_WRITTEN, SolutionText};
 pub use placed::{PlacedMove, placed_moves};
+pub use style::{Mark, MovetextStyle};
+pub use writer::write_words;

@@ -1,15 +1,15 @@
 //! The movetext of a solution.
-ghost use Rattle.std.specs.Prelude.{◌≡◌, ◌≤◌, ◌++◌, ◌∷◌, [], ℕ, List, length, IfOk, OnOk};
+ghost use Rattle.std.specs.Prelude.{◌≡◌, length, IfOk};
 ghost use Rattle.dw_solution.specs.Movetext.{IsMovetext};
-ghost use Rattle.dw_solution.specs.Movetext.{first_half, verdict_comment, last_words, result_of, in_lines};
+ghost use Rattle.dw_solution.specs.Movetext.{verdict_comment};
 ghost use Rattle.dw_solution.specs.inner.Drafts.{IsDraftOf, IsPassed};
-ghost use Rattle.dw_solution.specs.inner.Feeds.{fed, IsUnbroken, AreUnbroken};
 
 use crate::fill::fill;
 use crate::heading::Heading;
 use crate::listed::FirstLines;
-use crate::writer::{WriteState, Writer};
-use dw_board::{Board, Side};
+use crate::style::InMovetext;
+use crate::writer::write_words;
+use dw_board::Board;
 use itoa::Buffer;
 use std::alloc::{AllocError, Global};
 
@@ -82,34 +82,23 @@ impl<B: Board> Draft<'_, B> {
 
     /// Writes the first `lines` lines.
     fn text(&self, lines: usize) -> Result<Vec<u8>, AllocError>
-        requires { lines ≤ length self.now.first.now.lines }
         ensures { IfOk result (λ text. IsDraftOf B.geometry self.now lines text.items) }
     {
         dw_notation::laws::written_moves_are_read();
         dw_moves::laws::play_stays();
-        let mut writer = Writer {
-            alloc: self.alloc,
-            text: Vec::new(self.alloc),
-        };
-        self.write_comment(&mut writer)?;
-        let position = self.first.position();
-        let state = WriteState {
-            position,
-            depth: 0,
-            half: first_half(position.turn()),
-        };
-        writer.write_play(self.first.steps(lines), &state, true)?;
-        self.write_end(&mut writer, self.first.is_cut(lines))?;
-        Ok(lined(writer))
+        self.first.position().keeps_its_rules();
+        let mut text = self.comment()?;
+        write_words(self.alloc, InMovetext, self.first, lines, &mut text)?;
+        fill(text.as_mut_slice());
+        Ok(text)
     }
 
-    /// Writes the comment before the moves.
-    fn write_comment(&self, writer: &mut Writer) -> Result<(), AllocError>
-        ensures { OnOk result (writer.new.text.items
-            ≡ writer.old.text.items ++ (verdict_comment self.now.heading ++ 10 ∷ [])) }
+    /// Makes the comment before the moves.
+    fn comment(&self) -> Result<Vec<u8>, AllocError>
+        ensures { IfOk result (λ text. text.items ≡ verdict_comment self.now.heading) }
     {
         let mut digits = Buffer::new();
-        let word = [
+        let comment = [
             "{",
             self.heading.kind.word(),
             " in ",
@@ -117,51 +106,6 @@ impl<B: Board> Draft<'_, B> {
             "}",
         ]
         .concat(self.alloc)?;
-        writer.write_word(word.as_str())
+        Ok(comment.into_bytes())
     }
-
-    /// Writes the words after the moves.
-    fn write_end(&self, writer: &mut Writer, is_cut: bool) -> Result<(), AllocError>
-        ensures { OnOk result (writer.new.text.items ≡ writer.old.text.items ++ fed (last_words is_cut
-            (result_of self.now.first.now.start.turn self.now.first.now.lines))) }
-    {
-        if is_cut {
-            writer.write_word("{more}")?;
-        }
-        writer.write_word(self.result())
-    }
-
-    /// Returns the result: a win of the side to move if there is a line, else `*`.
-    fn result(&self) -> &'static str
-        ensures { result.now ≡ result_of self.now.first.now.start.turn self.now.first.now.lines }
-    {
-        if self.first.len() == 0 {
-            return "*";
-        }
-        match self.first.position().turn() {
-            Side::White => "2-0",
-            Side::Black => "0-2",
-        }
-    }
-}
-
-/// Returns the half turn of the first move: 0 for White, 1 for Black.
-fn first_half(side: Side) -> usize
-    ensures { result ≡ first_half side }
-{
-    match side {
-        Side::White => 0,
-        Side::Black => 1,
-    }
-}
-
-/// Fills the words of a writer into lines. Each word must end with a line feed.
-fn lined(writer: Writer) -> Vec<u8>
-    ensures { (w : List ℕ) (words : List (List ℕ)) → IsUnbroken w → AreUnbroken words
-        → writer.text.items ≡ fed (w ∷ words) → result.items ≡ in_lines (w ∷ words) }
-{
-    let Writer { alloc: _, mut text } = writer;
-    let _ = text.pop();
-    fill(text.as_mut_slice());
-    text
 }

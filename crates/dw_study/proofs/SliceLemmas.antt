@@ -1,6 +1,6 @@
 -- Slices of a search, one after another.
-use Rattle.std.proofs.Common.{◌≡◌, ℕ, ◌+◌, ◌-◌, ◌*◌, ◌^◌, ◌<◌, ◌≤◌, refl, sym, subst, ap, ◌∙◌, arith, Bool, Result, Ok}
-use Rattle.std.proofs.Common.{Err, OnOk, ◌⊎◌, inl, inr, min}
+use Rattle.std.proofs.Common.{◌≡◌, ℕ, ◌+◌, ◌-◌, ◌*◌, ◌^◌, ◌<◌, ◌≤◌, sym, subst, ap, ◌∙◌, arith, Bool, Result}
+use Rattle.std.proofs.Common.{Err, ◌⊎◌, inl, inr, min}
 use Rattle.std.proofs.lemmas.Bool.{cases_Bool, cases_lt}
 use Rattle.std.proofs.lemmas.Nat.{pow_pos}
 use Rattle.std.proofs.lemmas.Grind.{pow_more}
@@ -20,6 +20,7 @@ use Rattle.dw_solve.specs.Solving.{Solving}
 use Rattle.dw_solve.specs.Work.{Moment, Searched, Stronger, LossIsCounted, cut_off}
 use Rattle.dw_study.specs.Slices.{SearchedInSlices, SearchedSome, GoesOn, Watches, IsWatched, of_none, of_one_more}
 use Rattle.dw_study.specs.Slices.{next_end}
+use Rattle.dw_study.specs.inner.Slicing.{AddsUp}
 
 pub searched_looser : (g : Geometry) (n cut more : ℕ) (a c : Moment) → cut ≤ more → Searched g n cut a c
     → Searched g n more a c
@@ -195,10 +196,6 @@ says_more g content lost law p n a b c answer some counted here before last kept
 pub same_memo : {M : Type 0} (a b : Solving M) (limit : ℕ) → b ≡ record a { limit = limit } → b.memo ≡ a.memo
 same_memo a b limit e = ap (λ z. z.memo) e
 
-pub same_count : {M : Type 0} (a b : Solving M) (limit : ℕ) → b ≡ record a { limit = limit }
-    → b.expanded ≡ a.expanded
-same_count a b limit e = ap (λ z. z.expanded) e
-
 pub counted_then : (a l b m c o : ℕ) → IsCounted a l b m → IsCounted b m c o → IsCounted a l c o
 counted_then a l b m c o h k = record {
   rises = omega (arith, h.rises, k.rises);
@@ -226,9 +223,6 @@ decided_same c d p n same (inr f) = inr record {
 }
 
 module _ {M : Type 0} (content : M → Content) (p : Placement) (n : ℕ) where
-  pub idle_none : (s : Solving M) → Idle content s s
-  idle_none s = (refl, λ e. ((λ m. m), (λ m. m)))
-
   pub idle_then : (a b c : Solving M) → Idle content a b → Idle content b c → Idle content a c
   idle_then a b c u v =
       (v.0 ∙ u.0, λ e. ((λ m. (v.1 e).0 ((u.1 e).0 m)), (λ m. (u.1 e).1 ((v.1 e).1 m))))
@@ -245,56 +239,35 @@ module _ {M : Type 0} (content : M → Content) (p : Placement) (n : ℕ) where
   idle_on j a b c says some few idle known =
       let here = known (still_decided a b idle (inr (says n some few))) in (here.0, idle_then a b c idle here.1)
 
-  -- a search that was not decided at its beginning has expanded some position
-  pub spent_later : {A : Type 0} (a b c : Solving M) (r : Result A Stop) → (b ≡ a) ⊎ (a.expanded < b.expanded)
-      → b.expanded ≤ c.expanded
-      → OnOk r (1 ≤ n → (IsDecided (content b.memo) p n → ⊥) → b.expanded < c.expanded)
-      → OnOk r (1 ≤ n → (IsDecided (content a.memo) p n → ⊥) → a.expanded < c.expanded)
-  spent_later a b c (Ok x) (inl same) rises here = λ some unknown.
-      subst (λ z. z.expanded < c.expanded) same
-      (here some (subst (λ z. IsDecided (content z.memo) p n → ⊥) (sym same) unknown))
-  spent_later a b c (Ok x) (inr less) rises here = λ some unknown. omega (arith, less, rises)
-  spent_later a b c (Err e) before rises here = here
+-- what holds of a search from one moment to another holds of one whose limit was changed before and after it
+pub said_between : {M : Type 0} (content : M → Content) (lost : M → ℕ) (says : Moment → Moment → Type 0)
+    (a b c d : Solving M) (low high : ℕ) → b ≡ record a { limit = low } → d ≡ record c { limit = high }
+    → says (moment_of content lost b) (moment_of content lost c)
+    → says (moment_of content lost a) (moment_of content lost d)
+said_between content lost says a b c d low high down up here =
+    subst (λ z. says (moment_of content lost a) (moment_of content lost z)) (sym up)
+    (subst (λ z. says (moment_of content lost z) (moment_of content lost c)) down here)
 
-  -- the same with a limit that is changed before and after
-  pub idle_between : {X : Type 0} (a b c d : Solving M) → b.memo ≡ a.memo → b.expanded ≡ a.expanded
-      → d.memo ≡ c.memo → d.expanded ≡ c.expanded
-      → ((n ≡ 0) ⊎ IsDecided (content b.memo) p n → X × Idle content b c)
-      → (n ≡ 0) ⊎ IsDecided (content a.memo) p n → X × Idle content a d
-  idle_between a b c d held count held' count' here decided =
-      let h = here (subst (λ z. (n ≡ 0) ⊎ IsDecided (content z) p n) (sym held) decided) in (
-        h.0,
-        (
-          count' ∙ h.1.0 ∙ count,
-          subst (λ z. SameEntries (content a.memo) (content z)) (sym held')
-              (subst (λ z. SameEntries (content z) (content c.memo)) held h.1.1),
-        ),
-      )
-
-  pub spent_between : {A : Type 0} (a b c d : Solving M) (r : Result A Stop) → b.memo ≡ a.memo
-      → b.expanded ≡ a.expanded → d.expanded ≡ c.expanded
-      → OnOk r (1 ≤ n → (IsDecided (content b.memo) p n → ⊥) → b.expanded < c.expanded)
-      → OnOk r (1 ≤ n → (IsDecided (content a.memo) p n → ⊥) → a.expanded < d.expanded)
-  spent_between a b c d (Ok x) held count count' here = λ some unknown.
-      let h = here some (subst (λ z. IsDecided (content z) p n → ⊥) (sym held) unknown) in
-      omega (arith, h, count, count')
-  spent_between a b c d (Err e) held count count' here = here
+-- it holds of a search after slices, if there were any
+pub said_later : {M A : Type 0} (content : M → Content) (lost : M → ℕ)
+    (says : Placement → ℕ → Moment → Moment → Result A Stop → Type 0) → AddsUp says
+    → (p : Placement) (n : ℕ) (a b c : Solving M) (r : Result A Stop)
+    → (b ≡ a) ⊎ (a.expanded < b.expanded)
+    × says p n (moment_of content lost a) (moment_of content lost b) (Err Limit)
+    → LossIsCounted (lost a.memo) (lost b.memo) → LossIsCounted (lost b.memo) (lost c.memo)
+    → b.expanded ≤ c.expanded → says p n (moment_of content lost b) (moment_of content lost c) r
+    → says p n (moment_of content lost a) (moment_of content lost c) r
+said_later content lost says adds_up p n a b c r (inl same) counted counted' rises here =
+    subst (λ z. says p n (moment_of content lost z) (moment_of content lost c) r) same here
+said_later content lost says adds_up p n a b c r (inr before) counted counted' rises here =
+    adds_up p n (moment_of content lost a) (moment_of content lost b) (moment_of content lost c) r before.0 rises
+    counted counted' before.1 here
 
 pub loss_then : (a b c : ℕ) → LossIsCounted a b → LossIsCounted b c → LossIsCounted a c
 loss_then a b c h k = record {
   rises = λ l. let f = h.rises l in let s = k.rises (h.within l) in omega (arith, f, s);
   within = λ l. k.within (h.within l);
 }
-
-pub loss_none : (l : ℕ) → LossIsCounted l l
-loss_none l = record { rises = λ h. omega arith; within = λ h. h }
-
--- if nothing was lost in all, nothing was lost in the last slice
-pub lost_nothing_later : {M : Type 0} (content : M → Content) (lost : M → ℕ) → SearchesAddUp → (a b c : Solving M)
-    → LossIsCounted (lost a.memo) (lost b.memo) → LossIsCounted (lost b.memo) (lost c.memo)
-    → LostNothing content lost a c → LostNothing content lost b c
-lost_nothing_later content lost law a b c h k kept = (law.parts (moment_of content lost a) (moment_of content lost b)
-    (moment_of content lost c) h k kept).1
 
 -- the memo says nothing of the number at which a search was stopped, and so of no higher one
 pub known_below : (m j : ℕ) → 1 ≤ m → (m ≤ j → ⊥) → j ≤ m - 1

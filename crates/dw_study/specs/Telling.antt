@@ -81,6 +81,7 @@ Say tree items Holds = (said : List Remark) × (map (remark_in tree) items ≡ m
 abbrev pub texts_in : RemarkWords → Words
 texts_in words = record {
   line = string_bytes words.line;
+  turn = words.turn;
   moves = map string_bytes words.moves.items;
   refutation = option_map string_bytes words.refutation;
 }

@@ -1,10 +1,9 @@
 //! Beginnings of an author's solution: their moves, the positions after them, their texts.
 ghost use Rattle.std.specs.Prelude.{◌≡◌, ◌<◌, ◌≤◌, None, Some, length, IfOk, IfSome, IsSome, MatchOption};
-ghost use Rattle.std.specs.String.{string_bytes};
 ghost use Rattle.dw_notation.specs.Text.{ArePlayable};
 ghost use Rattle.dw_games.specs.Walk.{beginning_at, place_of};
 ghost use Rattle.dw_verdict.specs.Verdict.{reach};
-ghost use Rattle.dw_study.specs.RemarkText.{behind_blank};
+ghost use Rattle.dw_report.specs.JudgedText.{next_number};
 ghost use Rattle.dw_study.specs.inner.Beginnings.{IsBegun};
 
 use arrayvec::ArrayVec;
@@ -16,13 +15,21 @@ use dw_notation::MAX_MOVES;
 use dw_notation::line_text::line_text;
 use std::alloc::{AllocError, Global};
 
-/// A beginning of a path: its moves, the position after them, its text, and the text with a blank before it.
+/// A beginning of a path: its moves, the position after them, and its text.
 #[derive(Drop)]
 pub(crate) struct Beginning<B: Board> {
     pub(crate) moves: ArrayVec<Move<B>, MAX_MOVES>,
     pub(crate) position: Position<B>,
     pub(crate) line: String,
-    pub(crate) text: String,
+}
+
+impl<B: Board> Beginning<B> {
+    /// Returns the number of the attacker's turn that follows it, from 1 on.
+    pub(crate) fn turn(&self) -> usize
+        ensures { result ≡ next_number self.now.moves.items }
+    {
+        self.moves.len() / 2 + 1
+    }
 }
 
 /// Returns the beginning that leads to a node, if it has at most 39 moves and can be played from the position.
@@ -44,24 +51,12 @@ pub(crate) fn beginning_of<B: Board>(
         return Ok(None);
     };
     let line = line_text(alloc, position, moves.as_slice())?;
-    let text = with_blank(alloc, line.as_str())?;
     let line = String::from_str(alloc, line.as_str())?;
     Ok(Some(Beginning {
         moves,
         position: behind,
         line,
-        text,
     }))
-}
-
-/// Returns a text with a blank before it, or nothing, if it is empty.
-fn with_blank(alloc: Global, text: &str) -> Result<String, AllocError>
-    ensures { IfOk result (λ made. string_bytes made ≡ behind_blank text.now) }
-{
-    if text.is_empty() {
-        return Ok(String::new(alloc));
-    }
-    [" ", text].concat(alloc)
 }
 
 /// Returns the moves of the beginning that leads to a node, if there are at most 39.

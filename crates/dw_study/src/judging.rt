@@ -6,6 +6,7 @@ ghost use Rattle.dw_solve.specs.Work.{cut_off};
 ghost use Rattle.dw_verdict.specs.Verdict.{IsVerdict, Tries};
 ghost use Rattle.dw_verdict.specs.Judging.{said_by};
 ghost use Rattle.dw_study.specs.Slices.{Began, IsWatched, SearchedSome, Went};
+ghost use Rattle.dw_study.specs.inner.Questions.{nothing_adds_up, says_nothing};
 
 use crate::question::{Question, ask_resuming};
 use crate::slices::{Slices, Watcher};
@@ -25,6 +26,12 @@ struct AllAsked;
 impl<B: Board> Question<B, Verdict<B>> for VerdictAsked {
     ghost is_answer = { λ p n verdict. IsVerdict B.geometry p n (said_by verdict) };
 
+    ghost least = { 1 };
+
+    ghost says = { says_nothing };
+
+    ghost adds_up = { nothing_adds_up };
+
     fn ask<M: Memo<B>, G: Guide<B>>(
         &self,
         alloc: Global,
@@ -39,6 +46,12 @@ impl<B: Board> Question<B, Verdict<B>> for VerdictAsked {
 impl<B: Board> Question<B, Judged<B>> for AllAsked {
     ghost is_answer = { λ p n judged. IsVerdict B.geometry p n (said_by judged.verdict)
         × Tries B.geometry p n judged.tries.items };
+
+    ghost least = { 1 };
+
+    ghost says = { says_nothing };
+
+    ghost adds_up = { nothing_adds_up };
 
     fn ask<M: Memo<B>, G: Guide<B>>(
         &self,

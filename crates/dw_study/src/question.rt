@@ -1,11 +1,13 @@
 //! Questions about a position, asked in slices.
-ghost use Rattle.std.specs.Prelude.{ℕ, ◌≤◌, ◌<◌, IfOk};
+ghost use Rattle.std.specs.Prelude.{ℕ, ◌≤◌, ◌<◌, IfOk, Result};
 ghost use Rattle.dw_board.specs.Placement.{Placement};
 ghost use Rattle.dw_memo.specs.Content.{IsMap};
 ghost use Rattle.dw_solve.specs.Facts.{AreTrue};
-ghost use Rattle.dw_solve.specs.Questions.{Asked};
+ghost use Rattle.dw_solve.specs.Questions.{Asked, moment_of};
+ghost use Rattle.dw_solve.specs.Work.{Moment};
+ghost use Rattle.dw_solve.specs.declared.stop.Stop.{Stop};
 ghost use Rattle.dw_study.specs.Slices.{IsWatched, SearchedSome, Went};
-ghost use Rattle.dw_study.specs.inner.Slicing.{AskedUntil};
+ghost use Rattle.dw_study.specs.inner.Slicing.{AddsUp, AskedUntil};
 
 use crate::limits::{lower, raise};
 use crate::slices::{Slices, Watcher, is_cut};
@@ -19,7 +21,16 @@ pub(crate) trait Question<B: Board, A> {
     /// The right answer at a position, for a win within a number of moves.
     ghost is_answer: { Placement → ℕ → A → Type 0 };
 
-    /// Asks for a win within `moves` moves of the side to move, 1 to 20.
+    /// The least number of moves for which it can be asked.
+    ghost least: { ℕ };
+
+    /// What else holds of the search for the answer, given the moments before and after it.
+    ghost says: { Placement → ℕ → Moment → Moment → Result A Stop → Type 0 };
+
+    /// It holds of a search in slices too.
+    ghost adds_up: { AddsUp says };
+
+    /// Asks for a win within `moves` moves of the side to move, at most 20.
     fn ask<M: Memo<B>, G: Guide<B>>(
         &self,
         alloc: Global,
@@ -27,9 +38,12 @@ pub(crate) trait Question<B: Board, A> {
         position: &Position<B>,
         moves: u8,
     ) -> Result<A, Stop>
-        requires few { (1 ≤ moves) × (moves ≤ 20) }
+        requires some { least ≤ moves }
+        requires few { moves ≤ 20 }
         ensures answer { IfOk result (is_answer position.now moves) }
         ensures asked { Asked B.geometry M.content M.dropped moves solver.old solver.new result }
+        ensures says { says position.now moves (moment_of M.content M.dropped solver.old)
+            (moment_of M.content M.dropped solver.new) result }
         ensures right { AreTrue B.geometry (M.content solver.new.memo) }
         ensures map { IsMap (M.content solver.new.memo) };
 }
@@ -50,8 +64,11 @@ pub(crate) fn ask_resuming<
     slices: &mut Slices<W>,
     question: &Q,
 ) -> Result<A, Stop>
-    requires few { (1 ≤ moves) × (moves ≤ 20) }
+    requires some { Q.least ≤ moves }
+    requires few { moves ≤ 20 }
     ensures answer { IfOk result (Q.is_answer position.now moves) }
+    ensures says { Q.says position.now moves (moment_of M.content M.dropped solver.old)
+        (moment_of M.content M.dropped solver.new) result }
     ensures went { Went B.geometry M.content M.dropped moves slices.old slices.new solver.old solver.new result }
     ensures searched { SearchedSome B.geometry M.content M.dropped moves solver.old solver.new }
     ensures watched { IsWatched W.told moves slices.old.first slices.old.start solver.old.expanded
@@ -80,10 +97,13 @@ fn ask_until<B: Board, M: Memo<B>, G: Guide<B>, A: Drop, Q: Question<B, A>>(
     until: u64,
     question: &Q,
 ) -> Result<A, Stop>
-    requires few { (1 ≤ moves) × (moves ≤ 20) }
+    requires some { Q.least ≤ moves }
+    requires few { moves ≤ 20 }
     requires enough { solver.old.expanded ≤ until }
-    requires some { until < solver.old.limit → 1 ≤ until }
+    requires bound { until < solver.old.limit → 1 ≤ until }
     ensures answer { IfOk result (Q.is_answer position.now moves) }
+    ensures says { Q.says position.now moves (moment_of M.content M.dropped solver.old)
+        (moment_of M.content M.dropped solver.new) result }
     ensures asked { AskedUntil B.geometry M.content M.dropped moves until solver.old solver.new result }
 {
     let limit = lower(solver, until);

@@ -1,22 +1,15 @@
 //! The texts of remarks on an author's solution.
-ghost use Rattle.std.specs.Prelude.{◌≡◌, ◌↔◌, Some, true, List, IfOk, IfSome, IsSome};
+ghost use Rattle.std.specs.Prelude.{◌≡◌, Some, List, IfOk, IfSome, IsSome};
 ghost use Rattle.std.specs.String.{string_bytes};
-ghost use Rattle.dw_board.specs.Lists.{Member};
-ghost use Rattle.dw_moves.specs.Moves.{Legal};
 ghost use Rattle.dw_moves.specs.Moves as of;
-ghost use Rattle.dw_study.specs.RemarkText.{IsRemarkText, CanBeTold};
-ghost use Rattle.dw_study.specs.Remarks.{fails, also, leaves_open, ends};
-ghost use Rattle.dw_study.specs.Telling.{remark_in};
-ghost use Rattle.dw_study.specs.inner.Beginnings.{IsBegun};
+ghost use Rattle.dw_study.specs.RemarkText.{IsRemarkText, CanBeTold, behind_blank};
+ghost use Rattle.dw_study.specs.RemarkWords.{AreRemarkWords};
+ghost use Rattle.dw_study.specs.Telling.{remark_in, texts_in};
 
-use crate::beginning::{Beginning, beginning_of};
 use crate::remark::Remark;
+use crate::worded::{RemarkWords, remark_words};
 use dw_board::{Board, Position};
 use dw_games::Tree;
-use dw_moves::play::play;
-use dw_moves::{Move, is_legal};
-use dw_notation::text_in;
-use dw_report::joined_text;
 use itoa::Buffer;
 use std::alloc::{AllocError, Global};
 
@@ -33,132 +26,75 @@ pub fn remark_text<B: Board>(
     ensures some { (r : _) → remark_in tree.now remark.now ≡ Some r → CanBeTold B.geometry position.now r
         → IfOk result (λ made. IsSome made) }
 {
-    match remark {
-        Remark::Fails { at, mv, reply } => match beginning_of(alloc, position, tree, *at)? {
-            Some(beginning) => fails_text(alloc, &beginning, mv, reply),
-            None => Ok(None),
-        },
-        Remark::Also { at, keys } => match beginning_of(alloc, position, tree, *at)? {
-            Some(beginning) => also_text(alloc, &beginning, keys.as_slice()),
-            None => Ok(None),
-        },
-        Remark::Open { at, replies } => match beginning_of(alloc, position, tree, *at)? {
-            Some(beginning) => open_text(alloc, &beginning, replies.as_slice()),
-            None => Ok(None),
-        },
-        Remark::Ends { at } => match beginning_of(alloc, position, tree, *at)? {
-            Some(beginning) => ends_text(alloc, &beginning),
-            None => Ok(None),
-        },
-    }
-}
-
-/// Returns the text of a move that fails.
-fn fails_text<B: Board>(
-    alloc: Global,
-    beginning: &Beginning<B>,
-    mv: &Move<B>,
-    reply: &Move<B>,
-) -> Result<Option<String>, AllocError>
-    ensures text { (p : _) (b : List of.Move) → IsBegun B.geometry p b beginning.now
-        → IfOk result (λ made. IfSome made (λ text. IsRemarkText B.geometry p (fails b mv.now reply.now)
-        (string_bytes text))) }
-    ensures some { (p : _) (b : List of.Move) → IsBegun B.geometry p b beginning.now
-        → CanBeTold B.geometry p (fails b mv.now reply.now) → IfOk result (λ made. IsSome made) }
-{
-    if !is_legal(&beginning.position, mv) {
-        return Ok(None);
-    }
-    let after = play(&beginning.position, mv);
-    if !is_legal(&after, reply) {
-        return Ok(None);
-    }
-    let first = text_in(alloc, &beginning.position, mv)?;
-    let second = text_in(alloc, &after, reply)?;
-    let text = [
-        "fails",
-        beginning.text.as_str(),
-        " ",
-        Buffer::new().format(beginning.moves.len() / 2 + 1),
-        ". ",
-        first.as_str(),
-        " refuted by ",
-        second.as_str(),
-        "\n",
-    ]
-    .concat(alloc)?;
-    Ok(Some(text))
-}
-
-/// Returns the text of keys that are left out.
-fn also_text<B: Board>(
-    alloc: Global,
-    beginning: &Beginning<B>,
-    keys: &[Move<B>],
-) -> Result<Option<String>, AllocError>
-    ensures text { (p : _) (b : List of.Move) → IsBegun B.geometry p b beginning.now
-        → IfOk result (λ made. IfSome made (λ text. IsRemarkText B.geometry p (also b keys.now) (string_bytes text))) }
-    ensures some { (p : _) (b : List of.Move) → IsBegun B.geometry p b beginning.now
-        → CanBeTold B.geometry p (also b keys.now) → IfOk result (λ made. IsSome made) }
-{
-    if !are_legal(&beginning.position, keys) {
-        return Ok(None);
-    }
-    let moves = joined_text(alloc, &beginning.position, keys, " / ")?;
-    let text = [
-        "also",
-        beginning.text.as_str(),
-        " ",
-        Buffer::new().format(beginning.moves.len() / 2 + 1),
-        ". ",
-        moves.as_str(),
-        "\n",
-    ]
-    .concat(alloc)?;
-    Ok(Some(text))
-}
-
-/// Returns the text of replies that are left open.
-fn open_text<B: Board>(
-    alloc: Global,
-    beginning: &Beginning<B>,
-    replies: &[Move<B>],
-) -> Result<Option<String>, AllocError>
-    ensures text { (p : _) (b : List of.Move) → IsBegun B.geometry p b beginning.now
-        → IfOk result (λ made. IfSome made (λ text. IsRemarkText B.geometry p (leaves_open b replies.now)
-        (string_bytes text))) }
-    ensures some { (p : _) (b : List of.Move) → IsBegun B.geometry p b beginning.now
-        → CanBeTold B.geometry p (leaves_open b replies.now) → IfOk result (λ made. IsSome made) }
-{
-    if !are_legal(&beginning.position, replies) {
-        return Ok(None);
-    }
-    let moves = joined_text(alloc, &beginning.position, replies, ", ")?;
-    let text = ["open", beginning.text.as_str(), ": ", moves.as_str(), "\n"].concat(alloc)?;
-    Ok(Some(text))
-}
-
-/// Returns the text of an end.
-fn ends_text<B: Board>(
-    alloc: Global,
-    beginning: &Beginning<B>,
-) -> Result<Option<String>, AllocError>
-    ensures text { (p : _) (b : List of.Move) → IsBegun B.geometry p b beginning.now
-        → IfOk result (λ made. IfSome made (λ text. IsRemarkText B.geometry p (ends b) (string_bytes text))) }
-    ensures some { IfOk result (λ made. IsSome made) }
-{
-    let text = ["ends", beginning.text.as_str(), "\n"].concat(alloc)?;
-    Ok(Some(text))
-}
-
-/// Returns whether all moves are legal at a position.
-pub(crate) fn are_legal<B: Board>(position: &Position<B>, moves: &[Move<B>]) -> bool
-    ensures { (result ≡ true) ↔ ((m : of.Move) → Member m moves.now → Legal B.geometry position.now m) }
-{
-    'moves: for mv in moves {
-        if !is_legal(position, mv) {
-            return false;
+    match remark_words(alloc, position, tree, remark)? {
+        Some(words) => {
+            let text = text_of(alloc, remark, &words)?;
+            Ok(Some(text))
         }
+        None => Ok(None),
     }
-    true
+}
+
+/// Returns the text of a remark, given its parts.
+fn text_of<B: Board>(
+    alloc: Global,
+    remark: &Remark<B>,
+    words: &RemarkWords,
+) -> Result<String, AllocError>
+    ensures { (tree : List (List of.Move)) (p : _) (r : _) → remark_in tree remark.now ≡ Some r
+        → AreRemarkWords B.geometry p r (texts_in words.now)
+        → IfOk result (λ text. IsRemarkText B.geometry p r (string_bytes text)) }
+{
+    let begun = with_blank(alloc, words.line.as_str())?;
+    let begun = begun.as_str();
+    let moves = words.moves.as_slice();
+    let mut digits = Buffer::new();
+    let turn = digits.format(words.turn);
+    match remark {
+        Remark::Fails { .. } => {
+            let moved = moves.join(alloc, ", ")?;
+            let reply = refutation(words);
+            let parts = [
+                "fails",
+                begun,
+                " ",
+                turn,
+                ". ",
+                moved.as_str(),
+                " refuted by ",
+                reply,
+                "\n",
+            ];
+            parts.concat(alloc)
+        }
+        Remark::Also { .. } => {
+            let keys = moves.join(alloc, " / ")?;
+            ["also", begun, " ", turn, ". ", keys.as_str(), "\n"].concat(alloc)
+        }
+        Remark::Open { .. } => {
+            let replies = moves.join(alloc, ", ")?;
+            ["open", begun, ": ", replies.as_str(), "\n"].concat(alloc)
+        }
+        Remark::Ends { .. } => ["ends", begun, "\n"].concat(alloc),
+    }
+}
+
+/// Returns the text of the reply that refutes, or nothing, if there is none.
+fn refutation(words: &RemarkWords) -> &str
+    ensures { (reply : _) → (texts_in words.now).refutation ≡ Some reply → result.now ≡ reply }
+{
+    match &words.refutation {
+        Some(reply) => reply.as_str(),
+        None => "",
+    }
+}
+
+/// Returns a text with a blank before it, or nothing, if it is empty.
+fn with_blank(alloc: Global, text: &str) -> Result<String, AllocError>
+    ensures { IfOk result (λ made. string_bytes made ≡ behind_blank text.now) }
+{
+    if text.is_empty() {
+        return Ok(String::new(alloc));
+    }
+    [" ", text].concat(alloc)
 }

@@ -7,14 +7,37 @@ ghost use Rattle.dw_solve.specs.Questions.{Idle, LostNothing};
 ghost use Rattle.dw_solve.specs.Wins.{Win};
 ghost use Rattle.dw_solve.specs.Work.{cut_off};
 ghost use Rattle.dw_study.specs.Slices.{Began, IsWatched, SearchedSome, Went};
-ghost use Rattle.dw_study.specs.inner.Slicing.{AskedUntil};
+ghost use Rattle.dw_study.specs.inner.Questions.{win_adds_up, SaysOfWin};
 
-use crate::limits::{lower, raise};
-use crate::slices::{Slices, Watcher, is_cut};
+use crate::question::{Question, ask_resuming};
+use crate::slices::{Slices, Watcher};
 use dw_board::{Board, Position};
 use dw_memo::Memo;
 use dw_solve::{Guide, Solver, Stop};
 use std::alloc::Global;
+
+/// The question whether there is a win.
+struct WinAsked;
+
+impl<B: Board> Question<B, bool> for WinAsked {
+    ghost is_answer = { λ p n yes. IsTrue yes ↔ Win B.geometry p n };
+
+    ghost least = { 0 };
+
+    ghost says = { SaysOfWin };
+
+    ghost adds_up = { win_adds_up };
+
+    fn ask<M: Memo<B>, G: Guide<B>>(
+        &self,
+        alloc: Global,
+        solver: &mut Solver<B, M, G>,
+        position: &Position<B>,
+        moves: u8,
+    ) -> Result<bool, Stop> {
+        solver.wins(alloc, position, moves)
+    }
+}
 
 /// Returns whether the side to move wins within `moves` moves, as `Solver::wins` does, with a search in slices. `moves`
 /// must be at most 20. The slices start again; no answer depends on them. After a stop all bounds in the memo are
@@ -71,41 +94,5 @@ pub fn wins_resuming<B: Board, M: Memo<B>, G: Guide<B>, W: Watcher>(
     ensures says { LostNothing M.content M.dropped solver.old solver.new
         → IfOk result (SaysWin (M.content solver.new.memo) position.now moves) }
 {
-    dw_solve::laws::searches_add_up();
-    solver.keeps_its_limit();
-    'slices: loop {
-        let until = slices.next_limit(solver.expanded(), solver.limit());
-        let answer = wins_until(alloc, solver, position, moves, until);
-        if !is_cut(&answer, until, solver.limit()) {
-            return answer;
-        }
-        slices.tell(moves, solver.expanded());
-    }
-}
-
-/// Asks `Solver::wins` once, with the solver's limit lowered to `until` for the call.
-fn wins_until<B: Board, M: Memo<B>, G: Guide<B>>(
-    alloc: Global,
-    solver: &mut Solver<B, M, G>,
-    position: &Position<B>,
-    moves: u8,
-    until: u64,
-) -> Result<bool, Stop>
-    requires few { moves ≤ 20 }
-    requires enough { solver.old.expanded ≤ until }
-    requires some { until < solver.old.limit → 1 ≤ until }
-    ensures answer { IfOk result (λ yes. IsTrue yes ↔ Win B.geometry position.now moves) }
-    ensures asked { AskedUntil B.geometry M.content M.dropped moves until solver.old solver.new result }
-    ensures known { (moves ≡ 0) ⊎ IsDecided (M.content solver.old.memo) position.now moves
-        → IsOk result × Idle M.content solver.old solver.new }
-    ensures spent { OnOk result (1 ≤ moves →
-        (IsDecided (M.content solver.old.memo) position.now moves → ⊥)
-        → solver.old.expanded < solver.new.expanded) }
-    ensures says { LostNothing M.content M.dropped solver.old solver.new
-        → IfOk result (SaysWin (M.content solver.new.memo) position.now moves) }
-{
-    let limit = lower(solver, until);
-    let answer = solver.wins(alloc, position, moves);
-    raise(solver, limit);
-    answer
+    ask_resuming(alloc, solver, position, moves, slices, &WinAsked)
 }

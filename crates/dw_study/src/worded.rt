@@ -1,10 +1,8 @@
 //! The parts of the text of a remark, one by one.
-ghost use Rattle.std.specs.Prelude.{◌≡◌, [], Some, List, map, IfOk, IfSome, IsSome};
-ghost use Rattle.std.specs.String.{string_bytes};
+ghost use Rattle.std.specs.Prelude.{◌≡◌, ◌↔◌, [], Some, true, List, IfOk, IfSome, IsSome};
 ghost use Rattle.dw_board.specs.Lists.{Member};
 ghost use Rattle.dw_moves.specs.Moves.{Legal};
 ghost use Rattle.dw_moves.specs.Moves as of;
-ghost use Rattle.dw_notation.specs.Text.{AreMoveTexts};
 ghost use Rattle.dw_study.specs.RemarkText.{CanBeTold};
 ghost use Rattle.dw_study.specs.RemarkWords.{AreRemarkWords, AreWordsFor};
 ghost use Rattle.dw_study.specs.Remarks.{fails, also};
@@ -13,12 +11,12 @@ ghost use Rattle.dw_study.specs.inner.Beginnings.{IsBegun};
 
 use crate::beginning::{Beginning, beginning_of};
 use crate::remark::Remark;
-use crate::remark_texts::are_legal;
 use dw_board::{Board, Position};
 use dw_games::Tree;
 use dw_moves::play::play;
 use dw_moves::{Move, is_legal};
 use dw_notation::text_in;
+use dw_report::each_move_text;
 use std::alloc::{AllocError, Global};
 
 /// The texts of a remark.
@@ -26,6 +24,8 @@ use std::alloc::{AllocError, Global};
 pub struct RemarkWords {
     /// The beginning that it is on, as a line; empty, if that has no move.
     pub line: String,
+    /// The number of the attacker's turn that follows the beginning, from 1 on.
+    pub turn: usize,
     /// The move that fails, or the moves that are missing; none, if the solution ends there.
     pub moves: Vec<String>,
     /// The reply that refutes a move that fails.
@@ -91,6 +91,7 @@ fn fails_words<B: Board>(
     moves.push(String::from_str(alloc, first.as_str())?)?;
     Ok(Some(RemarkWords {
         line: String::from_str(alloc, beginning.line.as_str())?,
+        turn: beginning.turn(),
         moves,
         refutation: Some(String::from_str(alloc, second.as_str())?),
     }))
@@ -112,7 +113,8 @@ fn words_for<B: Board>(
     }
     Ok(Some(RemarkWords {
         line: String::from_str(alloc, beginning.line.as_str())?,
-        moves: move_texts(alloc, &beginning.position, moves)?,
+        turn: beginning.turn(),
+        moves: each_move_text(alloc, &beginning.position, moves)?,
         refutation: None,
     }))
 }
@@ -128,24 +130,20 @@ fn end_words<B: Board>(
 {
     Ok(Some(RemarkWords {
         line: String::from_str(alloc, beginning.line.as_str())?,
+        turn: beginning.turn(),
         moves: Vec::new(alloc),
         refutation: None,
     }))
 }
 
-/// Returns the texts of moves, in their order. Each move must be legal at the position.
-pub fn move_texts<B: Board>(
-    alloc: Global,
-    position: &Position<B>,
-    moves: &[Move<B>],
-) -> Result<Vec<String>, AllocError>
-    requires { (m : of.Move) → Member m moves.now → Legal B.geometry position.now m }
-    ensures { IfOk result (λ texts. AreMoveTexts B.geometry position.now moves.now (map string_bytes texts.items)) }
+/// Returns whether all moves are legal at a position.
+fn are_legal<B: Board>(position: &Position<B>, moves: &[Move<B>]) -> bool
+    ensures { (result ≡ true) ↔ ((m : of.Move) → Member m moves.now → Legal B.geometry position.now m) }
 {
-    let mut texts = Vec::new(alloc);
     'moves: for mv in moves {
-        let text = text_in(alloc, position, mv)?;
-        texts.push(String::from_str(alloc, text.as_str())?)?;
+        if !is_legal(position, mv) {
+            return false;
+        }
     }
-    Ok(texts)
+    true
 }

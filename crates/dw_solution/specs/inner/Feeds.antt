@@ -1,23 +1,17 @@
 -- Words with line feeds.
-use Rattle.std.specs.Prelude.{◌≡◌, ℕ, ◌==◌, ◌%◌, if◌then◌else◌, not, Bool, true, List, [], ◌∷◌, ◌++◌}
-use Rattle.std.specs.Prelude.{codes, drop, length, ◌+◌, ◌-◌, ◌≤◌}
+use Rattle.std.specs.Prelude.{◌≡◌, ℕ, ◌==◌, not, true, List, [], ◌∷◌, ◌++◌, drop, length, ◌+◌, ◌-◌, ◌≤◌}
 use Rattle.std.specs.List.{list_all}
 use Rattle.dw_board.specs.Geometry.{Geometry}
 use Rattle.dw_board.specs.Placement.{Placement}
-use Rattle.dw_moves.specs.Moves.{Move}
+use Rattle.dw_moves.specs.Moves.{Move, play}
 use Rattle.dw_notation.specs.Text.{IsMoveText}
-use Rattle.dw_solution.specs.Words.{move_words, number_word}
-use Rattle.dw_solution.specs.Movetext.{filled}
-
--- each word with a line feed after it
-abbrev pub fed : List (List ℕ) → List ℕ
-fed [] = []
-fed (w ∷ words) = w ++ 10 ∷ fed words
+use Rattle.dw_solution.specs.Movetext.{filled, in_movetext}
+use Rattle.dw_solution.specs.declared.style.Mark.TheVariants.{Gap}
+use Rattle.dw_solution.specs.Words.{Style, mark, move_text, spaced}
 
 -- each word with a line feed before it
 abbrev pub feeding : List (List ℕ) → List ℕ
-feeding [] = []
-feeding (w ∷ words) = 10 ∷ (w ++ feeding words)
+feeding words = spaced in_movetext words
 
 -- no line feed stands in a word
 abbrev pub IsUnbroken : List ℕ → Type 0
@@ -27,25 +21,17 @@ abbrev pub AreUnbroken : List (List ℕ) → Type 0
 AreUnbroken [] = Unit {0}
 AreUnbroken (w ∷ words) = IsUnbroken w × AreUnbroken words
 
--- words that are such were put after a text, each with a line feed after it
-pub record IsAdded (Are : List (List ℕ) → Type 0) (old new : List ℕ) : Type 0 where
+-- words that are such were put after a text, each with a gap before it
+pub record IsAdded (shown : Style) (Are : List (List ℕ) → Type 0) (old new : List ℕ) : Type 0 where
   pub words : List (List ℕ)
   pub are : Are words
-  pub added : new ≡ old ++ fed words
+  pub added : new ≡ old ++ spaced shown words
 
--- a move was put after a text, with its number where it has one
-pub record IsMoveAdded (g : Geometry) (p : Placement) (m : Move) (half : ℕ) (due : Bool) (old new : List ℕ) : Type 0
-  where
-    pub text : List ℕ
-    pub is : IsMoveText g p m text
-    pub added : new ≡ old ++ fed (move_words half due text)
-
--- the number of a move, where it has one
-abbrev pub number_words : ℕ → (due : Bool) → List (List ℕ)
-number_words half due =
-    if half % 2 == 0 then number_word half (codes ".") ∷ []
-    else if due then number_word half (codes "...") ∷ []
-    else []
+-- a gap and a move were put after a text
+pub record IsMoveAdded (shown : Style) (g : Geometry) (p : Placement) (m : Move) (old new : List ℕ) : Type 0 where
+  pub text : List ℕ
+  pub is : IsMoveText g p m text
+  pub added : new ≡ old ++ (shown (mark Gap) ++ shown (move_text text (play g p m)))
 
 -- a text in which the blanks up to a line feed are put, where the last line begins at some place: it goes on as words
 -- after the bytes of that line do

@@ -2,7 +2,7 @@ use Rattle.std.proofs.Common.{◌≡◌, ◌+◌, ◌/◌, ◌∙◌, ap, append
 use Rattle.std.specs.Prelude.{codes}
 use Rattle.std.specs.List.{join_by}
 use Rattle.std.specs.String.{string_bytes}
-use Rattle.dw_desk_commands.proofs.PagingLemmas.{join_texts}
+use Rattle.dw_report.specs.inner.JoinedLemmas.{join_texts}
 use Rattle.dw_desk_commands.proofs.page_rows.dual_row.Goals as goal
 
 pub returns : goal.returns

@@ -7,7 +7,8 @@ use Rattle.dw_page.specs.Words.{phrase}
 use Rattle.dw_page.specs.declared.words.Phrase.TheVariants as phrases
 use Rattle.dw_verdict.specs.Judging.{said_by}
 use Rattle.dw_verdict.specs.Verdict.{IsVerdict, Verdict, cooked, dual, sound}
-use Rattle.dw_desk_commands.proofs.PagingLemmas.{if_ok_map, join_texts}
+use Rattle.dw_report.specs.inner.JoinedLemmas.{join_texts}
+use Rattle.std.proofs.lemmas.Result.{IfOk-weaker}
 use Rattle.dw_desk_commands.proofs.page_rows.verdict_row.Goals as goal
 
 pub returns-in-Sound : goal.returns-in-Sound
@@ -22,7 +23,7 @@ returns-in-Sound g c =
     ∙ join_texts string_bytes (codes ", ") c.in_ok-keys.keys.items)) in
     subst (λ v. IfOk c.sound_row.result (λ row. IsVerdictRow geo language p n (said_by v) (string_bytes row)))
     (sym c.in-Sound.is)
-    (if_ok_map c.sound_row.result
+    (IfOk-weaker c.sound_row.result
     (λ row. string_bytes row ≡ phrase language phrases.Sound ++ (codes ": " ++ c.as_str-listed.result.now))
     (λ row. IsVerdictRow geo language p n (sound c.in-Sound.key) (string_bytes row))
     (λ row e. (
@@ -46,7 +47,7 @@ returns-in-Cooked g c =
     let row_of = λ (k : List ℕ). phrase language phrases.Cooked ++ (codes ": " ++ (k ++ shorter language n short)) in
     subst (λ v. IfOk c.cooked_row.result (λ row. IsVerdictRow geo language p n (said_by v) (string_bytes row)))
     (sym c.in-Cooked.is)
-    (if_ok_map c.cooked_row.result (λ row. string_bytes row ≡ row_of c.as_str-listed.result.now)
+    (IfOk-weaker c.cooked_row.result (λ row. string_bytes row ≡ row_of c.as_str-listed.result.now)
     (λ row. IsVerdictRow geo language p n (cooked short c.in-Cooked.keys.items) (string_bytes row))
     (λ row e. (keys, c.in_ok-keys.ensures n c.requires, e ∙ ap row_of is)) c.cooked_row.ensures)
 

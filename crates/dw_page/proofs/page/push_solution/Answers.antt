@@ -8,7 +8,7 @@ returns g c =
     let s = c.args.solution.now in
     let language = c.args.look.now.language in
     let row = c.in_ok-push_moves_row.ensures in (
-      solution_begin c.args.task.now.number c.args.is_apart ++ (verdict_row s.verdict.now
+      solution_begin c.args.number c.args.is_apart ++ (verdict_row s.verdict.now
           ++ (tries_row language (map string_bytes s.tries.now) ++ moves_row language row.0)),
       record { shown = row.0; are_moves = row.1; is = refl },
       rw (row.2, c.in_ok-push_tries.ensures, c.in_ok-push_verdict.ensures, c.in_ok-push_solution_begin.ensures)

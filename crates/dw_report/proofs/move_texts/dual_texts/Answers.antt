@@ -9,6 +9,6 @@ pub reached-requires : goal.reached-requires
 reached-requires g c = dual_playable g.B.Board.geometry c.args.position.now c.requires.dual.0 c.args.at.now
     c.args.choices.now c.requires.dual.1
 
-pub move_texts-requires : goal.move_texts-requires
-move_texts-requires g c = choices_legal g.B.Board.geometry c.args.position.now c.reached.result c.requires.dual.0
+pub each_move_text-requires : goal.each_move_text-requires
+each_move_text-requires g c = choices_legal g.B.Board.geometry c.args.position.now c.reached.result c.requires.dual.0
     c.args.at.now c.args.choices.now c.reached.ensures c.requires.dual.1

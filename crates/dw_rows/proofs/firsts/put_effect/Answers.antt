@@ -9,8 +9,8 @@ use Rattle.dw_rows.specs.FirstMovesRow.{IsEffectMember}
 use Rattle.dw_first_moves.specs.inner.EffectMoves.{reply_legal}
 use Rattle.dw_rows.proofs.firsts.put_effect.Goals as goal
 
-pub move_texts-requires : goal.move_texts-requires
-move_texts-requires g c = reply_legal g.B.Board.geometry c.requires.0 c.args.after.now c.requires.1 c.requires.2
+pub each_move_text-requires : goal.each_move_text-requires
+each_move_text-requires g c = reply_legal g.B.Board.geometry c.requires.0 c.args.after.now c.requires.1 c.requires.2
     (effect_of c.args.effect.now) c.in-RefutedBy.replies.items c.as_slice.result.now c.requires.4
     (sym (ap effect_of c.in-RefutedBy.is)) c.as_slice.ensures.value c.requires.3
 

@@ -1,7 +1,8 @@
-use Rattle.std.proofs.Common.{◌-◌, ◌<◌, ◌∙◌, refl, subst, arith}
+use Rattle.std.proofs.Common.{◌-◌, ◌<◌, ◌∙◌, refl, subst, inl, inr, arith}
 use Rattle.dw_solve.specs.Questions.{moment_of}
 use Rattle.dw_solve.specs.Work.{Searched}
 use Rattle.dw_study.proofs.SliceLemmas.{cut_all, goes_on_none, goes_on_more, counted_then, searched_none, searched_more}
+use Rattle.dw_study.proofs.SliceLemmas.{said_later}
 use Rattle.dw_study.proofs.SliceLemmas.{watched_none, watched_more, watched_last}
 use Rattle.dw_study.proofs.WentLemmas.{went_last}
 use Rattle.dw_study.proofs.question.ask_resuming.Goals as goal
@@ -11,6 +12,7 @@ slices-init g c = record {
   count = record { rises = omega arith; within = c.keeps_its_limit.ensures; same = refl };
   on = goes_on_none g.B.Board.geometry g.M.Memo.content g.M.Memo.dropped c.args.moves c.args.slices.now.first
       c.args.slices.now.start c.args.solver.now;
+  says = inl refl;
   searched = searched_none g.B.Board.geometry g.M.Memo.content g.M.Memo.dropped c.searches_add_up.ensures c.args.moves
       c.args.solver.now;
   watches = watched_none g.W.Watcher.told c.args.moves c.args.slices.now.first c.args.slices.now.start
@@ -28,11 +30,19 @@ slices-preserved g c =
     (moment_of g.M.Memo.content g.M.Memo.dropped c.slices.solver)
     (moment_of g.M.Memo.content g.M.Memo.dropped c.ask_until-answer.new.solver))
     (cut_all c.ask_until-answer.result c.args.moves cut.0) c.ask_until-answer.ensures.asked.searched in
+    let said = said_later g.M.Memo.content g.M.Memo.dropped g.Q.Question.says g.Q.Question.adds_up c.args.position.now
+    c.args.moves c.args.solver.now c.slices.solver c.ask_until-answer.new.solver _ now.says now.searched.1.counted
+    searched.counted c.ask_until-answer.ensures.asked.count.rises
+    (subst (λ r. g.Q.Question.says c.args.position.now c.args.moves
+    (moment_of g.M.Memo.content g.M.Memo.dropped c.slices.solver)
+    (moment_of g.M.Memo.content g.M.Memo.dropped c.ask_until-answer.new.solver) r) cut.0
+    c.ask_until-answer.ensures.says) in
     record {
       count = counted_then _ _ _ _ _ _ now.count c.ask_until-answer.ensures.asked.count;
       on = goes_on_more g.B.Board.geometry g.M.Memo.content g.M.Memo.dropped c.searches_add_up.ensures c.args.moves
           c.args.slices.now.first c.args.slices.now.start c.args.solver.now c.slices.solver
           c.ask_until-answer.new.solver now.on (omega arith) searched;
+      says = inr (omega (arith), said);
       searched = searched_more g.B.Board.geometry g.M.Memo.content g.M.Memo.dropped c.searches_add_up.ensures
           c.args.moves c.args.moves c.args.solver.now c.slices.solver c.ask_until-answer.new.solver now.searched
           searched;
@@ -71,3 +81,10 @@ returns-then-not-is_cut-clause-watched g c =
     watched_last g.W.Watcher.told c.args.moves c.args.slices.now.first c.args.slices.now.start
     c.args.solver.now.expanded c.slices.solver.expanded c.ask_until-answer.new.solver.expanded c.args.slices.now.watcher
     c.slices.slices.watcher c.slices.invariant.watches c.ask_until-answer.ensures.asked.count.rises
+
+pub returns-then-not-is_cut-clause-says : goal.returns-then-not-is_cut-clause-says
+returns-then-not-is_cut-clause-says g c =
+    said_later g.M.Memo.content g.M.Memo.dropped g.Q.Question.says g.Q.Question.adds_up c.args.position.now
+    c.args.moves c.args.solver.now c.slices.solver c.ask_until-answer.new.solver _ c.slices.invariant.says
+    c.slices.invariant.searched.1.counted c.ask_until-answer.ensures.asked.searched.counted
+    c.ask_until-answer.ensures.asked.count.rises c.ask_until-answer.ensures.says

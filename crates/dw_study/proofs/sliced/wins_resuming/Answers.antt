@@ -1,99 +1,10 @@
-use Rattle.std.proofs.Common.{◌-◌, ◌<◌, ◌∙◌, refl, sym, subst, inl, inr, arith, ap, is_ok}
-use Rattle.std.proofs.lemmas.Bool.{true≢false}
-use Rattle.dw_solve.specs.Questions.{moment_of}
-use Rattle.dw_solve.specs.Work.{Searched}
-use Rattle.dw_study.proofs.SliceLemmas.{cut_all, goes_on_none, goes_on_more, counted_then, idle_none, idle_then}
-use Rattle.dw_study.proofs.SliceLemmas.{still_decided, spent_later, searched_none, searched_more, watched_none}
-use Rattle.dw_study.proofs.SliceLemmas.{watched_more, watched_last}
-use Rattle.dw_study.proofs.WentLemmas.{went_last}
 use Rattle.dw_study.proofs.sliced.wins_resuming.Goals as goal
 
-pub slices-init : goal.slices-init
-slices-init g c = record {
-  count = record { rises = omega arith; within = c.keeps_its_limit.ensures; same = refl };
-  on = goes_on_none g.B.Board.geometry g.M.Memo.content g.M.Memo.dropped c.args.moves c.args.slices.now.first
-      c.args.slices.now.start c.args.solver.now;
-  first = refl;
-  start = refl;
-  idle = λ decided. idle_none g.M.Memo.content c.args.position.now c.args.moves c.args.solver.now;
-  spent = inl refl;
-  searched = searched_none g.B.Board.geometry g.M.Memo.content g.M.Memo.dropped c.searches_add_up.ensures c.args.moves
-      c.args.solver.now;
-  watches = watched_none g.W.Watcher.told c.args.moves c.args.slices.now.first c.args.slices.now.start
-      c.args.solver.now.expanded c.args.slices.now.watcher;
-}
+pub returns-clause-known : goal.returns-clause-known
+returns-clause-known g c = c.ask_resuming.ensures.says.known
 
-pub slices-preserved : goal.slices-preserved
-slices-preserved g c =
-    let geo = g.B.Board.geometry in
-    let content = g.M.Memo.content in
-    let lost = g.M.Memo.dropped in
-    let now = c.slices.invariant in
-    let new = c.wins_until-answer.new.solver in
-    let cut = c.is_cut.ensures.0 c.if-not-is_cut.false in
-    let at = c.wins_until-answer.ensures.asked.stop cut.0 in
-    let searched = subst (λ k. Searched g.B.Board.geometry c.args.moves k
-    (moment_of g.M.Memo.content g.M.Memo.dropped c.slices.solver)
-    (moment_of g.M.Memo.content g.M.Memo.dropped c.wins_until-answer.new.solver))
-    (cut_all c.wins_until-answer.result c.args.moves cut.0) c.wins_until-answer.ensures.asked.searched in
-    record {
-      count = counted_then _ _ _ _ _ _ now.count c.wins_until-answer.ensures.asked.count;
-      on = goes_on_more geo content lost c.searches_add_up.ensures c.args.moves c.args.slices.now.first
-          c.args.slices.now.start c.args.solver.now c.slices.solver new now.on (omega arith)
-          searched;
-      first = c.tell.ensures.first ∙ now.first;
-      start = c.tell.ensures.start ∙ now.start;
-      idle = λ decided. absurd (true≢false (sym (c.wins_until-answer.ensures.known (still_decided content
-          c.args.position.now c.args.moves c.args.solver.now c.slices.solver (now.idle decided) decided)).0 ∙ ap is_ok
-          cut.0));
-      spent = inr (omega arith);
-      searched = searched_more geo content lost c.searches_add_up.ensures c.args.moves c.args.moves c.args.solver.now
-          c.slices.solver new now.searched searched;
-      watches = watched_more g.W.Watcher.told c.args.moves c.args.slices.now.first c.args.slices.now.start
-          c.slices.slices.first c.slices.slices.start c.args.solver.now.expanded c.slices.solver.expanded
-          c.next_limit-until.result new.expanded c.slices.solver.limit c.args.slices.now.watcher c.slices.slices.watcher
-          c.tell.new.self.watcher now.watches now.first now.start (omega arith) (omega arith) (omega (arith, at))
-          (subst (λ z. g.W.Watcher.told c.slices.slices.watcher c.args.moves (z - c.slices.slices.start)
-          c.tell.new.self.watcher) c.expanded-in-slices.ensures c.tell.ensures.told);
-    }
+pub returns-clause-spent : goal.returns-clause-spent
+returns-clause-spent g c = c.ask_resuming.ensures.says.spent
 
-pub returns-then-not-is_cut-clause-went : goal.returns-then-not-is_cut-clause-went
-returns-then-not-is_cut-clause-went g c =
-    let now = c.slices.invariant in
-    let here = c.wins_until-answer.ensures.asked in
-    went_last g.B.Board.geometry g.M.Memo.content g.M.Memo.dropped c.searches_add_up.ensures c.args.moves
-    c.args.slices.now c.slices.slices c.args.solver.now c.slices.solver c.wins_until-answer.new.solver _ now.count
-    now.on now.first now.start here.count here.searched
-    (λ e. let at = here.stop e in let same = here.count.same in
-    let below : c.next_limit-until.result < c.limit-in-slices.result → ⊥ =
-    λ less. let yes = c.is_cut.ensures.1 (e, less) in let no_cut = c.if-not-is_cut.true in cc in
-    omega (arith, at, same, below))
-
-pub returns-then-not-is_cut-clause-searched : goal.returns-then-not-is_cut-clause-searched
-returns-then-not-is_cut-clause-searched g c =
-    searched_more g.B.Board.geometry g.M.Memo.content g.M.Memo.dropped c.searches_add_up.ensures c.args.moves _
-    c.args.solver.now c.slices.solver c.wins_until-answer.new.solver c.slices.invariant.searched
-    c.wins_until-answer.ensures.asked.searched
-
-pub returns-then-not-is_cut-clause-watched : goal.returns-then-not-is_cut-clause-watched
-returns-then-not-is_cut-clause-watched g c =
-    watched_last g.W.Watcher.told c.args.moves c.args.slices.now.first c.args.slices.now.start
-    c.args.solver.now.expanded c.slices.solver.expanded c.wins_until-answer.new.solver.expanded
-    c.args.slices.now.watcher
-    c.slices.slices.watcher c.slices.invariant.watches c.wins_until-answer.ensures.asked.count.rises
-
-pub returns-then-not-is_cut-clause-known : goal.returns-then-not-is_cut-clause-known
-returns-then-not-is_cut-clause-known g c decided =
-    let content = g.M.Memo.content in
-    let p = c.args.position.now in
-    let n = c.args.moves in
-    let before = c.slices.invariant.idle decided in
-    let here = c.wins_until-answer.ensures.known (still_decided content p n c.args.solver.now c.slices.solver before
-    decided) in
-    (here.0, idle_then content p n c.args.solver.now c.slices.solver c.wins_until-answer.new.solver before here.1)
-
-pub returns-then-not-is_cut-clause-spent : goal.returns-then-not-is_cut-clause-spent
-returns-then-not-is_cut-clause-spent g c =
-    spent_later g.M.Memo.content c.args.position.now c.args.moves c.args.solver.now c.slices.solver
-    c.wins_until-answer.new.solver c.wins_until-answer.result c.slices.invariant.spent
-    c.wins_until-answer.ensures.asked.count.rises c.wins_until-answer.ensures.spent
+pub returns-clause-says : goal.returns-clause-says
+returns-clause-says g c = c.ask_resuming.ensures.says.says

@@ -1,5 +1,6 @@
 use Rattle.std.proofs.Common.{◌≡◌, ◌++◌, ◌∷◌, [], ap, ◌∙◌, true, false, sym, subst, map, Some}
 use Rattle.std.specs.String.{string_bytes}
+use Rattle.dw_report.specs.JudgedText.{next_number}
 use Rattle.dw_study.specs.Telling.{texts_in}
 use Rattle.dw_moves.specs.Moves.{Legal, play}
 use Rattle.dw_study.proofs.WordLemmas.{fails_said}
@@ -17,6 +18,7 @@ returns-clause-words g c = λ p b begun.
     fails_said g.B.Board.geometry p c.args.beginning.now.position c.play-after.result b c.args.mv.now c.args.reply.now
     begun.line c.in_ok-first.first.bytes c.in_ok-second.second.bytes (texts_in (record {
       line = c.in_ok-from_str-2.field-0;
+      turn = c.turn.result;
       moves = c.push.new.self;
       refutation = Some c.in_ok-from_str-3.field-0;
     })) begun.written
@@ -26,3 +28,4 @@ returns-clause-words g c = λ p b begun.
     ∙ ap (λ z. z ++ c.in_ok-from_str.field-0 ∷ []) c.new-moves.ensures.items)
     ∙ ap (λ z. z ∷ []) (c.in_ok-from_str.ensures.ok ∙ c.as_str.ensures.value))
     (ap Some (c.in_ok-from_str-3.ensures.ok ∙ c.as_str-3.ensures.value))
+    (c.turn.ensures ∙ ap next_number begun.moves)

@@ -1,28 +1,25 @@
-use Rattle.std.proofs.Common.{◌++◌, ◌∷◌, [], ◌∙◌, ap, subst, sym, true}
-use Rattle.dw_solution.specs.Movetext.{first_half, verdict_comment}
-use Rattle.dw_solution.specs.Words.{AreWords}
-use Rattle.dw_solution.specs.inner.Steps.{IsPlayable, whole_tree}
-use Rattle.dw_solution.specs.inner.Feeds.{IsAdded}
-use Rattle.dw_solution.proofs.DraftLemmas.{draft_text}
+use Rattle.std.proofs.Common.{◌∙◌, ◌++◌, ap, arith, length, subst}
+use Rattle.dw_board.specs.Placement.{IsPosition}
+use Rattle.dw_solution.specs.Movetext.{in_movetext, verdict_comment}
+use Rattle.dw_solution.specs.Words.{spaced}
+use Rattle.dw_solution.proofs.DraftLemmas.{all_unbroken, comment_unbroken}
+use Rattle.dw_solution.proofs.FillLemmas.{written_back}
 use Rattle.dw_solution.proofs.movetext.Draft.text.Goals as goal
-
-pub write_play-requires-clause-playable : goal.write_play-requires-clause-playable
-write_play-requires-clause-playable g c =
-    subst (λ z. IsPlayable g.B.Board.geometry z (whole_tree c.steps.result.now)) (sym c.position-position.ensures)
-    c.steps.ensures.playable
 
 pub returns : goal.returns
 returns g c =
-    let geo = g.B.Board.geometry in
     let draft = c.args.self.now in
-    let p = c.position-position.result in
-    let tree = whole_tree c.steps.result.now in
-    draft_text c.written_moves_are_read.ensures.named c.play_stays.ensures geo g.met.B.Board.numbers p
-    c.turn.ensures.position draft.heading draft.first.now c.is_cut.result c.args.lines tree
-    c.write_comment.new.writer.text.items c.write_play.new.self.text.items c.write_end.new.writer.text.items
-    c.lined.result.items c.position-position.ensures c.is_cut.ensures c.steps.ensures.tree
-    (c.in_ok-write_comment.ensures ∙ ap (λ z. z ++ (verdict_comment draft.heading ++ 10 ∷ [])) c.new.ensures.items)
-    (subst (λ z. IsAdded (AreWords geo p z true tree) c.write_comment.new.writer.text.items
-    c.write_play.new.self.text.items) (c.first_half.ensures ∙ ap first_half c.turn.ensures.value)
-    c.in_ok-write_play.ensures)
-    c.in_ok-write_end.ensures c.lined.ensures
+    let comment = verdict_comment draft.heading in
+    let written = c.in_ok-write_words.ensures in
+    let items = c.write_words.new.text.items in
+    let is = c.as_mut_slice.ensures.value
+    ∙ (written.2 ∙ ap (λ z. z ++ spaced in_movetext written.0) c.in_ok-text.ensures) in
+    let unbroken = all_unbroken c.written_moves_are_read.ensures.named c.play_stays.ensures g.B.Board.geometry
+    g.met.B.Board.numbers draft.first.now c.args.lines written.0
+    (subst (λ z. IsPosition g.B.Board.geometry z.cells) c.position.ensures c.keeps_its_rules.ensures) written.1 in
+    let filled = c.fill.ensures comment written.0 (comment_unbroken draft.heading) unbroken is in (
+      written.0,
+      written.1,
+      written_back c.write_words.new.text.len c.fill.new.text items (omega arith)
+          (omega (arith, ap length c.as_mut_slice.ensures.value)) ∙ filled,
+    )

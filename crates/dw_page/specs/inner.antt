@@ -1,2 +1,0 @@
--- Definitions that only relate the code to the public ones: no public contract names them.
-pub mod Reading
