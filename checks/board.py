@@ -21,7 +21,7 @@ import tempfile
 import time
 
 import browsers
-from board_page import DESK, PHONE, browsers_asked, call, made_page, middles, of_fen, open_page, shown
+from board_page import DESK, PHONE, becomes, browsers_asked, call, made_page, middles, of_fen, open_page, shown
 from draughts import Board, fen
 from wins import drawn
 
@@ -173,12 +173,9 @@ def check_texts(browser):
     """FEN texts to the board and back, and faults."""
     for text, fault in FAULTS:
         browser.run(call("read", text))
-        browser.wait("!t.at('#fault').hidden && t.at('#fault strong')", 10)
-        said = browser.run("t.at('#fault strong').textContent")
-        assert said == fault, (text, said)
         place = int(fault.rsplit(" ", 1)[1])
-        marked = browser.run("t.at('#fault mark').textContent")
-        assert marked == (text[place - 1:place] or "␣"), (text, marked)
+        marked = text[place - 1:place] or "␣"
+        becomes(browser, "['strong', 'mark'].map((part) => t.at(`#fault ${part}`)?.textContent)", [fault, marked])
     for text, wanted in READ:
         browser.run(call("read", text))
         pieces = json.dumps(shown(sorted(of_fen(wanted))), separators=(",", ":"))
@@ -449,10 +446,8 @@ def check_compare(browser):
         browser.run(call("read", text))
         browser.run(f"t.set('#movetext', {json.dumps(movetext)})")
         browser.run("t.at('#compare').click()")
-        browser.wait("!t.at('#compare').disabled", 30)
-        said = browser.run("[t.all('#remarks .remark').map(({ dataset: of }) => [of.kind, of.line, of.moves]), "
-                           "t.at('#compared').dataset.line]")
-        assert said == [lines, last], (text, movetext, said)
+        becomes(browser, "[t.all('#remarks .remark').map(({ dataset: of }) => [of.kind, of.line, of.moves]), "
+                "t.at('#compared').dataset.line]", [lines, last])
     browser.run("t.set('#movetext', '[FEN \"W:W27,32:B18\"]\\n1. 32-28 18-22 2. 27x18 2-0')")
     browser.run("t.at('#compare').click()")
     browser.wait("t.all('#remarks .remark').length === 2", 30)
@@ -477,7 +472,7 @@ def check_mend(browser):
     browser.run(call("read", LONG))
     browser.run("t.set('#mend-n', '12')")
     browser.run("t.at('#mend-go').click()")
-    time.sleep(0.3)
+    browser.wait("!t.at('#mend-stop').disabled", 10)
     browser.run("t.at('#mend-stop').click()")
     browser.wait("t.at('#mend').dataset.state === 'stopped' && !t.at('#mend-go').disabled", 10)
     browser.run("t.at('#tab-solve').click()")

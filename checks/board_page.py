@@ -3,6 +3,7 @@
 import json
 import pathlib
 import subprocess
+import time
 
 import browsers
 
@@ -46,7 +47,7 @@ window.t = {
   async read(fen) {
     t.at('#fen').focus();
     t.set('#fen', fen);
-    await new Promise((resolve) => setTimeout(resolve, 140));
+    await t.until(() => t.at('#fen').dataset.read === fen);
     t.leave();
   },
   leave() {
@@ -94,6 +95,14 @@ def shown(pieces):
 
 def call(name, *values):
     return f"t.{name}({', '.join(json.dumps(value) for value in values)})"
+
+
+def becomes(browser, script, wanted, seconds=20):
+    """Waits until a script has this value."""
+    until = time.monotonic() + seconds
+    while (said := browser.run(script)) != wanted:
+        assert time.monotonic() < until, (browser.name, script, said, wanted)
+        time.sleep(0.05)
 
 
 def open_page(browser, page, more=""):

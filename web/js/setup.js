@@ -121,7 +121,10 @@ function followText(app) {
         if (!isPending && byId('fault').hidden && document.activeElement !== field) field.value = app.fen;
     }
 
-    /** Asks what `dw` reads a text as, and shows the fault, or the position. Answers why it is refused, if it is. */
+    /**
+     * Asks what `dw` reads a text as, and shows the fault, or the position. The field says in `data-read` which text was
+     * read last. Answers why it is refused, if it is.
+     */
     async function read(/** @type {string} */ text) {
         const number = ++asked, { rows } = app.position;
         const { fen, refused } = await app.rules.read(text, rows);
@@ -131,6 +134,7 @@ function followText(app) {
         const position = refused || !isTyping ? app.position : positionOf(fen, rows);
         if (!isSame(position, app.position)) app.edit(position);
         tidy();
+        field.dataset.read = text;
         return refused;
     }
 
