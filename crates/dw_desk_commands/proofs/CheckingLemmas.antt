@@ -5,11 +5,20 @@ use Rattle.dw_rows.specs.declared.checked.CheckNumbers.{CheckNumbers}
 use Rattle.dw_desk_commands.specs.Checking.{is_none, numbers_of, holds}
 use Rattle.std.proofs.Common.{◌≡◌, ℕ, ◌+◌, ◌<◌, List, [], ◌∷◌, ◌++◌, length, map, Option}
 use Rattle.std.proofs.Common.{IfSome, IsSome, None, Some, Bool, true, false, cond, refl, ap, ◌∙◌, subst, add-zero, arith}
+use Rattle.std.proofs.Common.{Ok, inl}
 use Rattle.std.specs.List.{count_by}
 use Rattle.std.proofs.lemmas.List.Sums.{sum_by_push}
-use Rattle.dw_study.specs.Remarks.{Remark, fails, also, leaves_open, ends}
+use Rattle.dw_board.specs.Geometry.{Geometry}
+use Rattle.dw_board.specs.Placement.{Placement}
+use Rattle.dw_notation.specs.Problems.{Numbered}
+use Rattle.dw_notation.specs.TextLines.{Found}
+use Rattle.dw_games.specs.Faults.{IsAnswer}
+use Rattle.dw_games.specs.Walk.{PlayedTree}
+use Rattle.dw_arguments.specs.declared.check.CheckArgs.{CheckArgs}
+use Rattle.dw_study.specs.Remarks.{Remark, fails, also, leaves_open, ends, AreRemarks}
 use Rattle.dw_games.specs.declared.fault.MovetextFaultKind.{MovetextFaultKind}
 use Rattle.dw_desk_commands.specs.Checking.{Counted, counted, is_fail, is_end, is_open, is_also, refused_line}
+use Rattle.dw_desk_commands.specs.Checking.{IsChecked, IsCheckFor, IsNumberFor}
 use Rattle.dw_desk_commands.specs.inner.Tallies.{one_more}
 
 -- a value that is there
@@ -89,3 +98,20 @@ none_is f v [] b same is =
     in is ∙ eq-eqb _ _ none
 none_is f v (r ∷ said) b same is = is ∙ ne_eqb _ _ (λ none. (let ok = v.ok.0 in
     let some = length_map_some f v.items r said same in omega (arith, ok, none, some)))
+
+-- a solution that was checked is that of its problem
+pub check_for : (g : Geometry) (asked : CheckArgs) (problem : Numbered) (movetext : List ℕ) (found : Found)
+    (p : Placement) (tree : PlayedTree) (n : ℕ) (remarks : List Remark) (refused : Bool) (text : List ℕ) → found ≡ Ok p
+    → IsAnswer g p movetext (Ok tree) → IsNumberFor asked.n tree.paths n
+    → AreRemarks g tree.paths n tree.start [] remarks → IsChecked g asked problem tree.start n remarks refused text
+    → IsCheckFor g asked problem movetext found refused text
+check_for g asked problem movetext found p tree n remarks refused text is answer number are checked =
+    rw is (inl (
+      tree.paths,
+      n,
+      remarks,
+      answer.1,
+      number,
+      subst (λ z. AreRemarks g tree.paths n z [] remarks) answer.0 are,
+      subst (λ z. IsChecked g asked problem z n remarks refused text) answer.0 checked,
+    ))

@@ -58,10 +58,9 @@ impl<B: Board> ReportEach<B> for CheckArgs {
         match read_movetext(desk.alloc, position, game.movetext.as_slice()) {
             Ok(tree) => {
                 let n = moves_for(self.n, &tree);
-                let checked = checked(desk, slices, problem.number, position, &tree, n)?;
+                let checked = checked(desk, slices, problem.number, &tree, n)?;
                 let solution = Solution {
                     problem,
-                    position,
                     tree: &tree,
                     n,
                     checked: &checked,
@@ -132,7 +131,6 @@ fn write_fault<B: Board, K: Sink>(
 #[derive(Clone, Copy)]
 struct Solution<'a, B: Board> {
     problem: &'a Problem<B>,
-    position: &'a Position<B>,
     tree: &'a Tree<B>,
     n: u8,
     checked: &'a Checked<B>,
@@ -141,7 +139,7 @@ struct Solution<'a, B: Board> {
 /// Returns the number of moves within which a solution is checked: that of `-n`, or else that of the solution, but at
 /// least 1.
 fn moves_for<B: Board>(asked: Option<u8>, tree: &Tree<B>) -> u8
-    ensures number { IsNumberFor asked tree.now result }
+    ensures number { IsNumberFor asked tree.now.paths result }
     ensures some { 1 ≤ result }
     ensures few { result ≤ 20 }
 {
@@ -157,19 +155,18 @@ fn checked<B: Board, W: DeskWatcher>(
     desk: &mut Desk<B>,
     slices: &mut Slices<W>,
     number: u32,
-    position: &Position<B>,
     tree: &Tree<B>,
     n: u8,
 ) -> Result<Checked<B>, Stop>
     requires some { 1 ≤ n }
     requires few { n ≤ 20 }
-    ensures wins { IfOk result (λ checked. IsTrue checked.wins ↔ Win B.geometry position.now n) }
-    ensures remarks { IfOk result (λ checked. Say tree.now checked.remarks.items
-        (AreRemarks B.geometry tree.now n position.now [])) }
+    ensures wins { IfOk result (λ checked. IsTrue checked.wins ↔ Win B.geometry tree.now.start n) }
+    ensures remarks { IfOk result (λ checked. Say tree.now.paths checked.remarks.items
+        (AreRemarks B.geometry tree.now.paths n tree.now.start [])) }
     ensures stop { IsErrOf result Limit → desk.new.solver.expanded ≡ u64.MAX }
 {
     desk.begin(slices, number);
-    let checked = check(desk.alloc, &mut desk.solver, position, tree, n, slices);
+    let checked = check(desk.alloc, &mut desk.solver, tree, n, slices);
     slices.watcher.end();
     checked
 }
@@ -202,8 +199,8 @@ fn write_solution<B: Board, K: Sink>(
     requires works { K.is_failed sink.old ≡ false }
     requires compared { IsCompared B.geometry solution.now }
     ensures text { IfOk result (λ refused. (text : List ℕ) × (remarks : List AnyRemark)
-        × AreRemarks B.geometry solution.now.tree.now solution.now.n solution.now.position.now [] remarks
-        × IsChecked B.geometry asked.now (numbered solution.now.problem.now) solution.now.position.now solution.now.n
+        × AreRemarks B.geometry solution.now.tree.now.paths solution.now.n solution.now.tree.now.start [] remarks
+        × IsChecked B.geometry asked.now (numbered solution.now.problem.now) solution.now.tree.now.start solution.now.n
         remarks refused text
         × Appends (K.taken sink.old) (K.taken sink.new) text) }
     ensures works { IfOk result (λ _. K.is_failed sink.new ≡ false) }
@@ -220,7 +217,7 @@ fn write_solution<B: Board, K: Sink>(
 /// Returns whether a solution is left out: with `--faults`, if there are no remarks on it.
 fn is_left_out<B: Board>(asked: &CheckArgs, solution: &Solution<'_, B>) -> bool
     ensures { (said : List AnyRemark)
-        → map (remark_in solution.now.tree.now) solution.now.checked.now.remarks.items ≡ map (λ r. Some r) said
+        → map (remark_in solution.now.tree.now.paths) solution.now.checked.now.remarks.items ≡ map (λ r. Some r) said
         → result ≡ (asked.now.faults && is_none said) }
 {
     asked.faults && solution.checked.remarks.is_empty()
@@ -237,15 +234,15 @@ fn write_checked<B: Board, K: Sink>(
     requires works { K.is_failed sink.old ≡ false }
     requires compared { IsCompared B.geometry solution.now }
     requires tally { (said : List AnyRemark)
-        → map (remark_in solution.now.tree.now) solution.now.checked.now.remarks.items ≡ map (λ r. Some r) said
+        → map (remark_in solution.now.tree.now.paths) solution.now.checked.now.remarks.items ≡ map (λ r. Some r) said
         → tallied tally ≡ counted said }
     ensures text { (said : List AnyRemark)
-        → map (remark_in solution.now.tree.now) solution.now.checked.now.remarks.items ≡ map (λ r. Some r) said
-        → AreRemarks B.geometry solution.now.tree.now solution.now.n solution.now.position.now [] said
+        → map (remark_in solution.now.tree.now.paths) solution.now.checked.now.remarks.items ≡ map (λ r. Some r) said
+        → AreRemarks B.geometry solution.now.tree.now.paths solution.now.n solution.now.tree.now.start [] said
         → OnOk result ((text : List ℕ)
-        × MatchBool json (IsCheckedLine B.geometry (numbered solution.now.problem.now).number solution.now.position.now
-        solution.now.n said text) (IsCheckedText B.geometry (numbered solution.now.problem.now)
-        solution.now.position.now solution.now.n said text)
+        × MatchBool json (IsCheckedLine B.geometry (numbered solution.now.problem.now).number
+        solution.now.tree.now.start solution.now.n said text) (IsCheckedText B.geometry
+        (numbered solution.now.problem.now) solution.now.tree.now.start solution.now.n said text)
         × Appends (K.taken sink.old) (K.taken sink.new) text) }
     ensures works { OnOk result (K.is_failed sink.new ≡ false) }
     ensures fails { SinkFails (K.is_failed sink.new) result }
@@ -266,12 +263,12 @@ fn row_of<B: Board>(
 ) -> Result<String, AllocError>
     requires compared { IsCompared B.geometry solution.now }
     requires tally { (said : List AnyRemark)
-        → map (remark_in solution.now.tree.now) solution.now.checked.now.remarks.items ≡ map (λ r. Some r) said
+        → map (remark_in solution.now.tree.now.paths) solution.now.checked.now.remarks.items ≡ map (λ r. Some r) said
         → tallied tally ≡ counted said }
     ensures { (said : List AnyRemark)
-        → map (remark_in solution.now.tree.now) solution.now.checked.now.remarks.items ≡ map (λ r. Some r) said
+        → map (remark_in solution.now.tree.now.paths) solution.now.checked.now.remarks.items ≡ map (λ r. Some r) said
         → IfOk result (λ line. IsCheckedLine B.geometry (numbered solution.now.problem.now).number
-        solution.now.position.now solution.now.n said (string_bytes line)) }
+        solution.now.tree.now.start solution.now.n said (string_bytes line)) }
 {
     dw_study::laws::remarks_can_be_told();
     let numbers = CheckNumbers {
@@ -285,7 +282,6 @@ fn row_of<B: Board>(
     let made = checked_row(
         alloc,
         solution.problem.number,
-        solution.position,
         solution.n,
         numbers,
         solution.tree,
@@ -307,13 +303,13 @@ fn write_words<B: Board, K: Sink>(
     requires works { K.is_failed sink.old ≡ false }
     requires compared { IsCompared B.geometry solution.now }
     requires tally { (said : List AnyRemark)
-        → map (remark_in solution.now.tree.now) solution.now.checked.now.remarks.items ≡ map (λ r. Some r) said
+        → map (remark_in solution.now.tree.now.paths) solution.now.checked.now.remarks.items ≡ map (λ r. Some r) said
         → tallied tally ≡ counted said }
     ensures text { (said : List AnyRemark)
-        → map (remark_in solution.now.tree.now) solution.now.checked.now.remarks.items ≡ map (λ r. Some r) said
-        → AreRemarks B.geometry solution.now.tree.now solution.now.n solution.now.position.now [] said
+        → map (remark_in solution.now.tree.now.paths) solution.now.checked.now.remarks.items ≡ map (λ r. Some r) said
+        → AreRemarks B.geometry solution.now.tree.now.paths solution.now.n solution.now.tree.now.start [] said
         → OnOk result ((text : List ℕ)
-        × IsCheckedText B.geometry (numbered solution.now.problem.now) solution.now.position.now solution.now.n
+        × IsCheckedText B.geometry (numbered solution.now.problem.now) solution.now.tree.now.start solution.now.n
         said text
         × Appends (K.taken sink.old) (K.taken sink.new) text) }
     ensures works { OnOk result (K.is_failed sink.new ≡ false) }
@@ -324,7 +320,7 @@ fn write_words<B: Board, K: Sink>(
     let line = win_line(alloc, solution.checked.wins, solution.n)?;
     write_all(sink, line.as_str().as_bytes())?;
     let remarks = solution.checked.remarks.as_slice();
-    write_remarks(alloc, solution.position, solution.tree, remarks, sink)?;
+    write_remarks(alloc, solution.tree, remarks, sink)?;
     let line = last_line(alloc, solution.n, tally)?;
     write_all(sink, line.as_str().as_bytes())?;
     Ok(())
@@ -343,44 +339,43 @@ fn win_line(alloc: Global, wins: bool, n: u8) -> Result<String, AllocError>
     }
 }
 
-/// Writes remarks on the tree of a position, in turn.
+/// Writes remarks on a tree, in turn.
 fn write_remarks<B: Board, K: Sink>(
     alloc: Global,
-    position: &Position<B>,
     tree: &Tree<B>,
     remarks: &[Remark<B>],
     sink: &mut K,
 ) -> Result<(), DeskFault>
     requires { K.is_failed sink.old ≡ false }
-    ensures texts { (said : List AnyRemark) → map (remark_in tree.now) remarks.now ≡ map (λ r. Some r) said
-        → ((r : AnyRemark) → Member r said → CanBeTold B.geometry position.now r)
-        → OnOk result ((told : List ℕ) × AreTexts (IsRemarkText B.geometry position.now) said told
+    ensures texts { (said : List AnyRemark) → map (remark_in tree.now.paths) remarks.now ≡ map (λ r. Some r) said
+        → ((r : AnyRemark) → Member r said → CanBeTold B.geometry tree.now.start r)
+        → OnOk result ((told : List ℕ) × AreTexts (IsRemarkText B.geometry tree.now.start) said told
         × Appends (K.taken sink.old) (K.taken sink.new) told) }
     ensures works { OnOk result (K.is_failed sink.new ≡ false) }
     ensures fails { SinkFails (K.is_failed sink.new) result }
 {
     'remarks: for remark in remarks {
-        write_remark(alloc, position, tree, remark, sink)?;
+        write_remark(alloc, tree, remark, sink)?;
     }
     Ok(())
 }
 
-/// Writes a remark on the tree of a position.
+/// Writes a remark on a tree.
 fn write_remark<B: Board, K: Sink>(
     alloc: Global,
-    position: &Position<B>,
     tree: &Tree<B>,
     remark: &Remark<B>,
     sink: &mut K,
 ) -> Result<(), DeskFault>
     requires { K.is_failed sink.old ≡ false }
-    ensures text { (r : AnyRemark) → remark_in tree.now remark.now ≡ Some r → CanBeTold B.geometry position.now r
-        → OnOk result ((text : List ℕ) × IsRemarkText B.geometry position.now r text
+    ensures text { (r : AnyRemark) → remark_in tree.now.paths remark.now ≡ Some r
+        → CanBeTold B.geometry tree.now.start r
+        → OnOk result ((text : List ℕ) × IsRemarkText B.geometry tree.now.start r text
         × Appends (K.taken sink.old) (K.taken sink.new) text) }
     ensures works { OnOk result (K.is_failed sink.new ≡ false) }
     ensures fails { SinkFails (K.is_failed sink.new) result }
 {
-    if let Some(text) = remark_text(alloc, position, tree, remark)? {
+    if let Some(text) = remark_text(alloc, tree, remark)? {
         write_all(sink, text.as_str().as_bytes())?;
     }
     Ok(())

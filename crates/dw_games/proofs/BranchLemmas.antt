@@ -9,7 +9,8 @@ use Rattle.std.proofs.lemmas.Bool.{cases_lt, true≢false}
 use Rattle.dw_moves.specs.Moves.{Move}
 use Rattle.dw_games.specs.declared.branches.Branch.{Branch}
 use Rattle.dw_games.specs.Walk.{place_of}
-use Rattle.dw_games.specs.inner.Branches.{BranchStep, steps_of, firsts_of, nexts_of, Hang, IsChild, IsFirstChild}
+use Rattle.dw_games.specs.inner.Branches.{BranchStep, steps_of, firsts_of, nexts_of, positions_of, Hang, IsChild}
+use Rattle.dw_games.specs.inner.Branches.{IsFirstChild}
 use Rattle.dw_games.specs.inner.Branches.{IsLastChild, IsUnseen, IsChildOrNone, behind}
 use Rattle.dw_games.proofs.PlaceLemmas.{same}
 use Rattle.dw_games.proofs.PathLemmas.{got_some}
@@ -26,6 +27,10 @@ module _ {B : Type 0} (branches : List (Branch B)) (i : ℕ) (b : Branch B) (ins
   pub first_at : slice_get (firsts_of branches) i ≡ Some (place_of b.first_child)
   first_at = slice_get-map (λ x. place_of x.first_child) branches i
       ∙ ap (option_map (λ x. place_of x.first_child)) (slice_get_read branches (length branches) i b refl inside is)
+
+  pub position_at : slice_get (positions_of branches) i ≡ Some b.position
+  position_at = slice_get-map (λ x. x.position) branches i
+      ∙ ap (option_map (λ x. x.position)) (slice_get_read branches (length branches) i b refl inside is)
 
   pub next_at : slice_get (nexts_of branches) i ≡ Some (place_of b.next_sibling)
   next_at = slice_get-map (λ x. place_of x.next_sibling) branches i

@@ -153,22 +153,22 @@ module _ {B : Type 0} (g : Geometry) (p : Placement) (ts : List Token) (r : Read
   moves_read = h.read.moves
 
   straight_play : IsVariation g p zero [] ts moves_read h.read.paths
-  straight_play = (straight_read g p r.tree h.read.opened h.none_opens).2
+  straight_play = (straight_read g p r.tree.paths h.read.opened h.none_opens).2
 
   pub none_around_line : r.outer.items ≡ []
-  none_around_line = (straight_read g p r.tree h.read.opened h.none_opens).0
+  none_around_line = (straight_read g p r.tree.paths h.read.opened h.none_opens).0
 
   pub is_straight : IsStraight g p ts moves_read
   is_straight = (h.read.paths, straight_play)
 
-  pub tree_read : r.tree ≡ beginnings_after [] moves_read
+  pub tree_read : r.tree.paths ≡ beginnings_after [] moves_read
   tree_read =
       let is : h.read.paths ≡ beginnings_after [] moves_read = paths_are g p straight_play refl in
       tree_is h.read.distinct moves_read is ∙ is
 
-  pub tree_short : length r.tree ≤ MAX_PATH
+  pub tree_short : length r.tree.paths ≤ MAX_PATH
   tree_short =
-      let short = opened_short g p r.tree h.read.opened in
+      let short = opened_short g p r.tree.paths h.read.opened in
       omega (arith, short, ap length tree_read, length_beginnings [] moves_read, length-append h.read.before moves_read)
 
 -- a token is at fault

@@ -1,6 +1,7 @@
 -- What a reader makes of a token.
-use Rattle.std.proofs.Common.{◌≡◌, ℕ, zero, suc, ◌+◌, ◌<◌, ◌≤◌, Bool, true, false, List, [], ◌∷◌, ◌++◌, length, Option}
-use Rattle.std.proofs.Common.{Some, None, refl, sym, subst, ◌∙◌, arith, append-nil, length-append, inl, inr, Ok, Err}
+use Rattle.std.proofs.Common.{◌≡◌, ℕ, zero, suc, ◌+◌, ◌<◌, ◌≤◌, Bool, true, false, List, [], ◌∷◌, ◌++◌, length}
+use Rattle.std.proofs.Common.{Some, None, refl, sym, ap, subst, ◌∙◌, arith, append-nil, length-append, inl, inr, Ok}
+use Rattle.std.proofs.Common.{Err}
 use Rattle.dw_board.specs.Geometry.{Geometry}
 use Rattle.dw_board.specs.Placement.{Placement}
 use Rattle.dw_moves.specs.Moves.{Move, play, Legal, LegalAt, IsPathOf}
@@ -10,12 +11,12 @@ use Rattle.dw_notation.specs.declared.read_move.MoveFault.TheVariants as reading
 use Rattle.dw_games.specs.Tokens.{Token}
 use Rattle.dw_games.specs.Play.{IsResult, IsMove, IsPassed, crossed, after, IsVariation, empty, passed, move, variation}
 use Rattle.std.specs.List.{slice_get}
-use Rattle.std.specs.Prelude.{◌==◌, IsSome}
+use Rattle.std.specs.Prelude.{◌==◌}
 use Rattle.dw_games.specs.Movetext.{nothing}
 use Rattle.std.proofs.Math.Nat.{eq-or-lt_of_le}
 use Rattle.std.proofs.lemmas.Bool.{eqb-true, eq-eqb, true≢false}
 use Rattle.dw_notation.specs.MoveReading.{Named, QuietMove, Capture, Fits, FitsSquares}
-use Rattle.dw_games.specs.Walk.{beginning_at, place_of}
+use Rattle.dw_games.specs.Walk.{beginning_at, place_of, CanFollow}
 use Rattle.dw_games.specs.inner.Noting.{IsNoted}
 use Rattle.dw_games.specs.Faults.{IsOpen, FaultAt, HasForm, IsUnreadable, unreadable, no_such_move, ambiguous}
 use Rattle.dw_games.specs.Faults.{no_move_before, none_open, within, too_deep, too_long}
@@ -68,83 +69,86 @@ module _ {B : Type 0} (g : Geometry) (p : Placement) (ts : List Token) (r : Read
     before = h.before;
     moves = h.moves;
     paths = h.paths;
-    opened = read_passed g p r.tree t h.opened is;
+    start = h.start;
+    opened = read_passed g p r.tree.paths t h.opened is;
     distinct = h.distinct;
   }
 
   pub fault_unreadable : IsUnreadable g t → FaultAt g p ts t NoToken
-  fault_unreadable is = unreadable (opened_open g p r.tree h.opened) is
+  fault_unreadable is = unreadable (opened_open g p r.tree.paths h.opened) is
 
   pub fault_within : IsResult t → 0 < length r.outer.items → FaultAt g p ts t Unclosed
   fault_within is some =
-      let room = opened_room g p r.tree h.opened in
-      within (opened_open g p r.tree h.opened) (omega (arith, room, some)) is
+      let room = opened_room g p r.tree.paths h.opened in
+      within (opened_open g p r.tree.paths h.opened) (omega (arith, room, some)) is
 
   -- ---- variations
   pub fault_no_move : r.line.before ≡ None → t.what ≡ Opens → FaultAt g p ts t Variation
   fault_no_move none is =
-      let line = opened_line g p r.tree h.opened in
-      let no : h.moves ≡ [] = subst (λ x. IsBefore g p r.tree x h.before h.moves) none line.earlier in
-      no_move_before (subst (λ x. IsOpen g p h.room ts h.before x) no (opened_open g p r.tree h.opened)) is
+      let line = opened_line g p r.tree.paths h.opened in
+      let no : h.moves ≡ [] = subst (λ x. IsBefore g p r.tree.paths x h.before h.moves) none line.earlier in
+      no_move_before (subst (λ x. IsOpen g p h.room ts h.before x) no (opened_open g p r.tree.paths h.opened)) is
 
-  earlier : (cursor : Cursor B) → r.line.before ≡ Some cursor → IsBefore g p r.tree (Some cursor) h.before h.moves
+  earlier : (cursor : Cursor B) → r.line.before ≡ Some cursor → IsBefore g p r.tree.paths (Some cursor) h.before h.moves
   earlier cursor e =
-      let line = opened_line g p r.tree h.opened in
-      subst (λ x. IsBefore g p r.tree x h.before h.moves) e line.earlier
+      let line = opened_line g p r.tree.paths h.opened in
+      subst (λ x. IsBefore g p r.tree.paths x h.before h.moves) e line.earlier
 
   pub fault_deep : (cursor : Cursor B) → r.line.before ≡ Some cursor → MAX_OPEN ≤ length r.outer.items → t.what ≡ Opens
       → FaultAt g p ts t TooDeep
   fault_deep cursor e full is =
       let before = earlier cursor e in
-      let room = opened_room g p r.tree h.opened in
+      let room = opened_room g p r.tree.paths h.opened in
       let none : h.room ≡ zero = omega (arith, room, full) in
       too_deep before.0 before.1 (subst (λ x. IsOpen g p x ts h.before (before.0 ++ before.1 ∷ [])) none
-      (subst (λ x. IsOpen g p h.room ts h.before x) before.2 (opened_open g p r.tree h.opened))) is
+      (subst (λ x. IsOpen g p h.room ts h.before x) before.2 (opened_open g p r.tree.paths h.opened))) is
 
   pub taken_opens : (next : Reader B) (cursor : Cursor B) → r.line.before ≡ Some cursor → length r.outer.items <
       MAX_OPEN → t.what ≡ Opens → next.tree ≡ r.tree → next.line ≡ record { now = cursor; before = None }
       → next.outer.items ≡ r.outer.items ++ r.line ∷ [] → HasRead g p (ts ++ t ∷ []) next
   taken_opens next cursor e fits is tree line outer =
-      let room = opened_room g p r.tree h.opened in
+      let room = opened_room g p r.tree.paths h.opened in
       let left = one_less h.room (omega (arith, room, fits)) in
-      let opened = read_opens g p r.tree t cursor (subst (λ x. Opened g p r.tree x ts r.line r.outer.items h.before
-      h.moves h.paths) left.1 h.opened) is (earlier cursor e) in
+      let opened = read_opens g p r.tree.paths t cursor (subst (λ x. Opened g p r.tree.paths x ts r.line r.outer.items
+      h.before h.moves h.paths) left.1 h.opened) is (earlier cursor e) in
       record {
         room = left.0;
         before = h.before ++ opened.0;
         moves = [];
         paths = h.paths;
+        start = rw tree h.start;
         opened = rw (tree, line, outer) opened.1;
         distinct = rw tree h.distinct;
       }
 
   pub fault_none_open : r.outer.items ≡ [] → t.what ≡ Closes → FaultAt g p ts t Variation
-  fault_none_open none is = none_open (none_around g p r.tree h.opened none) is
+  fault_none_open none is = none_open (none_around g p r.tree.paths h.opened none) is
 
   pub taken_closes : (next : Reader B) (around : OpenLine B) → r.outer.items ≡ next.outer.items ++ around ∷ []
       → t.what ≡ Closes → next.tree ≡ r.tree → next.line ≡ around → HasRead g p (ts ++ t ∷ []) next
   taken_closes next around outer is tree line =
-      let opened = read_closes g p r.tree t next.outer.items around h.opened outer is in
+      let opened = read_closes g p r.tree.paths t next.outer.items around h.opened outer is in
       record {
         room = suc h.room;
         before = opened.0;
         moves = opened.1;
         paths = h.paths;
+        start = rw tree h.start;
         opened = rw (tree, line) opened.2;
         distinct = rw tree h.distinct;
       }
 
   -- ---- moves
   length_now : r.line.now.moves ≡ length (h.before ++ h.moves)
-  length_now = (opened_line g p r.tree h.opened).now.many
+  length_now = (opened_line g p r.tree.paths h.opened).now.many
 
   position_now : r.line.now.position ≡ after g p (h.before ++ h.moves)
-  position_now = (opened_line g p r.tree h.opened).now.position
+  position_now = (opened_line g p r.tree.paths h.opened).now.position
 
   fault_form_long : HasForm g t → MAX_PATH ≤ r.line.now.moves → FaultAt g p ts t TooLong
   fault_form_long form long =
-      let short = opened_short g p r.tree h.opened in
-      too_long (opened_open g p r.tree h.opened) (omega (arith, long, short, length_now)) form
+      let short = opened_short g p r.tree.paths h.opened in
+      too_long (opened_open g p r.tree.paths h.opened) (omega (arith, long, short, length_now)) form
 
   form_of : {answer : _} → t.what ≡ Written → (IsResult t → ⊥) → (q : Placement)
       → IsAnswered g q (crossed t.text) answer → HasForm g t
@@ -178,7 +182,7 @@ module _ {B : Type 0} (g : Geometry) (p : Placement) (ts : List Token) (r : Read
   fault_refused reading.NoSuchMove true written no_result read long short =
       (fault_form_long (form_of written no_result r.line.now.position read) (long refl), refl)
   fault_refused reading.NoSuchMove false written no_result read long short = (
-    no_such_move (opened_open g p r.tree h.opened) (omega (arith, short refl, length_now)) (record {
+    no_such_move (opened_open g p r.tree.paths h.opened) (omega (arith, short refl, length_now)) (record {
       form = form_of written no_result r.line.now.position read;
       refused = here reading.NoSuchMove read;
     }),
@@ -187,7 +191,7 @@ module _ {B : Type 0} (g : Geometry) (p : Placement) (ts : List Token) (r : Read
   fault_refused reading.Ambiguous true written no_result read long short =
       (fault_form_long (form_of written no_result r.line.now.position read) (long refl), refl)
   fault_refused reading.Ambiguous false written no_result read long short = (
-    ambiguous (opened_open g p r.tree h.opened) (omega (arith, short refl, length_now)) (record {
+    ambiguous (opened_open g p r.tree.paths h.opened) (omega (arith, short refl, length_now)) (record {
       form = form_of written no_result r.line.now.position read;
       refused = here reading.Ambiguous read;
     }),
@@ -195,15 +199,30 @@ module _ {B : Type 0} (g : Geometry) (p : Placement) (ts : List Token) (r : Read
   )
   fault_refused reading.Memory full written no_result read long short = tt
 
-  -- the path before a move stands in the tree
-  pub known_now : beginning_at r.tree (place_of r.line.now.node) ≡ Some (h.before ++ h.moves)
-  known_now = (opened_line g p r.tree h.opened).now.there
+  -- the path before a move stands in the tree, and the move can follow it
+  known_now : beginning_at r.tree.paths (place_of r.line.now.node) ≡ Some (h.before ++ h.moves)
+  known_now = (opened_line g p r.tree.paths h.opened).now.there
 
-  pub taken_move : (next : Reader B) (m : Move) (node : Node) → IsMove g r.line.now.position t m
+  pub can_note : (m : Move) (then : Placement) → Legal g r.line.now.position m → r.line.now.moves < MAX_PATH
+      → then ≡ play g r.line.now.position m
+      → (b : List Move) × (beginning_at r.tree.paths (place_of r.line.now.node) ≡ Some b)
+      × CanFollow g r.tree.start b m × (then ≡ play g (after g r.tree.start b) m)
+  can_note m then legal short played =
+      let path : List Move = h.before ++ h.moves in
+      let here : r.line.now.position ≡ after g r.tree.start path =
+      position_now ∙ ap (λ x. after g x path) (sym h.start) in (
+        path,
+        known_now,
+        record { legal = subst (λ x. Legal g x m) here legal; short = omega (arith, short, length_now) },
+        played ∙ ap (λ x. play g x m) here,
+      )
+
+  pub taken_move : (next : Reader B) (m : Move) (node : Node) → next.tree.start ≡ r.tree.start
+      → IsMove g r.line.now.position t m
       → r.line.now.moves < MAX_PATH
-      → ((b : List Move) → beginning_at r.tree (place_of r.line.now.node) ≡ Some b → IsNoted r.tree (b ++ m ∷ [])
-      next.tree) → ((b : List Move) → beginning_at r.tree (place_of r.line.now.node) ≡ Some b
-      → slice_get next.tree node.0 ≡ Some (b ++ m ∷ []))
+      → ((b : List Move) → beginning_at r.tree.paths (place_of r.line.now.node) ≡ Some b → IsNoted r.tree.paths
+      (b ++ m ∷ []) next.tree.paths) → ((b : List Move) → beginning_at r.tree.paths (place_of r.line.now.node) ≡ Some b
+      → slice_get next.tree.paths node.0 ≡ Some (b ++ m ∷ []))
       → next.line ≡ record {
         now = record {
           node = Some node;
@@ -212,18 +231,20 @@ module _ {B : Type 0} (g : Geometry) (p : Placement) (ts : List Token) (r : Read
         };
         before = Some r.line.now;
       } → next.outer.items ≡ r.outer.items → HasRead g p (ts ++ t ∷ []) next
-  taken_move next m node is short noted there line outer =
+  taken_move next m node start is short noted there line outer =
       let path : List Move = h.before ++ h.moves in
       record {
         room = h.room;
         before = h.before;
         moves = h.moves ++ m ∷ [];
         paths = h.paths ++ (path ++ m ∷ []) ∷ [];
+        start = start ∙ h.start;
         opened =
-            rw (line, outer) (read_move g p r.tree next.tree h.room ts r.line r.outer.items h.before h.moves h.paths t m
-            node h.opened (omega (arith, short, length_now)) (subst (λ x. IsMove g x t m) position_now is)
-            (noted path known_now) (there path known_now));
-        distinct = distinct_noted h.paths r.tree next.tree (path ++ m ∷ []) h.distinct (noted path known_now);
+            rw (line, outer) (read_move g p r.tree.paths next.tree.paths h.room ts r.line r.outer.items h.before
+            h.moves h.paths t m node h.opened (omega (arith, short, length_now))
+            (subst (λ x. IsMove g x t m) position_now is) (noted path known_now) (there path known_now));
+        distinct = distinct_noted h.paths r.tree.paths next.tree.paths (path ++ m ∷ []) h.distinct
+            (noted path known_now);
       }
 
 -- ---- what fits a text is a legal move
@@ -256,17 +277,16 @@ pub none_left : {A : Type 0} (xs : List A) → (0 < length xs → false ≡ true
 none_left [] h = refl
 none_left (x ∷ xs) h = absurd (true≢false (sym (h (omega arith))))
 
-pub some_is : {A : Type 0} (o : Option A) (x : A) → o ≡ Some x → IsSome o
-some_is o x e = rw e refl
-
 -- a reader that has read nothing
-pub read_nothing : {B : Type 0} (g : Geometry) (p : Placement) (r : Reader B) → r.tree ≡ [] → r.outer.items ≡ []
+pub read_nothing : {B : Type 0} (g : Geometry) (p : Placement) (r : Reader B)
+    → r.tree ≡ record { start = p; paths = [] } → r.outer.items ≡ []
     → r.line ≡ record { now = record { node = None; position = p; moves = 0 }; before = None } → HasRead g p [] r
 read_nothing g p r tree outer line = record {
   room = MAX_OPEN;
   before = [];
   moves = [];
   paths = [];
+  start = rw tree refl;
   opened =
       rw (tree, outer, line) (outermost empty (record {
         now = record { there = refl; position = refl; many = refl };

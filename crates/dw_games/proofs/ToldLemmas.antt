@@ -4,9 +4,9 @@ use Rattle.std.proofs.lemmas.List.{take_all, length-take}
 use Rattle.std.proofs.lemmas.Bool.{cases_lt}
 use Rattle.dw_board.specs.Geometry.{Geometry}
 use Rattle.dw_board.specs.Placement.{Placement}
-use Rattle.dw_moves.specs.Moves.{Move}
 use Rattle.dw_games.specs.Faults.{IsFirstFault, IsAnswer}
 use Rattle.dw_games.specs.Faults.IsFirstFault.{too_large, at_token, at_end}
+use Rattle.dw_games.specs.Walk.{PlayedTree}
 use Rattle.dw_games.specs.GameLaws.{ToldIsEnough}
 use Rattle.dw_games.specs.declared.fault.MovetextFault.{MovetextFault}
 use Rattle.dw_games.specs.declared.fault.MovetextFault.TheVariants.{Refused, Memory}
@@ -22,9 +22,9 @@ both_large g p text (too_large large) long whole = too_large whole
 both_large g p text (at_token before t rest size tokens fault) long whole = absurd (too_long _ _ long size)
 both_large g p text (at_end tokens size are fault) long whole = absurd (too_long _ _ long size)
 
-answer_large : (g : Geometry) (p : Placement) (text part : List ℕ) (answer : Result (List (List Move)) MovetextFault)
+answer_large : (g : Geometry) (p : Placement) (text part : List ℕ) (answer : Result PlayedTree MovetextFault)
     → 1048576 < length part → 1048576 < length text → IsAnswer g p part answer → IsAnswer g p text answer
-answer_large g p text part (Ok tree) long whole is = absurd (too_long _ _ long is.size)
+answer_large g p text part (Ok tree) long whole is = absurd (too_long _ _ long is.1.size)
 answer_large g p text part (Err (Refused what place)) long whole is = both_large g p text is long whole
 answer_large g p text part (Err Memory) long whole is = tt
 

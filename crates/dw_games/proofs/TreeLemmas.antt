@@ -1,20 +1,26 @@
 -- What the calls of a tree say of its paths.
 use Rattle.std.proofs.Common.{◌≡◌, ℕ, ◌+◌, ◌<◌, ◌≤◌, List, [], ◌∷◌, ◌++◌, length, Option, Some, None, refl, sym, ap}
 use Rattle.std.proofs.Common.{subst, ◌∙◌, arith, inl, inr, length-append}
-use Rattle.std.specs.Prelude.{MatchOption, IsSome}
+use Rattle.std.specs.Prelude.{MatchOption, map, option_map}
 use Rattle.std.specs.List.{slice_get}
-use Rattle.std.proofs.lemmas.Bool.{true≢false}
 use Rattle.std.proofs.lemmas.Option.{slice_get_within, slice_get_past, slice_get-get_or, get_or_from_slice_get}
+use Rattle.std.proofs.lemmas.Option.{slice_get-map}
+use Rattle.dw_board.specs.Geometry.{Geometry}
 use Rattle.dw_board.specs.Lists.{Member}
-use Rattle.dw_moves.specs.Moves.{Move}
+use Rattle.dw_board.specs.Placement.{Placement}
+use Rattle.dw_moves.specs.Moves.{Move, play}
+use Rattle.dw_moves.specs.inner.MemberLemmas.{mem_cases}
+use Rattle.dw_games.specs.Play.{after}
 use Rattle.dw_games.specs.declared.branches.Node.{Node}
-use Rattle.dw_games.specs.Walk.{place_of, beginning_at, IsNext}
+use Rattle.dw_games.specs.Walk.{place_of, beginning_at, CanFollow, IsNext}
 use Rattle.dw_games.specs.inner.Noting.{IsNoted}
 use Rattle.dw_games.specs.inner.Branches.{BranchStep, path_to, paths_of, IsFirstChild, IsPlace, AreLinked, IsLastChild}
-use Rattle.dw_games.specs.inner.Branches.{Hang, steps_of, firsts_of, nexts_of, first_linked, next_linked}
+use Rattle.dw_games.specs.inner.Branches.{Hang, steps_of, firsts_of, nexts_of, positions_of, first_linked}
+use Rattle.dw_games.specs.inner.Branches.{next_linked, ArePlayed, IsPlayedTree}
 use Rattle.dw_games.specs.declared.branches.Branch.{Branch}
 use Rattle.std.proofs.lemmas.List.{map-append}
 use Rattle.dw_games.proofs.LinkLemmas.{linked_new}
+use Rattle.dw_games.proofs.ReadingLemmas.{after_append}
 use Rattle.dw_games.proofs.BranchLemmas.{steps_length}
 use Rattle.dw_games.proofs.PlaceLemmas.{same, got_last}
 use Rattle.dw_games.proofs.PathLemmas.{length_paths, last_same, at_member, member_at, grown_append, node_path}
@@ -104,6 +110,16 @@ module _ (steps : List BranchStep) (firsts nexts : List (Option ℕ)) (linked : 
       (node_path steps linked.above linked.once n _ e) in
       (inl (at_member (b ++ m ∷ []) (paths_of steps) n is, refl), is)
 
+  -- a new step adds its path behind all others
+  paths_now : (p : Option ℕ) (m : Move) (now : List BranchStep) → now ≡ steps ++ (record {
+    parent = p;
+    mv = m;
+  }) ∷ [] → (b : List Move) → beginning_at (paths_of steps) p ≡ Some b
+      → paths_of now ≡ paths_of steps ++ (b ++ m ∷ []) ∷ []
+  paths_now p m now e b there =
+      ap paths_of e ∙ (grown_append [] steps (record { parent = p; mv = m })
+      ∙ ap (λ x. paths_of steps ++ (x ++ m ∷ []) ∷ []) (sym (place_at p b there).1))
+
   -- a new step is noted behind all others
   pub noted_new : (p : Option ℕ) (m : Move) (now : List BranchStep)
       → ((n : ℕ) → slice_get steps n ≡ Some (record { parent = p; mv = m }) → ⊥)
@@ -113,9 +129,7 @@ module _ (steps : List BranchStep) (firsts nexts : List (Option ℕ)) (linked : 
       × (slice_get (paths_of now) (length steps) ≡ Some (b ++ m ∷ []))
   noted_new p m now unseen e b there =
       let h = place_at p b there in
-      let grows : paths_of now ≡ paths_of steps ++ (b ++ m ∷ []) ∷ [] =
-      ap paths_of e ∙ (grown_append [] steps (record { parent = p; mv = m })
-      ∙ ap (λ x. paths_of steps ++ (x ++ m ∷ []) ∷ []) (sym h.1)) in
+      let grows = paths_now p m now e b there in
       let new : Member (b ++ m ∷ []) (paths_of steps) → ⊥ = λ member.
       let found = member_at (b ++ m ∷ []) (paths_of steps) member in
       unseen found.0 (goes_step steps linked.above linked.once p m found.0 h.0
@@ -135,10 +149,6 @@ module _ (steps : List BranchStep) (firsts nexts : List (Option ℕ)) (linked : 
       subst (λ x. IsNext (paths_of steps) x 0 (place_of r)) (sym h.1)
       (first_next steps linked.above linked.once p 0 (place_of r) h.0 first))
 
-pub some_value : {A : Type 0} (o : Option A) → IsSome o → (x : A) × (o ≡ Some x)
-some_value None h = absurd (true≢false (sym h))
-some_value (Some x) h = (x, refl)
-
 -- places and last children in longer lists
 pub place_longer : (steps more : List BranchStep) (p : Option ℕ) → IsPlace steps p → IsPlace (steps ++ more) p
 place_longer steps more None h = tt
@@ -147,6 +157,10 @@ place_longer steps more (Some n) h = omega (arith, h, length-append steps more)
 pub last_place : (steps : List BranchStep) (p last : Option ℕ) → IsLastChild steps p last → IsPlace steps last
 last_place steps p None h = tt
 last_place steps p (Some n) h = slice_get_within steps n _ h.0.1
+
+-- a node that is not linked yet
+abbrev pub new_branch : {B : Type 0} → Option Node → Move → Placement → Branch B
+new_branch parent m q = record { mv = m; position = q; parent = parent; first_child = None; next_sibling = None }
 
 -- the steps of a list of nodes with a new one behind them
 pub steps_now : {B : Type 0} → (branches now : List (Branch B)) (b : Branch B) → now ≡ branches ++ b ∷ []
@@ -162,30 +176,69 @@ nexts_now : {B : Type 0} → (branches now : List (Branch B)) (b : Branch B) →
 nexts_now branches now b e = ap nexts_of e ∙ map-append _ branches (b ∷ [])
 
 pub new_steps : {B : Type 0} → (branches pushed now : List (Branch B)) (parent : Option Node) (m : Move)
-    → pushed ≡ branches ++ (record { mv = m; parent = parent; first_child = None; next_sibling = None }) ∷ []
-    → steps_of now ≡ steps_of pushed
+    (q : Placement) → pushed ≡ branches ++ new_branch parent m q ∷ [] → steps_of now ≡ steps_of pushed
     → steps_of now ≡ steps_of branches ++ (record { parent = place_of parent; mv = m }) ∷ []
-new_steps branches pushed now parent m e s =
-    s ∙ steps_now branches pushed (record { mv = m; parent = parent; first_child = None; next_sibling = None }) e
+new_steps branches pushed now parent m q e s = s ∙ steps_now branches pushed (new_branch parent m q) e
 
 -- they hang together if the new one was linked
-pub linked_now : {B : Type 0} → (branches pushed now : List (Branch B)) (parent last : Option Node) (m : Move) (n : ℕ)
-    → Hang branches → IsPlace (steps_of branches) (place_of parent)
+linked_now : {B : Type 0} → (branches pushed now : List (Branch B)) (parent last : Option Node) (m : Move)
+    (q : Placement) (n : ℕ) → Hang branches → IsPlace (steps_of branches) (place_of parent)
     → IsLastChild (steps_of branches) (place_of parent) (place_of last)
     → ((k : ℕ) → slice_get (steps_of branches) k ≡ Some (record { parent = place_of parent; mv = m }) → ⊥)
-    → n ≡ length branches
-    → pushed ≡ branches ++ (record { mv = m; parent = parent; first_child = None; next_sibling = None }) ∷ []
-    → steps_of now ≡ steps_of pushed
+    → n ≡ length branches → pushed ≡ branches ++ new_branch parent m q ∷ [] → steps_of now ≡ steps_of pushed
     → firsts_of now ≡ first_linked (firsts_of pushed) (place_of last) (place_of parent) n
     → nexts_of now ≡ next_linked (nexts_of pushed) (place_of last) n → Hang now
-linked_now branches pushed now parent last m n hang place is unseen here e s f x =
-    let b : Branch _ = record { mv = m; parent = parent; first_child = None; next_sibling = None } in
+linked_now branches pushed now parent last m q n hang place is unseen here e s f x =
+    let b : Branch _ = new_branch parent m q in
     let end : n ≡ length (steps_of branches) = here ∙ sym (steps_length branches) in
     rw (
-      new_steps branches pushed now parent m e s,
+      new_steps branches pushed now parent m q e s,
       f,
       x,
       firsts_now branches pushed b e,
       nexts_now branches pushed b e,
       end,
     ) (linked_new _ _ _ hang (place_of parent) (place_of last) m place is unseen)
+
+module _ (g : Geometry) (start : Placement) where
+  -- the position at a place is that after its path
+  pub position_found : {B : Type 0} → (branches : List (Branch B)) → IsPlayedTree g start branches → (n : ℕ)
+      → slice_get (positions_of branches) n ≡ option_map (after g start) (slice_get (paths_of (steps_of branches)) n)
+  position_found branches held n =
+      ap (λ x. slice_get x n) held.positions ∙ slice_get-map (after g start) (paths_of (steps_of branches)) n
+
+  played_more : (paths : List (List Move)) (b : List Move) (m : Move) → ArePlayed g start paths → CanFollow g start b m
+      → ArePlayed g start (paths ++ (b ++ m ∷ []) ∷ [])
+  played_more paths b m played new c o there =
+      elim (mem_cases (c ++ o ∷ []) paths ((b ++ m ∷ []) ∷ []) there) [
+        | inl old ↦ played c o old
+        | inr (inl e) ↦ let both = last_same c b o m e in rw (both.0, both.1) new
+        | inr (inr gone) ↦ absurd gone
+      ]
+
+  -- a tree with a new node, if that was linked, its move can follow, and its position is that after the move
+  pub tree_now : {B : Type 0} → (branches pushed now : List (Branch B)) (parent last : Option Node) (m : Move)
+      (q : Placement) (n : ℕ) → IsPlayedTree g start branches
+      → (b : List Move) × (beginning_at (paths_of (steps_of branches)) (place_of parent) ≡ Some b)
+      × CanFollow g start b m × (q ≡ play g (after g start b) m)
+      → IsLastChild (steps_of branches) (place_of parent) (place_of last)
+      → ((k : ℕ) → slice_get (steps_of branches) k ≡ Some (record { parent = place_of parent; mv = m }) → ⊥)
+      → n ≡ length branches → pushed ≡ branches ++ new_branch parent m q ∷ [] → steps_of now ≡ steps_of pushed
+      → positions_of now ≡ positions_of pushed
+      → firsts_of now ≡ first_linked (firsts_of pushed) (place_of last) (place_of parent) n
+      → nexts_of now ≡ next_linked (nexts_of pushed) (place_of last) n → IsPlayedTree g start now
+  tree_now branches pushed now parent last m q n held follows is unseen here e s z f x =
+      let b = follows.0 in
+      let paths = paths_of (steps_of branches) in
+      let longer : paths_of (steps_of now) ≡ paths ++ (b ++ m ∷ []) ∷ [] =
+      paths_now (steps_of branches) _ _ held.hang (place_of parent) m (steps_of now)
+      (new_steps branches pushed now parent m q e s) b follows.1 in
+      record {
+        hang = linked_now branches pushed now parent last m q n held.hang
+            (place_at (steps_of branches) _ _ held.hang (place_of parent) b follows.1).0 is unseen here e s f x;
+        played = rw longer (played_more paths b m held.played follows.2);
+        positions = z ∙ (ap positions_of e ∙ (map-append _ branches (new_branch parent m q ∷ [])
+            ∙ (ap (λ w. w ++ q ∷ []) held.positions
+            ∙ (ap (λ w. map (after g start) paths ++ w ∷ []) (follows.3 ∙ sym (after_append g start b m))
+            ∙ (sym (map-append (after g start) paths ((b ++ m ∷ []) ∷ [])) ∙ ap (map (after g start)) (sym longer))))));
+      }

@@ -1,11 +1,13 @@
 -- The answer to a whole text, from what was read of its tokens.
-use Rattle.std.proofs.Common.{◌≡◌, ℕ, ◌+◌, ◌<◌, ◌≤◌, true, List, [], ◌∷◌, ◌++◌, length, Ok, Err, refl, sym, subst, ◌∙◌}
+use Rattle.std.proofs.Common.{◌≡◌, ℕ, ◌+◌, ◌<◌, ◌≤◌, true, List, [], ◌∷◌, ◌++◌, length, Ok, Err, refl, sym, ap, subst}
+use Rattle.std.proofs.Common.{◌∙◌}
 use Rattle.std.proofs.Common.{arith, append_assoc, append-nil, inl, inr, Result}
 use Rattle.std.specs.Prelude.{MatchResult}
 use Rattle.dw_board.specs.Geometry.{Geometry}
 use Rattle.dw_board.specs.Placement.{Placement}
 use Rattle.dw_board.specs.Lists.{Member}
 use Rattle.dw_moves.specs.Moves.{Move}
+use Rattle.dw_games.specs.Walk.{PlayedTree}
 use Rattle.dw_games.specs.Tokens as of
 use Rattle.dw_games.specs.Tokens.{Token, AreTokens}
 use Rattle.dw_games.specs.Play.{IsResult, IsOver, AreComments}
@@ -61,7 +63,7 @@ module _ (g : Geometry) (p : Placement) (text : List ℕ) (size : length text �
     front = ts;
     result = t;
     comments = cs;
-    played = none_around g p r.tree h.opened none;
+    played = none_around g p r.tree.paths h.opened none;
     is_result = is;
     are_comments = comments;
     joined = refl;
@@ -89,8 +91,8 @@ module _ (g : Geometry) (p : Placement) (text : List ℕ) (size : length text �
   pub unclosed_answer : {B : Type 0} (r : Reader B) (ts : List Token) → HasRead g p ts r → AreAhead start ts []
       → 0 < length r.outer.items → IsAnswer g p text (Err (Refused Unclosed (length text + 1)))
   unclosed_answer r ts h ahead some =
-      let room = opened_room g p r.tree h.opened in
-      at_end ts size (whole ts [] ahead) (unclosed (opened_open g p r.tree h.opened) (omega (arith, room, some)))
+      let room = opened_room g p r.tree.paths h.opened in
+      at_end ts size (whole ts [] ahead) (unclosed (opened_open g p r.tree.paths h.opened) (omega (arith, room, some)))
 
   none_distinct : (paths tree : List (List Move)) → AreDistinct paths tree → tree ≡ [] → paths ≡ []
   none_distinct paths tree nothing e = refl
@@ -99,41 +101,46 @@ module _ (g : Geometry) (p : Placement) (text : List ℕ) (size : length text �
   none_distinct paths tree (first {tree = front} path d there) e = filled front path (sym e)
 
   -- the tree, if it has a move
-  pub tree_answer : (tree : List (List Move)) (tokens : List Token) (paths : List (List Move))
-      → AreAhead start tokens [] → IsGame g p tokens paths → AreDistinct paths tree
-      → (answer : Result (List (List Move)) MovetextFault)
-      → MatchResult answer (λ t. (t ≡ tree) × (0 < length t))
-      (λ why. (why ≡ Refused Empty (length text + 1)) × (tree ≡ []))
+  pub tree_answer : (tree : PlayedTree) (tokens : List Token) (paths : List (List Move)) → tree.start ≡ p
+      → AreAhead start tokens [] → IsGame g p tokens paths → AreDistinct paths tree.paths
+      → (answer : Result PlayedTree MovetextFault)
+      → MatchResult answer (λ t. (t ≡ tree) × (0 < length t.paths))
+      (λ why. (why ≡ Refused Empty (length text + 1)) × (tree.paths ≡ []))
       → IsAnswer g p text answer
-  tree_answer tree tokens paths ahead game distinct (Ok t) h = record {
-    size = size;
-    tokens = tokens;
-    are_tokens = whole tokens [] ahead;
-    paths = paths;
-    game = game;
-    distinct = subst (λ x. AreDistinct paths x) (sym h.0) distinct;
-    some = h.1;
-  }
-  tree_answer tree tokens paths ahead game distinct (Err why) h =
-      let none : paths ≡ [] = none_distinct paths tree distinct h.1 in
+  tree_answer tree tokens paths from ahead game distinct (Ok t) h = (
+    ap (λ x. x.start) h.0 ∙ from,
+    record {
+      size = size;
+      tokens = tokens;
+      are_tokens = whole tokens [] ahead;
+      paths = paths;
+      game = game;
+      distinct = subst (λ x. AreDistinct paths x.paths) (sym h.0) distinct;
+      some = h.1;
+    },
+  )
+  tree_answer tree tokens paths from ahead game distinct (Err why) h =
+      let none : paths ≡ [] = none_distinct paths tree.paths distinct h.1 in
       subst (λ x. IsAnswer g p text (Err x)) (sym h.0)
       (at_end tokens size (whole tokens [] ahead) (no_move (subst (λ x. IsGame g p tokens x) none game)))
 
   pub with_result : {B : Type 0} (r : Reader B) (now : Tokens) (ts cs : List Token) (t : Token) → (h : HasRead g p ts r)
       → r.outer.items ≡ [] → IsResult t → ReadOn start (ts ++ t ∷ []) now → AreComments cs → AreAhead now cs []
-      → (answer : Result (List (List Move)) MovetextFault)
-      → MatchResult answer (λ x. (x ≡ r.tree) × (0 < length x))
-      (λ why. (why ≡ Refused Empty (length text + 1)) × (r.tree ≡ []))
+      → (answer : Result PlayedTree MovetextFault)
+      → MatchResult answer (λ x. (x ≡ r.tree) × (0 < length x.paths))
+      (λ why. (why ≡ Refused Empty (length text + 1)) × (r.tree.paths ≡ []))
       → IsAnswer g p text answer
   with_result r now ts cs t h none is on comments ahead answer match =
       let tokens : AreAhead start (ts ++ t ∷ cs) [] =
       subst (λ x. AreAhead start x []) (append_assoc ts (t ∷ []) cs) (on cs [] ahead) in
-      tree_answer r.tree (ts ++ t ∷ cs) h.paths tokens (inr (over r ts t cs h none is comments)) h.distinct answer match
+      tree_answer r.tree (ts ++ t ∷ cs) h.paths h.start tokens (inr (over r ts t cs h none is comments)) h.distinct
+      answer match
 
   pub without_result : {B : Type 0} (r : Reader B) (ts : List Token) → (h : HasRead g p ts r) → r.outer.items ≡ []
-      → AreAhead start ts [] → (answer : Result (List (List Move)) MovetextFault)
-      → MatchResult answer (λ x. (x ≡ r.tree) × (0 < length x))
-      (λ why. (why ≡ Refused Empty (length text + 1)) × (r.tree ≡ []))
+      → AreAhead start ts [] → (answer : Result PlayedTree MovetextFault)
+      → MatchResult answer (λ x. (x ≡ r.tree) × (0 < length x.paths))
+      (λ why. (why ≡ Refused Empty (length text + 1)) × (r.tree.paths ≡ []))
       → IsAnswer g p text answer
   without_result r ts h none ahead answer match =
-      tree_answer r.tree ts h.paths ahead (inl (none_around g p r.tree h.opened none)) h.distinct answer match
+      tree_answer r.tree ts h.paths h.start ahead (inl (none_around g p r.tree.paths h.opened none)) h.distinct answer
+      match

@@ -13,6 +13,7 @@ use Rattle.dw_games.specs.Play.{IsResult, crossed, after, IsVariation, IsPlay, I
 use Rattle.dw_games.specs.declared.tokens.TokenKind.TheVariants.{Comment, Written, Opens, Closes, CutOff, Unknown}
 use Rattle.dw_games.specs.declared.movetext.TheConstants.{MAX_PATH, MAX_OPEN, MAX_MOVETEXT}
 use Rattle.dw_games.specs.Movetext.{IsTree}
+use Rattle.dw_games.specs.Walk.{PlayedTree}
 use Rattle.dw_games.specs.declared.fault.MovetextFault.{MovetextFault}
 use Rattle.dw_games.specs.declared.fault.MovetextFault.TheVariants.{Refused, Memory}
 use Rattle.dw_games.specs.declared.fault.MovetextFaultKind.{MovetextFaultKind}
@@ -121,8 +122,8 @@ pub data IsFirstFault (g : Geometry) (p : Placement) : List ℕ → MovetextFaul
   at_end : {text : List ℕ} (tokens : List Token) {what : MovetextFaultKind} → length text ≤ MAX_MOVETEXT
       → AreTokens 1 true text tokens [] → FaultAtEnd g p tokens what → IsFirstFault g p text what (length text + 1)
 
--- The answer to a text: its tree, or its first fault. Memory can be refused for any text.
-abbrev pub IsAnswer : Geometry → Placement → List ℕ → Result (List (List Move)) MovetextFault → Type 0
-IsAnswer g p text (Ok tree) = IsTree g p text tree
+-- The answer to a text: its tree from this position, or its first fault. Memory can be refused for any text.
+abbrev pub IsAnswer : Geometry → Placement → List ℕ → Result PlayedTree MovetextFault → Type 0
+IsAnswer g p text (Ok tree) = (tree.start ≡ p) × IsTree g p text tree.paths
 IsAnswer g p text (Err (Refused what place)) = IsFirstFault g p text what place
 IsAnswer g p text (Err Memory) = Unit {0}

@@ -3,11 +3,11 @@ use Rattle.std.specs.Prelude.{◌≡◌, ℕ, List, length, true, false, map, Ok
 use Rattle.dw_board.specs.Geometry.{Geometry}
 use Rattle.dw_board.specs.Placement.{Placement}
 use Rattle.dw_board.specs.Lists.{Member}
-use Rattle.dw_moves.specs.Moves.{Move}
 use Rattle.dw_notation.specs.Tags.{Tag, IsSection, SectionSays}
 use Rattle.dw_notation.specs.Problems.{AreProblems}
 use Rattle.dw_notation.specs.declared.problems.Form.TheVariants.{Pdn}
 use Rattle.dw_games.specs.Faults.{IsAnswer}
+use Rattle.dw_games.specs.Walk.{PlayedTree}
 use Rattle.dw_games.specs.Games.{NumberedGame, AreGames, problem_of, told}
 use Rattle.dw_games.specs.declared.fault.MovetextFault.{MovetextFault}
 
@@ -36,5 +36,5 @@ GamesTellSections = (g : Geometry) (bytes : List ℕ) (games : List NumberedGame
 
 -- the kept part of a movetext is read like the whole
 abbrev pub ToldIsEnough : Type 0
-ToldIsEnough = (g : Geometry) (p : Placement) (movetext : List ℕ) (answer : Result (List (List Move)) MovetextFault)
+ToldIsEnough = (g : Geometry) (p : Placement) (movetext : List ℕ) (answer : Result PlayedTree MovetextFault)
     → IsAnswer g p (told (Ok p) movetext) answer → IsAnswer g p movetext answer

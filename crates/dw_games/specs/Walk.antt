@@ -1,7 +1,22 @@
 -- Walking a tree: from a beginning to those that are one move longer.
 use Rattle.std.specs.Prelude.{◌≡◌, ℕ, ◌≤◌, ◌<◌, Option, Some, None, List, [], ◌∷◌, ◌++◌, slice_get, option_map}
-use Rattle.dw_moves.specs.Moves.{Move}
+use Rattle.std.specs.Prelude.{length}
+use Rattle.dw_board.specs.Geometry.{Geometry}
+use Rattle.dw_board.specs.Placement.{Placement}
+use Rattle.dw_moves.specs.Moves.{Move, Legal}
+use Rattle.dw_games.specs.Play.{after}
+use Rattle.dw_games.specs.declared.movetext.TheConstants.{MAX_PATH}
 use Rattle.dw_games.specs.declared.branches.Node.{Node}
+
+-- the value of a tree: the position that it starts from, and its beginnings, in the order of their places
+pub record PlayedTree : Type 0 where
+  pub start : Placement
+  pub paths : List (List Move)
+
+-- a tree may go on from a beginning by this move: it is legal there, and the path is not too long
+pub record CanFollow (g : Geometry) (start : Placement) (beginning : List Move) (m : Move) : Type 0 where
+  pub legal : Legal g (after g start beginning) m
+  pub short : length beginning < MAX_PATH
 
 -- the place of a node in the tree, or none for the root
 abbrev pub place_of : Option Node → Option ℕ

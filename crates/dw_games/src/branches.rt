@@ -2,19 +2,21 @@
 ghost use Rattle.std.specs.Prelude.{◌≡◌, ◌↔◌, ◌+◌, ◌<◌, None, Some, true, MatchOption, slice_get, length};
 ghost use Rattle.dw_games.specs.Walk.{place_of};
 ghost use Rattle.dw_games.specs.inner.Branches.{Hang, steps_of, firsts_of, nexts_of, IsFirstChild, IsPlace};
-ghost use Rattle.dw_games.specs.inner.Branches.{first_linked, next_linked, IsChildOrLast};
+ghost use Rattle.dw_games.specs.inner.Branches.{first_linked, next_linked, positions_of, IsChildOrLast};
 
-use dw_board::Board;
+use dw_board::{Board, Position};
 use dw_moves::Move;
 
 /// A place in a tree, after at least one move.
 #[derive(Clone, Copy, Debug, PartialEq, Eq)]
 pub struct Node(pub(crate) usize);
 
-/// A node in the list: the move to it, its parent (`None` at the root), its first child, and its next sibling.
+/// A node in the list: the move to it, the position after that, its parent (`None` at the root), its first child, and
+/// its next sibling.
 #[derive(Drop)]
 pub(crate) struct Branch<B: Board> {
     pub(crate) mv: Move<B>,
+    pub(crate) position: Position<B>,
     pub(crate) parent: Option<Node>,
     pub(crate) first_child: Option<Node>,
     pub(crate) next_sibling: Option<Node>,
@@ -88,6 +90,7 @@ pub(crate) fn link<B: Board>(
     requires parent { IsPlace (steps_of branches.old.items) (place_of parent) }
     requires last { IsPlace (steps_of branches.old.items) (place_of last) }
     ensures steps { steps_of branches.new.items ≡ steps_of branches.old.items }
+    ensures positions { positions_of branches.new.items ≡ positions_of branches.old.items }
     ensures firsts { firsts_of branches.new.items
         ≡ first_linked (firsts_of branches.old.items) (place_of last) (place_of parent) node.0 }
     ensures nexts { nexts_of branches.new.items

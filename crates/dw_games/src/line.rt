@@ -73,9 +73,9 @@ fn odd_line<B: Board>(
     tree: &Tree<B>,
     bytes: usize,
 ) -> Result<ArrayVec<Move<B>, MAX_PATH>, LineFault>
-    requires few { length tree.now ≤ MAX_PATH }
+    requires few { length tree.now.paths ≤ MAX_PATH }
     requires bytes { bytes ≤ MAX_MOVETEXT }
-    ensures { (moves : _) → tree.now ≡ beginnings_after [] moves → MatchResult result
+    ensures { (moves : _) → tree.now.paths ≡ beginnings_after [] moves → MatchResult result
         (λ line. (line.items ≡ moves) × (length moves % 2 ≡ 1)) (λ why. IsNoOddNumber moves bytes why) }
 {
     let moves = moves_of(tree);
@@ -93,8 +93,8 @@ fn odd_line<B: Board>(
 
 /// Returns the moves of a tree without variations.
 fn moves_of<B: Board>(tree: &Tree<B>) -> ArrayVec<Move<B>, MAX_PATH>
-    requires { length tree.now ≤ MAX_PATH }
-    ensures { (moves : _) → tree.now ≡ beginnings_after [] moves → result.items ≡ moves }
+    requires { length tree.now.paths ≤ MAX_PATH }
+    ensures { (moves : _) → tree.now.paths ≡ beginnings_after [] moves → result.items ≡ moves }
 {
     let mut moves = ArrayVec::new();
     'moves: while let Some(mv) = tree.mv(Node(moves.len())) {

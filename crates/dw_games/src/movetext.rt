@@ -49,8 +49,8 @@ pub fn read_movetext<B: Board>(
 /// Returns the tree of a text of `bytes` bytes, if it has a move.
 fn tree_of<B: Board>(reader: Reader<B>, bytes: usize) -> Result<Tree<B>, MovetextFault>
     requires { bytes ≤ MAX_MOVETEXT }
-    ensures { MatchResult result (λ tree. (tree ≡ reader.tree) × (0 < length tree))
-        (λ why. (why ≡ MovetextFault.Refused MovetextFaultKind.Empty (bytes + 1)) × (reader.tree ≡ [])) }
+    ensures { MatchResult result (λ tree. (tree ≡ reader.tree) × (0 < length tree.paths))
+        (λ why. (why ≡ MovetextFault.Refused MovetextFaultKind.Empty (bytes + 1)) × (reader.tree.paths ≡ [])) }
 {
     let tree = reader.into_tree();
     if tree.is_empty() {

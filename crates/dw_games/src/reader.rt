@@ -73,7 +73,7 @@ impl<B: Board> Reader<B> {
     {
         Reader {
             alloc,
-            tree: Tree::new(alloc),
+            tree: Tree::new(alloc, position),
             line: OpenLine::from(Cursor {
                 node: None,
                 position,
@@ -172,11 +172,12 @@ impl<B: Board> Reader<B> {
     {
         let now = self.line.now;
         let mv = self.move_of(token)?;
-        let node = self.tree.note(now.node, &mv)?;
+        let position = play(&now.position, &mv);
+        let node = self.tree.note(now.node, &mv, &position)?;
         self.line = OpenLine {
             now: Cursor {
                 node: Some(node),
-                position: play(&now.position, &mv),
+                position,
                 moves: now.moves + 1,
             },
             before: Some(now),

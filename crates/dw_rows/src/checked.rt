@@ -38,26 +38,32 @@ pub struct CheckNumbers {
 }
 
 /// Makes the row of a solution: its numbers, and the remarks on it, in order. Returns `None` if a remark names a move
-/// that is not legal in its place, or comes after more than 39 moves.
+/// that is not legal in its place, or if its place is not in the tree.
 pub fn checked_row<B: Board>(
     alloc: Global,
     number: u32,
-    position: &Position<B>,
     moves: u8,
     numbers: CheckNumbers,
     tree: &Tree<B>,
     remarks: &[Remark<B>],
 ) -> Result<Option<String>, AllocError>
-    ensures row { (said : List AnyRemark) → map (remark_in tree.now) remarks.now ≡ map (λ r. Some r) said
-        → IfOk result (λ made. IfSome made (λ line. IsCheckedRow B.geometry number position.now moves numbers said
+    ensures row { (said : List AnyRemark) → map (remark_in tree.now.paths) remarks.now ≡ map (λ r. Some r) said
+        → IfOk result (λ made. IfSome made (λ line. IsCheckedRow B.geometry number tree.now.start moves numbers said
         (string_bytes line))) }
-    ensures some { (said : List AnyRemark) → map (remark_in tree.now) remarks.now ≡ map (λ r. Some r) said
-        → ((r : AnyRemark) → Has r said → CanBeTold B.geometry position.now r)
+    ensures some { (said : List AnyRemark) → map (remark_in tree.now.paths) remarks.now ≡ map (λ r. Some r) said
+        → ((r : AnyRemark) → Has r said → CanBeTold B.geometry tree.now.start r)
         → IfOk result (λ made. IsSome made) }
 {
-    match told_remarks(alloc, position, tree, remarks)? {
+    match told_remarks(alloc, tree, remarks)? {
         Some(told) => {
-            let line = told_row(alloc, number, position, moves, numbers, told.as_slice())?;
+            let line = told_row(
+                alloc,
+                number,
+                &tree.start(),
+                moves,
+                numbers,
+                told.as_slice(),
+            )?;
             Ok(Some(line))
         }
         None => Ok(None),
@@ -98,24 +104,23 @@ struct ToldRemark {
     words: RemarkWords,
 }
 
-/// Puts the remarks on a tree of a position in words. Returns `None` if one of them names a move that is not legal in
-/// its place, or comes after more than 39 moves.
+/// Puts the remarks on a tree in words. Returns `None` if one of them names a move that is not legal in its place, or
+/// if its place is not in the tree.
 fn told_remarks<B: Board>(
     alloc: Global,
-    position: &Position<B>,
     tree: &Tree<B>,
     remarks: &[Remark<B>],
 ) -> Result<Option<Vec<ToldRemark>>, AllocError>
-    ensures told { (said : List AnyRemark) → map (remark_in tree.now) remarks.now ≡ map (λ r. Some r) said
-        → IfOk result (λ made. IfSome made (λ told. AreObjects (IsRemarkObject B.geometry position.now) said
+    ensures told { (said : List AnyRemark) → map (remark_in tree.now.paths) remarks.now ≡ map (λ r. Some r) said
+        → IfOk result (λ made. IfSome made (λ told. AreObjects (IsRemarkObject B.geometry tree.now.start) said
         (map members_told told.items))) }
-    ensures some { (said : List AnyRemark) → map (remark_in tree.now) remarks.now ≡ map (λ r. Some r) said
-        → ((r : AnyRemark) → Has r said → CanBeTold B.geometry position.now r)
+    ensures some { (said : List AnyRemark) → map (remark_in tree.now.paths) remarks.now ≡ map (λ r. Some r) said
+        → ((r : AnyRemark) → Has r said → CanBeTold B.geometry tree.now.start r)
         → IfOk result (λ made. IsSome made) }
 {
     let mut told = Vec::new(alloc);
     'remarks: for remark in remarks {
-        match remark_words(alloc, position, tree, remark)? {
+        match remark_words(alloc, tree, remark)? {
             Some(words) => {
                 let kind = kind_of(remark);
                 told.push(ToldRemark { kind, words })?;

@@ -10,15 +10,17 @@ use Rattle.std.proofs.lemmas.Option.{slice_get_within}
 use Rattle.dw_board.specs.Geometry.{Geometry}
 use Rattle.dw_board.specs.Placement.{Placement}
 use Rattle.dw_board.specs.Lists.{Member}
-use Rattle.dw_moves.specs.Moves.{Move, Legal}
+use Rattle.dw_moves.specs.Moves.{Move, Legal, play}
 use Rattle.dw_moves.specs.Order.{IsAscending}
 use Rattle.dw_moves.specs.inner.MemberLemmas.{mem_left, mem_right, mem_cases, mem_map_back}
 use Rattle.dw_solve.specs.inner.ListLemmas.{at_item}
-use Rattle.dw_games.specs.Walk.{place_of, beginning_at, IsNext}
+use Rattle.dw_games.specs.Play.{after}
+use Rattle.dw_games.specs.Walk.{PlayedTree, CanFollow, place_of, beginning_at, IsNext}
 use Rattle.dw_games.specs.declared.branches.Node.{Node}
+use Rattle.dw_study.specs.declared.branch.CheckNode.{CheckNode}
 use Rattle.dw_study.specs.declared.branch.Child.{Child}
 use Rattle.dw_study.specs.Remarks.{StandsBefore, GoesOnBy}
-use Rattle.dw_study.specs.inner.Checking.{AreChildren}
+use Rattle.dw_study.specs.inner.Checking.{AreChildren, IsAt}
 
 pub same : {A : Type 0} (x y : A) → Some x ≡ Some y → x ≡ y
 same x y e = cc
@@ -36,10 +38,28 @@ at_member x [] k e = absent x e
 at_member x (y ∷ xs) zero e = inl (sym (same y x e))
 at_member x (y ∷ xs) (suc k) e = inr (at_member x xs k e)
 
--- the same beginning goes on by one move
-last_move : (b : List Move) (m o : Move) → b ++ m ∷ [] ≡ b ++ o ∷ [] → m ≡ o
-last_move [] m o e = cc
-last_move (x ∷ b) m o e = let tail : b ++ m ∷ [] ≡ b ++ o ∷ [] = cc in last_move b m o tail
+-- lists with a last element are the same if both parts are
+pub filled : {A B : Type 0} (xs : List A) (x : A) → [] ≡ xs ++ x ∷ [] → B
+filled [] x e = cc
+filled (y ∷ xs) x e = cc
+
+joined : {A : Type 0} (a b : A) (xs ys : List A) → a ≡ b → xs ≡ ys → a ∷ xs ≡ b ∷ ys
+joined a b xs ys h t = cc
+
+pub last_same : {A : Type 0} (xs ys : List A) (x y : A) → xs ++ x ∷ [] ≡ ys ++ y ∷ [] → (xs ≡ ys) × (x ≡ y)
+last_same [] [] x y e = (refl, cc)
+last_same [] (b ∷ ys) x y e = let tail : [] ≡ ys ++ y ∷ [] = cc in filled ys y tail
+last_same (a ∷ xs) [] x y e = let tail : [] ≡ xs ++ x ∷ [] = cc in filled xs x tail
+last_same (a ∷ xs) (b ∷ ys) x y e =
+    let head : a ≡ b = cc in
+    let tail : xs ++ x ∷ [] ≡ ys ++ y ∷ [] = cc in
+    let rest = last_same xs ys x y tail in
+    (joined a b xs ys head rest.0, rest.1)
+
+pub after_more : (g : Geometry) (p : Placement) (b : List Move) (m : Move) → after g p (b ++ m ∷ [])
+    ≡ play g (after g p b) m
+after_more g p [] m = refl
+after_more g p (x ∷ b) m = after_more g (play g p x) b m
 
 -- how much of a list is ahead of a place in it
 abbrev pub ahead : ℕ → Option ℕ → ℕ
@@ -52,17 +72,16 @@ pub record ChildrenTo {B : Type 0} (g : Geometry) (p : Placement) (tree : List (
   pub ascending : IsAscending (StandsBefore tree b) (map (λ c. c.mv) children)
   pub each : (c : Child B) → Member c children
       → (slice_get tree c.node.0 ≡ Some (b ++ c.mv ∷ [])) × (c.node.0 < from) × Legal g p c.mv
-  pub all : (k : ℕ) (m : Move) → k < from → slice_get tree k ≡ Some (b ++ m ∷ []) → Legal g p m
-      → Member m (map (λ c. c.mv) children)
+  pub all : (k : ℕ) (m : Move) → k < from → slice_get tree k ≡ Some (b ++ m ∷ []) → Member m (map (λ c. c.mv) children)
 
 -- those before the next node were met
-pub record HaveMet {B : Type 0} (g : Geometry) (p : Placement) (tree : List (List Move)) (above next : Option Node)
+pub record HaveMet {B : Type 0} (g : Geometry) (tree : PlayedTree) (spot : CheckNode B) (next : Option Node)
     (children : List (Child B)) : Type 0 where
   pub beginning : List Move
-  pub there : beginning_at tree (place_of above) ≡ Some beginning
+  pub at : IsAt g tree spot beginning
   pub from : ℕ
-  pub next_one : IsNext tree beginning from (place_of next)
-  pub met : ChildrenTo g p tree beginning from children
+  pub next_one : IsNext tree.paths beginning from (place_of next)
+  pub met : ChildrenTo g spot.position tree.paths beginning from children
 
 -- an ascending list with one more element behind all others
 ascending_more : {X : Type 0} (R : X → X → Type 0) (xs : List X) (x : X) → IsAscending R xs
@@ -86,152 +105,129 @@ cases_at tree b from n k m o low high none here there = elim (cases_lt k from) [
     | inl between ↦ absurd (none k after between (o, there))
     | inr past ↦
         let at : k ≡ n = omega (arith, past, high) in
-        inr (last_move b o m (same _ _ (sym there ∙ (ap (λ z. slice_get tree z) at ∙ here))))
+        inr (last_same b b o m (same _ _ (sym there ∙ (ap (λ z. slice_get tree z) at ∙ here)))).1
   ]
 ]
 
-module _ {B : Type 0} (g : Geometry) (p : Placement) (tree : List (List Move)) where
-  pub met_none : (above next : Option Node) (children : List (Child B))
-      → (b : List Move) × (beginning_at tree (place_of above) ≡ Some b)
-      → MatchOption (beginning_at tree (place_of above)) (next ≡ None) (λ b. IsNext tree b 0 (place_of next))
-      → children ≡ [] → HaveMet g p tree above next children
-  met_none above next children there first none =
-      let is = rw there.1 at first in
+-- one more is met
+met_more : {B : Type 0} (g : Geometry) (p : Placement) (tree : List (List Move)) (b : List Move) (from : ℕ) (n : Node)
+    (m : Move) (children : List (Child B)) → from ≤ n.0
+    → ((j : ℕ) → from ≤ j → j < n.0 → (x : Move) × (slice_get tree j ≡ Some (b ++ x ∷ [])) → ⊥)
+    → slice_get tree n.0 ≡ Some (b ++ m ∷ []) → Legal g p m → ChildrenTo g p tree b from children
+    → ChildrenTo g p tree b (n.0 + 1) (children ++ (record { node = n; mv = m }) ∷ [])
+met_more {B} g p tree b from n m children low none here legal h =
+    let c : Child B = record { node = n; mv = m } in
+    record {
+      ascending = rw (map-append (λ (x : Child B). x.mv) children (c ∷ []))
+          (ascending_more (StandsBefore tree b) (map (λ (x : Child B). x.mv) children) m h.ascending
+          (λ x old. let k = mem_map_back (λ (x : Child B). x.mv) x children old in
+          let e = h.each k.0 k.1 in (
+            k.0.node.0,
+            n.0,
+            omega (arith, e.1, low),
+            subst (λ z. slice_get tree k.0.node.0 ≡ Some (b ++ z ∷ [])) (sym k.2) e.0,
+            here,
+          )));
+      each = λ d member. elim (mem_cases d children (c ∷ []) member) [
+        | inl old ↦ let e = h.each d old in (e.0, omega (arith, e.1, low), e.2)
+        | inr (inl new) ↦ rw new (here, omega arith, legal)
+        | inr (inr gone) ↦ absurd gone
+      ];
+      all = λ k o high there. rw (map-append (λ (x : Child B). x.mv) children (c ∷ []))
+          (elim (cases_at tree b from n.0 k m o low high none here there) [
+            | inl before ↦ mem_left o (map (λ (x : Child B). x.mv) children) (m ∷ []) (h.all k o before there)
+            | inr e ↦ mem_right o (map (λ (x : Child B). x.mv) children) (m ∷ []) (inl e)
+          ]);
+    }
+
+module _ {B : Type 0} (g : Geometry) (tree : PlayedTree) (spot : CheckNode B) where
+  pub met_none : (next : Option Node) (children : List (Child B)) → (b : List Move) × IsAt g tree spot b
+      → MatchOption (beginning_at tree.paths (place_of spot.node)) (next ≡ None)
+      (λ b. IsNext tree.paths b 0 (place_of next))
+      → children ≡ [] → HaveMet g tree spot next children
+  met_none next children at first none =
+      let is = rw at.1.there at first in
       rw none record {
-        beginning = there.0;
-        there = there.1;
+        beginning = at.0;
+        at = at.1;
         from = 0;
         next_one = is;
         met = record {
           ascending = tt;
           each = λ c m. absurd m;
-          all = λ k m low e legal. absurd (omega (arith, low));
+          all = λ k m low e. absurd (omega (arith, low));
         };
       }
 
-  -- the place of the next node is in the tree
-  pub inside : (above next : Option Node) (n : Node) (children : List (Child B)) → next ≡ Some n
-      → HaveMet g p tree above next children → n.0 < length tree
-  inside above next n children is h =
-      let now = rw is at h.next_one in
-      slice_get_within tree n.0 (h.beginning ++ now.1.0 ∷ []) now.1.1
+  module _ (next : Option Node) (n : Node) (children : List (Child B)) (is : next ≡ Some n)
+      (h : HaveMet g tree spot next children) where
+    next_met : IsNext tree.paths h.beginning h.from (Some n.0)
+    next_met = rw is at h.next_one
 
-  -- the next one but this is nearer the end
-  pub nearer : (above next after : Option Node) (n : Node) (children : List (Child B)) → next ≡ Some n
-      → HaveMet g p tree above next children
-      → ((b : List Move) (m : Move) → slice_get tree n.0 ≡ Some (b ++ m ∷ [])
-      → IsNext tree b (n.0 + 1) (place_of after))
-      → ahead (length tree) (place_of after) < ahead (length tree) (Some n.0)
-  nearer above next None n children is h on = let low = inside above next n children is h in omega (arith, low)
-  nearer above next (Some k) n children is h on =
-      let low = inside above next n children is h in
-      let now = rw is at h.next_one in
-      let later = on h.beginning now.1.0 now.1.1 in
-      omega (arith, low, later.0)
+    -- the place of the next node is in the tree
+    pub inside : n.0 < length tree.paths
+    inside = slice_get_within tree.paths n.0 (h.beginning ++ next_met.1.0 ∷ []) next_met.1.1
 
-  -- one more is met
-  met_more : (b : List Move) (from : ℕ) (n : Node) (m : Move) (children : List (Child B)) (c : Child B) → from ≤ n.0
-      → ((j : ℕ) → from ≤ j → j < n.0 → (x : Move) × (slice_get tree j ≡ Some (b ++ x ∷ [])) → ⊥)
-      → slice_get tree n.0 ≡ Some (b ++ m ∷ []) → Legal g p m → c ≡ record { node = n; mv = m }
-      → ChildrenTo g p tree b from children → ChildrenTo g p tree b (n.0 + 1) (children ++ c ∷ [])
-  met_more b from n m children c low none here legal is h = record {
-    ascending = rw (map-append (λ (x : Child B). x.mv) children (c ∷ []))
-        (ascending_more (StandsBefore tree b) (map (λ (x : Child B). x.mv) children) c.mv h.ascending
-        (λ x old. let k = mem_map_back (λ (x : Child B). x.mv) x children old in
-        let e = h.each k.0 k.1 in (
-          k.0.node.0,
-          n.0,
-          omega (arith, e.1, low),
-          subst (λ z. slice_get tree k.0.node.0 ≡ Some (b ++ z ∷ [])) (sym k.2) e.0,
-          subst (λ z. slice_get tree n.0 ≡ Some (b ++ z ∷ [])) (sym (ap (λ z. z.mv) is)) here,
-        )));
-    each = λ d member. elim (mem_cases d children (c ∷ []) member) [
-      | inl old ↦ let e = h.each d old in (e.0, omega (arith, e.1, low), e.2)
-      | inr (inl new) ↦ rw (new ∙ is) (here, omega arith, legal)
-      | inr (inr gone) ↦ absurd gone
-    ];
-    all = λ k o high there lawful. rw (map-append (λ (x : Child B). x.mv) children (c ∷ []))
-        (elim (cases_at tree b from n.0 k m o low high none here there) [
-          | inl before ↦ mem_left o (map (λ (x : Child B). x.mv) children) (c.mv ∷ []) (h.all k o before there lawful)
-          | inr e ↦ mem_right o (map (λ (x : Child B). x.mv) children) (c.mv ∷ [])
-              (inl (e ∙ sym (ap (λ z. z.mv) is)))
-        ]);
-  }
+    -- the next one but this is nearer the end
+    pub nearer : (after : Option Node) → ((b : List Move) (m : Move) → slice_get tree.paths n.0 ≡ Some (b ++ m ∷ [])
+        → IsNext tree.paths b (n.0 + 1) (place_of after))
+        → ahead (length tree.paths) (place_of after) < ahead (length tree.paths) (Some n.0)
+    nearer None on = let low = inside in omega (arith, low)
+    nearer (Some k) on =
+        let low = inside in
+        let later = on h.beginning next_met.1.0 next_met.1.1 in
+        omega (arith, low, later.0)
 
-  -- or a node that is none of them
-  met_same : (b : List Move) (from n : ℕ) (m : Move) (children : List (Child B)) → from ≤ n
-      → ((j : ℕ) → from ≤ j → j < n → (x : Move) × (slice_get tree j ≡ Some (b ++ x ∷ [])) → ⊥)
-      → slice_get tree n ≡ Some (b ++ m ∷ []) → (Legal g p m → ⊥)
-      → ChildrenTo g p tree b from children → ChildrenTo g p tree b (n + 1) children
-  met_same b from n m children low none here never h = record {
-    ascending = h.ascending;
-    each = λ d member. let e = h.each d member in (e.0, omega (arith, e.1, low), e.2);
-    all = λ k o high there lawful. elim (cases_at tree b from n k m o low high none here there) [
-      | inl before ↦ h.all k o before there lawful
-      | inr e ↦ absurd (never (subst (Legal g p) e lawful))
-    ];
-  }
+    pub met_child : (then : Option Node) (m : Move)
+        → (b : List Move) × (slice_get tree.paths n.0 ≡ Some (b ++ m ∷ [])) × CanFollow g tree.start b m
+        → ((b : List Move) (m : Move) → slice_get tree.paths n.0 ≡ Some (b ++ m ∷ [])
+        → IsNext tree.paths b (n.0 + 1) (place_of then))
+        → HaveMet g tree spot then (children ++ (record { node = n; mv = m }) ∷ [])
+    met_child then m found on =
+        let first : found.0 ≡ h.beginning =
+        (last_same found.0 h.beginning m next_met.1.0 (same _ _ (sym found.1 ∙ next_met.1.1))).0 in
+        let there : slice_get tree.paths n.0 ≡ Some (h.beginning ++ m ∷ []) =
+        subst (λ z. slice_get tree.paths n.0 ≡ Some (z ++ m ∷ [])) first found.1 in
+        let legal : Legal g spot.position m =
+        subst (λ z. Legal g z m) (sym (h.at.position ∙ ap (after g tree.start) (sym first))) found.2.legal in
+        record {
+          beginning = h.beginning;
+          at = h.at;
+          from = n.0 + 1;
+          next_one = on h.beginning m there;
+          met = met_more g spot.position tree.paths h.beginning h.from n m children next_met.0 next_met.2 there legal
+              h.met;
+        }
 
-  pub met_child : (above next after : Option Node) (n : Node) (children : List (Child B)) (found : Option (Child B))
-      (c : Child B) → next ≡ Some n → found ≡ Some c
-      → ((b : List Move) (m : Move) → slice_get tree n.0 ≡ Some (b ++ m ∷ [])
-      → MatchOption found (Legal g p m → ⊥) (λ d. Legal g p m × (d ≡ record { node = n; mv = m })))
-      → ((b : List Move) (m : Move) → slice_get tree n.0 ≡ Some (b ++ m ∷ [])
-      → IsNext tree b (n.0 + 1) (place_of after))
-      → HaveMet g p tree above next children → HaveMet g p tree above after (children ++ c ∷ [])
-  met_child above next after n children found c is some tells on h =
-      let now = rw is at h.next_one in
-      let child = rw some at (tells h.beginning now.1.0 now.1.1) in
-      record {
-        beginning = h.beginning;
-        there = h.there;
-        from = n.0 + 1;
-        next_one = on h.beginning now.1.0 now.1.1;
-        met = met_more h.beginning h.from n now.1.0 children c now.0 now.2 now.1.1 child.0 child.1 h.met;
-      }
+    -- the node has a move
+    pub met_some : {A : Type 0} → slice_get tree.paths n.0 ≡ None → A
+    met_some none = absent (h.beginning ++ next_met.1.0 ∷ []) (sym none ∙ next_met.1.1)
 
-  pub met_other : (above next after : Option Node) (n : Node) (children : List (Child B)) (found : Option (Child B))
-      → next ≡ Some n → found ≡ None
-      → ((b : List Move) (m : Move) → slice_get tree n.0 ≡ Some (b ++ m ∷ [])
-      → MatchOption found (Legal g p m → ⊥) (λ d. Legal g p m × (d ≡ record { node = n; mv = m })))
-      → ((b : List Move) (m : Move) → slice_get tree n.0 ≡ Some (b ++ m ∷ [])
-      → IsNext tree b (n.0 + 1) (place_of after))
-      → HaveMet g p tree above next children → HaveMet g p tree above after children
-  met_other above next after n children found is none tells on h =
-      let now = rw is at h.next_one in
-      let never = rw none at (tells h.beginning now.1.0 now.1.1) in
-      record {
-        beginning = h.beginning;
-        there = h.there;
-        from = n.0 + 1;
-        next_one = on h.beginning now.1.0 now.1.1;
-        met = met_same h.beginning h.from n.0 now.1.0 children now.0 now.2 now.1.1 never h.met;
-      }
-
-  goes_on_by : (b : List Move) (from : ℕ) (children : List (Child B)) → IsNext tree b from None
-      → ChildrenTo g p tree b from children → (m : Move) → GoesOnBy g p tree b m → Member m (map (λ c. c.mv) children)
+  goes_on_by : (b : List Move) (from : ℕ) (children : List (Child B)) → IsNext tree.paths b from None
+      → ChildrenTo g spot.position tree.paths b from children → (m : Move) → GoesOnBy g spot.position tree.paths b m
+      → Member m (map (λ c. c.mv) children)
   goes_on_by b from children none h m goes =
-      let at = member_at (b ++ m ∷ []) tree goes.1 in
+      let at = member_at (b ++ m ∷ []) tree.paths goes.1 in
       elim (cases_lt at.0 from) [
-        | inl before ↦ h.all at.0 m before at.1 goes.0
+        | inl before ↦ h.all at.0 m before at.1
         | inr after ↦ absurd (none at.0 after (m, at.1))
       ]
 
   -- all were met
-  pub met_all : (above next : Option Node) (children : List (Child B)) (b : List Move) → next ≡ None
-      → HaveMet g p tree above next children → beginning_at tree (place_of above) ≡ Some b
-      → AreChildren g p tree b children
-  met_all above next children b is h there =
+  pub met_all : (next : Option Node) (children : List (Child B)) (b : List Move) → next ≡ None
+      → HaveMet g tree spot next children → IsAt g tree spot b
+      → AreChildren g spot.position tree.paths b children
+  met_all next children b is h here =
       let none = rw is at h.next_one in
-      let at : h.beginning ≡ b = same _ _ (sym h.there ∙ there) in
-      subst (λ z. AreChildren g p tree z children) at record {
+      let at : h.beginning ≡ b = same _ _ (sym h.at.there ∙ here.there) in
+      subst (λ z. AreChildren g spot.position tree.paths z children) at record {
         in_order = record {
           ascending = h.met.ascending;
           exactly = λ m. (
             λ member. let k = mem_map_back (λ (x : Child B). x.mv) m children member in
                 let e = h.met.each k.0 k.1 in
-                subst (GoesOnBy g p tree h.beginning) (sym k.2)
-                (e.2, at_member (h.beginning ++ k.0.mv ∷ []) tree k.0.node.0 e.0),
+                subst (GoesOnBy g spot.position tree.paths h.beginning) (sym k.2)
+                (e.2, at_member (h.beginning ++ k.0.mv ∷ []) tree.paths k.0.node.0 e.0),
             goes_on_by h.beginning h.from children none h.met m,
           );
         };

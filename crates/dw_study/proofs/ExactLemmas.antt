@@ -18,7 +18,8 @@ use Rattle.dw_study.specs.Remarks.{Remark, fails, also, leaves_open, GoesOnBy, i
 use Rattle.dw_study.specs.Remarks.{with_moves, AtDefender, over, without_reply, with_replies, InTurn, nothing, one_more}
 use Rattle.dw_study.specs.Remarks.{AreRemarks}
 use Rattle.dw_study.specs.Laws.{IsFault, IsWholePath}
-use Rattle.dw_study.proofs.HoldsLemmas.{same_decided, first_same, rest_same, unlike, after_more, begins, goes_on_by}
+use Rattle.dw_study.proofs.ChildLemmas.{after_more}
+use Rattle.dw_study.proofs.HoldsLemmas.{same_decided, first_same, rest_same, unlike, begins, goes_on_by}
 use Rattle.dw_study.proofs.SeenLemmas.{refuted}
 use Rattle.dw_solve.specs.Laws.{WinsAreDecided}
 

@@ -22,7 +22,7 @@ use Rattle.dw_study.specs.Remarks.{Remark, fails, ends, GoesOnBy, IsFirstRefutat
 use Rattle.dw_study.specs.Remarks.{with_moves, AtDefender, over, without_reply, with_replies, InTurn, nothing, one_more}
 use Rattle.dw_study.specs.Remarks.{also, leaves_open, if_any, AreRemarks}
 use Rattle.dw_study.specs.Laws.{IsFault}
-use Rattle.dw_study.proofs.RemarkLemmas.{last_same}
+use Rattle.dw_study.proofs.ChildLemmas.{last_same, after_more}
 
 -- ---- the first reply that refutes is there, or none refutes
 find_first : WinsAreDecided → (g : Geometry) (q : Placement) (n : ℕ) (xs : List Move) → IsAscending (Precedes g q) xs
@@ -67,11 +67,6 @@ split_last y (z ∷ ys) = let h = split_last z ys in (y ∷ h.0, h.1, ap (λ w. 
 some_list : {A B : Type 0} (xs ys : List A) (x : A) → xs ++ x ∷ ys ≡ [] → B
 some_list [] ys x e = cc
 some_list (y ∷ xs) ys x e = cc
-
-pub after_more : (g : Geometry) (p : Placement) (b : List Move) (m : Move) → after g p (b ++ m ∷ [])
-    ≡ play g (after g p b) m
-after_more g p [] m = refl
-after_more g p (x ∷ b) m = after_more g (play g p x) b m
 
 behind_of : {Behind : Move → List Remark → Type 0} {moves : List Move} {later : List Remark} → InTurn Behind moves later
     → (m : Move) → Member m moves → (rs : List Remark) × Behind m rs × ((r : Remark) → Member r rs → Member r later)

@@ -17,7 +17,7 @@ use Rattle.dw_verdict.specs.Verdict.{IsWinning}
 use Rattle.dw_study.specs.Remarks.{Remark, fails, also, leaves_open, GoesOnBy, StandsBefore, IsFailing, if_any}
 use Rattle.dw_study.specs.Remarks.{AtAttacker, without_move, with_moves, AtDefender, over, without_reply, with_replies}
 use Rattle.dw_study.specs.Remarks.{InTurn, nothing, one_more, AndBehind, AfterKey, AreRemarks}
-use Rattle.dw_study.proofs.ChildLemmas.{same, absent, at_member}
+use Rattle.dw_study.proofs.ChildLemmas.{same, absent, at_member, filled, last_same}
 
 -- ---- each beginning stands once
 once_more : {A : Type 0} (xs : List A) (x : A) → NoRepeat xs → (Member x xs → ⊥) → NoRepeat (xs ++ x ∷ [])
@@ -45,24 +45,6 @@ no_twice (y ∷ xs) zero (suc j) x once a c =
 no_twice (y ∷ xs) (suc i) zero x once a c =
     absurd (once.0 (subst (λ z. Member z xs) (sym (same y x c)) (at_member x xs i a)))
 no_twice (y ∷ xs) (suc i) (suc j) x once a c = ap suc (no_twice xs i j x once.1 a c)
-
--- lists with a last element are the same if both parts are
-filled : {A B : Type 0} (xs : List A) (x : A) → [] ≡ xs ++ x ∷ [] → B
-filled [] x e = cc
-filled (y ∷ xs) x e = cc
-
-joined : {A : Type 0} (a b : A) (xs ys : List A) → a ≡ b → xs ≡ ys → a ∷ xs ≡ b ∷ ys
-joined a b xs ys h t = cc
-
-pub last_same : {A : Type 0} (xs ys : List A) (x y : A) → xs ++ x ∷ [] ≡ ys ++ y ∷ [] → (xs ≡ ys) × (x ≡ y)
-last_same [] [] x y e = (refl, cc)
-last_same [] (b ∷ ys) x y e = let tail : [] ≡ ys ++ y ∷ [] = cc in filled ys y tail
-last_same (a ∷ xs) [] x y e = let tail : [] ≡ xs ++ x ∷ [] = cc in filled xs x tail
-last_same (a ∷ xs) (b ∷ ys) x y e =
-    let head : a ≡ b = cc in
-    let tail : xs ++ x ∷ [] ≡ ys ++ y ∷ [] = cc in
-    let rest = last_same xs ys x y tail in
-    (joined a b xs ys head rest.0, rest.1)
 
 -- ---- what is remarked behind moves in turn
 in_turn_one : (Behind : Move → List Remark → Type 0)

@@ -21,7 +21,7 @@ use Rattle.dw_solve.specs.inner.LineOrderLemmas.{precedes_asym}
 use Rattle.dw_solve.specs.Wins.{Win, Lost}
 use Rattle.dw_verdict.specs.Verdict.{IsWinning}
 use Rattle.dw_verdict.specs.inner.GatheredLemmas.{GatheredTo, to_none, to_more, to_same, to_all, item_among}
-use Rattle.dw_games.specs.Walk.{place_of, beginning_at}
+use Rattle.dw_games.specs.Walk.{PlayedTree, place_of, beginning_at}
 use Rattle.dw_games.specs.declared.branches.Node.{Node}
 use Rattle.dw_study.specs.declared.branch.CheckNode.{CheckNode}
 use Rattle.dw_study.specs.declared.branch.Child.{Child}
@@ -32,8 +32,10 @@ use Rattle.dw_study.specs.Remarks.{Remark, fails, also, leaves_open, ends, GoesO
 use Rattle.dw_study.specs.Remarks.{if_any, AtAttacker, without_move, with_moves, AtDefender, over, without_reply}
 use Rattle.dw_study.specs.Remarks.{with_replies, InTurn, nothing, one_more}
 use Rattle.dw_study.specs.Telling.{remark_in, Say}
-use Rattle.dw_study.specs.inner.Checking.{AreChildren, AreOthers, AreOtherKeys, FindsFirst, IsSorted, IsSeen, At}
+use Rattle.dw_study.specs.inner.Checking.{AreChildren, AreOthers, AreOtherKeys, FindsFirst, IsSorted, IsSeen, IsAt}
+use Rattle.dw_study.specs.inner.Checking.{At}
 use Rattle.dw_study.specs.inner.Checking.{Behind, IsKept, left_after}
+use Rattle.dw_study.proofs.ChildLemmas.{after_more}
 
 -- ---- the first reply that refutes
 -- the attacker wins after each of the first so many replies
@@ -591,11 +593,14 @@ after_child g spot c = record {
   left = left_after spot.attacks spot.left;
 }
 
-pub after_there : {B : Type 0} (g : Geometry) (tree : List (List Move)) (spot after : CheckNode B) (c : Child B)
-    (b : List Move) → after ≡ after_child g spot c → slice_get tree c.node.0 ≡ Some (b ++ c.mv ∷ [])
-    → beginning_at tree (place_of after.node) ≡ Some (b ++ c.mv ∷ [])
-after_there {B} g tree spot after c b is there =
-    subst (λ (z : CheckNode B). beginning_at tree (place_of z.node) ≡ Some (b ++ c.mv ∷ [])) (sym is) there
+pub after_there : {B : Type 0} (g : Geometry) (tree : PlayedTree) (spot after : CheckNode B) (c : Child B)
+    (b : List Move) → IsAt g tree spot b → after ≡ after_child g spot c
+    → slice_get tree.paths c.node.0 ≡ Some (b ++ c.mv ∷ []) → IsAt g tree after (b ++ c.mv ∷ [])
+after_there {B} g tree spot after c b here is there =
+    subst (λ (z : CheckNode B). IsAt g tree z (b ++ c.mv ∷ [])) (sym is) record {
+      there = there;
+      position = ap (λ z. play g z c.mv) here.position ∙ sym (after_more g tree.start b c.mv);
+    }
 
 pub after_kept : {B : Type 0} (g : Geometry) (spot after : CheckNode B) (c : Child B) → after ≡ after_child g spot c
     → IsKept g (not spot.attacks) (left_after spot.attacks spot.left) (play g spot.position c.mv)

@@ -25,14 +25,13 @@ place_in x (y ∷ xs) (inr here) =
 
 -- the most turns among the first so many beginnings
 pub record TurnsTo (tree : List (List Move)) (i n : ℕ) : Type 0 where
-  pub most : (k : ℕ) → k < i → (path : List Move) → slice_get tree k ≡ Some path → length path ≤ 39
-      → turns_in path ≤ n
+  pub most : (k : ℕ) → k < i → (path : List Move) → slice_get tree k ≡ Some path → turns_in path ≤ n
   pub met : (n ≡ 0) ⊎ ((path : List Move) × Member path tree × (turns_in path ≡ n))
   pub few : n ≤ 20
 
 pub turns_none : (tree : List (List Move)) → TurnsTo tree 0 0
 turns_none tree = record {
-  most = λ k low path at short. absurd (omega (arith, low));
+  most = λ k low path at. absurd (omega (arith, low));
   met = inl refl;
   few = omega arith;
 }
@@ -51,15 +50,15 @@ node_there (Some n) tree i h low = ap (λ z. Some z) h.0
 
 -- one beginning more, whose moves are these
 pub turns_more : (tree : List (List Move)) (i n : ℕ) (moves : List Move) → i < length tree
-    → ((b : List Move) → beginning_at tree (Some i) ≡ Some b → moves ≡ b) → length moves ≤ 39
+    → beginning_at tree (Some i) ≡ Some moves → length moves ≤ 39
     → TurnsTo tree i n → TurnsTo tree (i + 1) (max ((length moves + 1) / 2) n)
 turns_more tree i n moves low same short h =
     let here = got tree i low in
-    let its : moves ≡ here.0 = same here.0 here.1 in
+    let its : moves ≡ here.0 = some_path moves here.0 (sym same ∙ here.1) in
     record {
-      most = λ k below path at few. elim (cases_lt k i) [
+      most = λ k below path at. elim (cases_lt k i) [
         | inl less ↦
-            let old : turns_in path ≤ n = h.most k less path at few in
+            let old : turns_in path ≤ n = h.most k less path at in
             omega (arith, old)
         | inr more ↦
             let last : k ≡ i = omega (arith, more, below) in
@@ -81,26 +80,14 @@ turns_more tree i n moves low same short h =
       few = omega (arith, short, h.few);
     }
 
--- a beginning that is too long
-pub turns_same : (tree : List (List Move)) (i n : ℕ)
-    → ((b : List Move) → beginning_at tree (Some i) ≡ Some b → 39 < length b) → TurnsTo tree i n
-    → TurnsTo tree (i + 1) n
-turns_same tree i n long h = record {
-  most = λ k below path at few. elim (cases_lt k i) [
-    | inl less ↦ h.most k less path at few
-    | inr more ↦
-        let last : k ≡ i = omega (arith, more, below) in
-        let over : 39 < length path = long path (ap (slice_get tree) (sym last) ∙ at) in
-        absurd (omega (arith, over, few))
-  ];
-  met = h.met;
-  few = h.few;
-}
+-- each place has a beginning
+pub turns_there : {A : Type 0} (tree : List (List Move)) (i : ℕ) → i < length tree → beginning_at tree (Some i) ≡ None
+    → A
+turns_there tree i low none = let bad = sym none ∙ (got tree i low).1 in cc
 
 pub turns_all : (tree : List (List Move)) (i n : ℕ) → length tree ≤ i → TurnsTo tree i n → HasTurns tree n
 turns_all tree i n end h = record {
-  most = λ path here few.
-      let place = place_in path tree here in
-      h.most place.0 (omega (arith, place.1, end)) path place.2 few;
+  most = λ path here.
+      let place = place_in path tree here in h.most place.0 (omega (arith, place.1, end)) path place.2;
   met = h.met;
 }

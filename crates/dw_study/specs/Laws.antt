@@ -27,11 +27,10 @@ OneListOfRemarks = (g : Geometry) (p : Placement) (text : List ℕ) (tree : List
     → (n : ℕ) (remarks others : List Remark) → AreRemarks g tree n p [] remarks → AreRemarks g tree n p [] others
     → remarks ≡ others
 
--- each remark on the tree of a movetext has a text
+-- each remark has a text
 abbrev pub RemarksCanBeTold : Type 0
-RemarksCanBeTold = (g : Geometry) (p : Placement) (text : List ℕ) (tree : List (List Move)) → IsTree g p text tree
-    → (n : ℕ) (remarks : List Remark) → AreRemarks g tree n p [] remarks → (r : Remark) → Member r remarks
-    → CanBeTold g p r
+RemarksCanBeTold = (g : Geometry) (p : Placement) (tree : List (List Move)) (n : ℕ) (remarks : List Remark)
+    → AreRemarks g tree n p [] remarks → (r : Remark) → Member r remarks → CanBeTold g p r
 
 -- a remark is about a fault: a move fails, or a path ends too soon
 abbrev pub IsFault : Remark → Type 0

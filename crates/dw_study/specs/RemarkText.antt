@@ -1,10 +1,10 @@
 -- The text of a remark on an author's solution.
-use Rattle.std.specs.Prelude.{◌≡◌, ◌≤◌, ℕ, List, [], ◌∷◌, ◌++◌, length, codes, decimal}
+use Rattle.std.specs.Prelude.{◌≡◌, ℕ, List, [], ◌∷◌, ◌++◌, codes, decimal}
 use Rattle.dw_board.specs.Geometry.{Geometry}
 use Rattle.dw_board.specs.Placement.{Placement}
 use Rattle.dw_board.specs.Lists.{Member}
 use Rattle.dw_moves.specs.Moves.{Move, Legal, play}
-use Rattle.dw_notation.specs.Text.{IsMoveText, IsLineText, ArePlayable, AreJoined}
+use Rattle.dw_notation.specs.Text.{IsMoveText, IsLineText, AreJoined}
 use Rattle.dw_verdict.specs.Verdict.{reach}
 use Rattle.dw_report.specs.JudgedText.{next_number}
 use Rattle.dw_study.specs.Remarks.{Remark, fails, also, leaves_open, ends}
@@ -14,15 +14,12 @@ abbrev pub behind_blank : List ℕ → List ℕ
 behind_blank [] = []
 behind_blank (byte ∷ line) = codes " " ++ byte ∷ line
 
--- a remark can be written: its moves are legal where they are played, after at most 39 others
+-- a remark can be written: its moves are legal where they are played
 abbrev pub CanBeTold : Geometry → Placement → Remark → Type 0
-CanBeTold g p (fails b m r) = (length b ≤ 39) × ArePlayable g p b × Legal g (reach g p b) m
-    × Legal g (play g (reach g p b) m) r
-CanBeTold g p (also b keys) =
-    (length b ≤ 39) × ArePlayable g p b × ((m : Move) → Member m keys → Legal g (reach g p b) m)
-CanBeTold g p (leaves_open b replies) =
-    (length b ≤ 39) × ArePlayable g p b × ((m : Move) → Member m replies → Legal g (reach g p b) m)
-CanBeTold g p (ends b) = (length b ≤ 39) × ArePlayable g p b
+CanBeTold g p (fails b m r) = Legal g (reach g p b) m × Legal g (play g (reach g p b) m) r
+CanBeTold g p (also b keys) = (m : Move) → Member m keys → Legal g (reach g p b) m
+CanBeTold g p (leaves_open b replies) = (m : Move) → Member m replies → Legal g (reach g p b) m
+CanBeTold g p (ends b) = Unit {0}
 
 -- the text of a remark: the beginning, and the moves that are wrong or missing after it
 abbrev pub IsRemarkText : Geometry → Placement → Remark → List ℕ → Type 0

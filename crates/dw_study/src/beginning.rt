@@ -1,16 +1,14 @@
 //! Beginnings of an author's solution: their moves, the positions after them, their texts.
-ghost use Rattle.std.specs.Prelude.{◌≡◌, ◌<◌, ◌≤◌, None, Some, length, IfOk, IfSome, IsSome, MatchOption};
+ghost use Rattle.std.specs.Prelude.{◌≡◌, None, Some, IfOk, IfSome, IsSome, MatchOption};
 ghost use Rattle.dw_notation.specs.Text.{ArePlayable};
 ghost use Rattle.dw_games.specs.Walk.{beginning_at, place_of};
-ghost use Rattle.dw_verdict.specs.Verdict.{reach};
 ghost use Rattle.dw_report.specs.JudgedText.{next_number};
 ghost use Rattle.dw_study.specs.inner.Beginnings.{IsBegun};
 
 use arrayvec::ArrayVec;
 use dw_board::{Board, Position};
 use dw_games::{Node, Tree};
-use dw_moves::play::play;
-use dw_moves::{Move, is_legal};
+use dw_moves::Move;
 use dw_notation::MAX_MOVES;
 use dw_notation::line_text::line_text;
 use std::alloc::{AllocError, Global};
@@ -32,68 +30,48 @@ impl<B: Board> Beginning<B> {
     }
 }
 
-/// Returns the beginning that leads to a node, if it has at most 39 moves and can be played from the position.
+/// Returns the beginning that leads to a node, or `None` if the tree has no such node.
 pub(crate) fn beginning_of<B: Board>(
     alloc: Global,
-    position: &Position<B>,
     tree: &Tree<B>,
     node: Option<Node>,
 ) -> Result<Option<Beginning<B>>, AllocError>
-    ensures begun { (b : _) → beginning_at tree.now (place_of node) ≡ Some b
-        → IfOk result (λ made. IfSome made (IsBegun B.geometry position.now b)) }
-    ensures some { (b : _) → beginning_at tree.now (place_of node) ≡ Some b → length b ≤ 39
-        → ArePlayable B.geometry position.now b → IfOk result (λ made. IsSome made) }
+    ensures begun { (b : _) → beginning_at tree.now.paths (place_of node) ≡ Some b
+        → IfOk result (λ made. IfSome made (IsBegun B.geometry tree.now.start b)) }
+    ensures some { (b : _) → beginning_at tree.now.paths (place_of node) ≡ Some b
+        → IfOk result (λ made. IsSome made) }
 {
     let Some(moves) = moves_to(tree, node) else {
         return Ok(None);
     };
-    let Some(behind) = played(position, moves.as_slice()) else {
+    let Some(position) = tree.position(node) else {
         return Ok(None);
     };
-    let line = line_text(alloc, position, moves.as_slice())?;
+    let line = line_text(alloc, &tree.start(), moves.as_slice())?;
     let line = String::from_str(alloc, line.as_str())?;
     Ok(Some(Beginning {
         moves,
-        position: behind,
+        position,
         line,
     }))
 }
 
-/// Returns the moves of the beginning that leads to a node, if there are at most 39.
+/// Returns the moves of the beginning that leads to a node, or `None` if the tree has no such node.
 pub(crate) fn moves_to<B: Board>(
     tree: &Tree<B>,
     node: Option<Node>,
 ) -> Option<ArrayVec<Move<B>, MAX_MOVES>>
-    ensures moves { (b : _) → beginning_at tree.now (place_of node) ≡ Some b
-        → IfSome result (λ moves. moves.items ≡ b) }
-    ensures none { (b : _) → beginning_at tree.now (place_of node) ≡ Some b → result ≡ None → 39 < length b }
+    ensures { MatchOption result (beginning_at tree.now.paths (place_of node) ≡ None)
+        (λ moves. (beginning_at tree.now.paths (place_of node) ≡ Some moves.items)
+        × ArePlayable B.geometry tree.now.start moves.items) }
 {
     let mut moves = ArrayVec::new();
     let mut at = node;
     'moves: while let Some(here) = at {
         let mv = tree.mv(here)?;
-        if moves.is_full() {
-            return None;
-        }
         moves.push(mv);
         at = tree.parent(here);
     }
     moves.as_mut_slice().reverse();
     Some(moves)
-}
-
-/// Returns the position after moves, if each is legal after those before it.
-fn played<B: Board>(position: &Position<B>, moves: &[Move<B>]) -> Option<Position<B>>
-    ensures { MatchOption result (ArePlayable B.geometry position.now moves.now → ⊥)
-        (λ behind. ArePlayable B.geometry position.now moves.now
-        × (behind ≡ reach B.geometry position.now moves.now)) }
-{
-    let mut behind = *position;
-    'moves: for mv in moves {
-        if !is_legal(&behind, mv) {
-            return None;
-        }
-        behind = play(&behind, mv);
-    }
-    Some(behind)
 }

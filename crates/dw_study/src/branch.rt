@@ -1,18 +1,16 @@
 //! Beginnings of an author's solution, and their continuations.
-ghost use Rattle.std.specs.Prelude.{◌≡◌, ◌↔◌, ◌++◌, ◌∷◌, [], Some, IfOk, OnOk, IsTrue, MatchOption, map, not};
-ghost use Rattle.std.specs.Prelude.{slice_get};
+ghost use Rattle.std.specs.Prelude.{◌≡◌, ◌↔◌, ◌++◌, ◌∷◌, [], Some, IfOk, OnOk, IsTrue, map, not};
 ghost use Rattle.dw_board.specs.Lists.{Member};
 ghost use Rattle.dw_moves.specs.Moves.{Legal};
-ghost use Rattle.dw_games.specs.Walk.{beginning_at, place_of};
-ghost use Rattle.dw_study.specs.inner.Checking.{AreChildren, AreOthers, left_after};
+ghost use Rattle.dw_study.specs.inner.Checking.{AreChildren, AreOthers, IsAt, left_after};
 ghost use Rattle.dw_moves.specs.Moves as of;
 
 use crate::remark::Remark;
 use dw_board::{Board, Position};
 use dw_games::{Node, Tree};
+use dw_moves::Move;
 use dw_moves::listed::listed;
 use dw_moves::play::play;
-use dw_moves::{Move, is_legal};
 use std::alloc::{AllocError, Global};
 
 /// A beginning of a path: its node, `None` at the root, and the position there; whether the attacker is to move, and
@@ -63,40 +61,25 @@ impl<B: Board> CheckNode<B> {
     }
 }
 
-/// Returns the children of a node by legal moves, in the tree's order.
+/// Returns the children of a node, in the tree's order.
 pub(crate) fn children<B: Board>(
     alloc: Global,
     tree: &Tree<B>,
-    node: Option<Node>,
-    position: &Position<B>,
+    spot: &CheckNode<B>,
 ) -> Result<Vec<Child<B>>, AllocError>
-    requires { (b : _) × (beginning_at tree.now (place_of node) ≡ Some b) }
-    ensures { (b : _) → beginning_at tree.now (place_of node) ≡ Some b
-        → IfOk result (λ children. AreChildren B.geometry position.now tree.now b children.items) }
+    requires { (b : _) × IsAt B.geometry tree.now spot.now b }
+    ensures { (b : _) → IsAt B.geometry tree.now spot.now b
+        → IfOk result (λ children. AreChildren B.geometry spot.now.position tree.now.paths b children.items) }
 {
     let mut children = Vec::new(alloc);
-    let mut next = tree.first_child(node);
-    'children: while let Some(here) = next {
-        if let Some(child) = legal_child(tree, here, position) {
-            push(&mut children, child)?;
+    let mut next = tree.first_child(spot.node);
+    'children: while let Some(node) = next {
+        if let Some(mv) = tree.mv(node) {
+            push(&mut children, Child { node, mv })?;
         }
-        next = tree.next_sibling(here);
+        next = tree.next_sibling(node);
     }
     Ok(children)
-}
-
-/// Returns a node with the move before it, if that is legal.
-fn legal_child<B: Board>(tree: &Tree<B>, node: Node, position: &Position<B>) -> Option<Child<B>>
-    ensures { (b : _) (m : _) → slice_get tree.now node.0 ≡ Some (b ++ m ∷ [])
-        → MatchOption result (Legal B.geometry position.now m → ⊥)
-        (λ child. Legal B.geometry position.now m × (child ≡ record { node = node; mv = m })) }
-{
-    let mv = tree.mv(node)?;
-    if is_legal(position, &mv) {
-        Some(Child { node, mv })
-    } else {
-        None
-    }
 }
 
 /// Returns the legal moves that are none of these children's, in order.

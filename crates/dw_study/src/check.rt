@@ -1,43 +1,40 @@
 //! The comparison of an author's solution with all wins: wrong moves and missing ones.
-ghost use Rattle.std.specs.Prelude.{◌≡◌, ◌≤◌, ◌↔◌, [], Some, IfOk, IsTrue};
+ghost use Rattle.std.specs.Prelude.{◌≤◌, ◌↔◌, [], IfOk, IsTrue};
 ghost use Rattle.dw_memo.specs.Content.{IsMap};
 ghost use Rattle.dw_solve.specs.Facts.{AreTrue};
 ghost use Rattle.dw_solve.specs.Wins.{Win};
 ghost use Rattle.dw_solve.specs.Work.{cut_off};
-ghost use Rattle.dw_games.specs.Walk.{beginning_at, place_of};
 ghost use Rattle.dw_study.specs.Remarks.{AreRemarks};
 ghost use Rattle.dw_study.specs.Slices.{Began, Went};
 ghost use Rattle.dw_study.specs.Telling.{Say};
-ghost use Rattle.dw_study.specs.inner.Checking.{Behind, IsKept, IsSeen};
+ghost use Rattle.dw_study.specs.inner.Checking.{Behind, IsAt, IsKept, IsSeen};
 
 use crate::branch::{CheckNode, Seen};
 use crate::remark::{Checked, Remark};
 use crate::seen::{seen_by_attacker, seen_by_defender};
 use crate::sliced::wins_resuming;
 use crate::slices::{Slices, Watcher};
-use dw_board::{Board, Position};
+use dw_board::Board;
 use dw_games::Tree;
 use dw_memo::Memo;
 use dw_solve::{Guide, Solver, Stop};
 use std::alloc::Global;
 
 /// Compares an author's solution with all wins, and returns its remarks and whether there is a win. The number of moves
-/// must be 1 to 20. A move that fails gets a remark, and the moves after it are not examined. Illegal moves of the tree
-/// are skipped. The slices start again; no answer depends on them. After a stop all bounds in the memo are right, and
-/// the call can be repeated.
+/// must be 1 to 20. A move that fails gets a remark, and the moves after it are not examined. The slices start
+/// again; no answer depends on them. After a stop all bounds in the memo are right, and the call can be repeated.
 pub fn check<B: Board, M: Memo<B>, G: Guide<B>, W: Watcher>(
     alloc: Global,
     solver: &mut Solver<B, M, G>,
-    position: &Position<B>,
     tree: &Tree<B>,
     moves: u8,
     slices: &mut Slices<W>,
 ) -> Result<Checked<B>, Stop>
     requires some { 1 ≤ moves }
     requires few { moves ≤ 20 }
-    ensures wins { IfOk result (λ checked. IsTrue checked.wins ↔ Win B.geometry position.now moves) }
-    ensures remarks { IfOk result (λ checked. Say tree.now checked.remarks.items
-        (AreRemarks B.geometry tree.now moves position.now [])) }
+    ensures wins { IfOk result (λ checked. IsTrue checked.wins ↔ Win B.geometry tree.now.start moves) }
+    ensures remarks { IfOk result (λ checked. Say tree.now.paths checked.remarks.items
+        (AreRemarks B.geometry tree.now.paths moves tree.now.start [])) }
     ensures began { Began B.geometry M.content M.dropped moves (cut_off result moves) slices.old slices.new solver.old
         solver.new result }
     ensures right { AreTrue B.geometry (M.content solver.new.memo) }
@@ -45,7 +42,7 @@ pub fn check<B: Board, M: Memo<B>, G: Guide<B>, W: Watcher>(
 {
     dw_solve::laws::searches_add_up();
     slices.begin(solver.expanded());
-    let checked = check_resuming(alloc, solver, position, tree, moves, slices);
+    let checked = check_resuming(alloc, solver, tree, moves, slices);
     solver.keeps_its_facts();
     checked
 }
@@ -54,22 +51,22 @@ pub fn check<B: Board, M: Memo<B>, G: Guide<B>, W: Watcher>(
 fn check_resuming<B: Board, M: Memo<B>, G: Guide<B>, W: Watcher>(
     alloc: Global,
     solver: &mut Solver<B, M, G>,
-    position: &Position<B>,
     tree: &Tree<B>,
     moves: u8,
     slices: &mut Slices<W>,
 ) -> Result<Checked<B>, Stop>
     requires some { 1 ≤ moves }
     requires few { moves ≤ 20 }
-    ensures wins { IfOk result (λ checked. IsTrue checked.wins ↔ Win B.geometry position.now moves) }
-    ensures remarks { IfOk result (λ checked. Say tree.now checked.remarks.items
-        (AreRemarks B.geometry tree.now moves position.now [])) }
+    ensures wins { IfOk result (λ checked. IsTrue checked.wins ↔ Win B.geometry tree.now.start moves) }
+    ensures remarks { IfOk result (λ checked. Say tree.now.paths checked.remarks.items
+        (AreRemarks B.geometry tree.now.paths moves tree.now.start [])) }
     ensures went { Went B.geometry M.content M.dropped moves slices.old slices.new solver.old solver.new result }
 {
-    let wins = wins_resuming(alloc, solver, position, moves, slices)?;
+    let position = tree.start();
+    let wins = wins_resuming(alloc, solver, &position, moves, slices)?;
     let root = CheckNode {
         node: None,
-        position: *position,
+        position,
         attacks: true,
         left: moves,
     };
@@ -85,12 +82,12 @@ fn remarks_from<B: Board, M: Memo<B>, G: Guide<B>, W: Watcher>(
     tree: &Tree<B>,
     spot: &CheckNode<B>,
 ) -> Result<Vec<Remark<B>>, Stop>
-    requires there { (b : _) × (beginning_at tree.now (place_of spot.now.node) ≡ Some b) }
+    requires there { (b : _) × IsAt B.geometry tree.now spot.now b }
     requires kept { IsKept B.geometry spot.now.attacks spot.now.left spot.now.position }
     requires few { spot.now.left ≤ 20 }
-    ensures remarks { (b : _) → beginning_at tree.now (place_of spot.now.node) ≡ Some b
-        → IfOk result (λ remarks. Say tree.now remarks.items
-        (Behind B.geometry tree.now spot.now.attacks spot.now.left spot.now.position b)) }
+    ensures remarks { (b : _) → IsAt B.geometry tree.now spot.now b
+        → IfOk result (λ remarks. Say tree.now.paths remarks.items
+        (Behind B.geometry tree.now.paths spot.now.attacks spot.now.left spot.now.position b)) }
     ensures went { Went B.geometry M.content M.dropped spot.now.left slices.old slices.new solver.old solver.new
         result }
 {
@@ -113,11 +110,11 @@ fn seen<B: Board, M: Memo<B>, G: Guide<B>, W: Watcher>(
     tree: &Tree<B>,
     spot: &CheckNode<B>,
 ) -> Result<Seen<B>, Stop>
-    requires there { (b : _) × (beginning_at tree.now (place_of spot.now.node) ≡ Some b) }
+    requires there { (b : _) × IsAt B.geometry tree.now spot.now b }
     requires kept { IsKept B.geometry spot.now.attacks spot.now.left spot.now.position }
     requires few { spot.now.left ≤ 20 }
-    ensures seen { (b : _) → beginning_at tree.now (place_of spot.now.node) ≡ Some b
-        → IfOk result (IsSeen B.geometry tree.now spot.now.attacks spot.now.left spot.now.position b) }
+    ensures seen { (b : _) → IsAt B.geometry tree.now spot.now b
+        → IfOk result (IsSeen B.geometry tree.now.paths spot.now.attacks spot.now.left spot.now.position b) }
     ensures went { Went B.geometry M.content M.dropped spot.now.left slices.old slices.new solver.old solver.new
         result }
 {

@@ -18,7 +18,7 @@ pub fn one_list_of_remarks()
     dw_moves::laws::moves_have_keys();
 }
 
-/// Each remark on the tree of a movetext has a text: its moves are legal, after at most 39 others.
+/// Each remark has a text: its moves are legal after the beginning that it is on.
 pub fn remarks_can_be_told()
     ensures { RemarksCanBeTold }
 {}

@@ -31,7 +31,7 @@ pub enum Remark<B: Board> {
     },
     /// The solution stops here, though the attacker is to move, or the defender is and can move.
     Ends {
-        /// The beginning after which it has no legal move.
+        /// The beginning after which it has no move.
         at: Option<Node>,
     },
 }

@@ -8,25 +8,24 @@ ghost use Rattle.dw_study.specs.Telling.{remark_in, texts_in};
 
 use crate::remark::Remark;
 use crate::worded::{RemarkWords, remark_words};
-use dw_board::{Board, Position};
+use dw_board::Board;
 use dw_games::Tree;
 use itoa::Buffer;
 use std::alloc::{AllocError, Global};
 
-/// Returns the text of a remark that `check` made on a tree of a position. It is `None` if a move of the remark or
-/// before it is not legal there, or if more than 39 moves come before it.
+/// Returns the text of a remark that `check` made on a tree. It is `None` if the tree has no such node, or if a move of
+/// the remark is not legal there.
 pub fn remark_text<B: Board>(
     alloc: Global,
-    position: &Position<B>,
     tree: &Tree<B>,
     remark: &Remark<B>,
 ) -> Result<Option<String>, AllocError>
-    ensures text { (r : _) → remark_in tree.now remark.now ≡ Some r
-        → IfOk result (λ made. IfSome made (λ text. IsRemarkText B.geometry position.now r (string_bytes text))) }
-    ensures some { (r : _) → remark_in tree.now remark.now ≡ Some r → CanBeTold B.geometry position.now r
+    ensures text { (r : _) → remark_in tree.now.paths remark.now ≡ Some r
+        → IfOk result (λ made. IfSome made (λ text. IsRemarkText B.geometry tree.now.start r (string_bytes text))) }
+    ensures some { (r : _) → remark_in tree.now.paths remark.now ≡ Some r → CanBeTold B.geometry tree.now.start r
         → IfOk result (λ made. IsSome made) }
 {
-    match remark_words(alloc, position, tree, remark)? {
+    match remark_words(alloc, tree, remark)? {
         Some(words) => {
             let text = text_of(alloc, remark, &words)?;
             Ok(Some(text))

@@ -3,10 +3,9 @@ ghost use Rattle.std.specs.Prelude.{◌≡◌, ◌≤◌, ◌∷◌, [], true, f
 ghost use Rattle.dw_board.specs.Lists.{Member};
 ghost use Rattle.dw_moves.specs.Moves.{Legal};
 ghost use Rattle.dw_solve.specs.Wins.{Lost};
-ghost use Rattle.dw_games.specs.Walk.{beginning_at, place_of};
 ghost use Rattle.dw_study.specs.Slices.{Went};
 ghost use Rattle.dw_study.specs.inner.Checking.{AreChildren, AreOthers, AreOtherKeys};
-ghost use Rattle.dw_study.specs.inner.Checking.{FindsFirst, IsSeen, IsSorted};
+ghost use Rattle.dw_study.specs.inner.Checking.{FindsFirst, IsAt, IsSeen, IsSorted};
 
 use crate::branch::{CheckNode, Child, Seen, children, others, push};
 use crate::remark::Remark;
@@ -29,16 +28,16 @@ pub(crate) fn seen_by_attacker<B: Board, M: Memo<B>, G: Guide<B>, W: Watcher>(
     tree: &Tree<B>,
     spot: &CheckNode<B>,
 ) -> Result<Seen<B>, Stop>
-    requires there { (b : _) × (beginning_at tree.now (place_of spot.now.node) ≡ Some b) }
+    requires there { (b : _) × IsAt B.geometry tree.now spot.now b }
     requires some { 1 ≤ spot.now.left }
     requires few { spot.now.left ≤ 20 }
-    ensures seen { (b : _) → beginning_at tree.now (place_of spot.now.node) ≡ Some b
-        → IfOk result (IsSeen B.geometry tree.now true spot.now.left spot.now.position b) }
+    ensures seen { (b : _) → IsAt B.geometry tree.now spot.now b
+        → IfOk result (IsSeen B.geometry tree.now.paths true spot.now.left spot.now.position b) }
     ensures went { Went B.geometry M.content M.dropped spot.now.left slices.old slices.new solver.old solver.new
         result }
 {
     solver.keeps_its_limit();
-    let children = children(alloc, tree, spot.node, &spot.position)?;
+    let children = children(alloc, tree, spot)?;
     if children.is_empty() {
         return Ok(end(alloc, spot)?);
     }
@@ -61,12 +60,12 @@ pub(crate) fn seen_by_defender<B: Board>(
     tree: &Tree<B>,
     spot: &CheckNode<B>,
 ) -> Result<Seen<B>, AllocError>
-    requires there { (b : _) × (beginning_at tree.now (place_of spot.now.node) ≡ Some b) }
+    requires there { (b : _) × IsAt B.geometry tree.now spot.now b }
     requires lost { Lost B.geometry spot.now.position spot.now.left }
-    ensures { (b : _) → beginning_at tree.now (place_of spot.now.node) ≡ Some b
-        → IfOk result (IsSeen B.geometry tree.now false spot.now.left spot.now.position b) }
+    ensures { (b : _) → IsAt B.geometry tree.now spot.now b
+        → IfOk result (IsSeen B.geometry tree.now.paths false spot.now.left spot.now.position b) }
 {
-    let followed = children(alloc, tree, spot.node, &spot.position)?;
+    let followed = children(alloc, tree, spot)?;
     let replies = others(alloc, &spot.position, followed.as_slice())?;
     if replies.is_empty() {
         return Ok(Seen {

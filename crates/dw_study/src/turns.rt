@@ -6,10 +6,9 @@ use crate::beginning::moves_to;
 use dw_board::Board;
 use dw_games::Tree;
 
-/// Returns the greatest number of moves that the attacker makes on a path of a tree, 0 to 20. Paths of more than 39
-/// moves do not count.
+/// Returns the greatest number of moves that the attacker makes on a path of a tree, 0 to 20.
 pub fn turns_of<B: Board>(tree: &Tree<B>) -> u8
-    ensures turns { HasTurns tree.now result }
+    ensures turns { HasTurns tree.now.paths result }
     ensures few { result ≤ 20 }
 {
     let mut most = 0;

@@ -32,33 +32,32 @@ pub struct RemarkWords {
     pub refutation: Option<String>,
 }
 
-/// Returns the parts of the text of a remark that `check` made on a tree of a position. It is `None` if a move of the
-/// remark or before it is not legal there, or if more than 39 moves come before it.
+/// Returns the parts of the text of a remark that `check` made on a tree. It is `None` if the tree has no such node, or
+/// if a move of the remark is not legal there.
 pub fn remark_words<B: Board>(
     alloc: Global,
-    position: &Position<B>,
     tree: &Tree<B>,
     remark: &Remark<B>,
 ) -> Result<Option<RemarkWords>, AllocError>
-    ensures words { (r : _) → remark_in tree.now remark.now ≡ Some r
-        → IfOk result (λ made. IfSome made (λ words. AreRemarkWords B.geometry position.now r (texts_in words))) }
-    ensures some { (r : _) → remark_in tree.now remark.now ≡ Some r → CanBeTold B.geometry position.now r
+    ensures words { (r : _) → remark_in tree.now.paths remark.now ≡ Some r
+        → IfOk result (λ made. IfSome made (λ words. AreRemarkWords B.geometry tree.now.start r (texts_in words))) }
+    ensures some { (r : _) → remark_in tree.now.paths remark.now ≡ Some r → CanBeTold B.geometry tree.now.start r
         → IfOk result (λ made. IsSome made) }
 {
     match remark {
-        Remark::Fails { at, mv, reply } => match beginning_of(alloc, position, tree, *at)? {
+        Remark::Fails { at, mv, reply } => match beginning_of(alloc, tree, *at)? {
             Some(beginning) => fails_words(alloc, &beginning, mv, reply),
             None => Ok(None),
         },
-        Remark::Also { at, keys } => match beginning_of(alloc, position, tree, *at)? {
+        Remark::Also { at, keys } => match beginning_of(alloc, tree, *at)? {
             Some(beginning) => words_for(alloc, &beginning, keys.as_slice()),
             None => Ok(None),
         },
-        Remark::Open { at, replies } => match beginning_of(alloc, position, tree, *at)? {
+        Remark::Open { at, replies } => match beginning_of(alloc, tree, *at)? {
             Some(beginning) => words_for(alloc, &beginning, replies.as_slice()),
             None => Ok(None),
         },
-        Remark::Ends { at } => match beginning_of(alloc, position, tree, *at)? {
+        Remark::Ends { at } => match beginning_of(alloc, tree, *at)? {
             Some(beginning) => end_words(alloc, &beginning),
             None => Ok(None),
         },

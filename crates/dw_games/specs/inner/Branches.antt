@@ -1,8 +1,12 @@
 -- How the nodes of a tree hang together, and the paths that lead to them.
 use Rattle.std.specs.Prelude.{◌≡◌, ℕ, ◌+◌, ◌≤◌, ◌<◌, Option, Some, None, List, [], ◌∷◌, ◌++◌, length, map, slice_get}
 use Rattle.std.specs.Prelude.{slice_index_or, slice_set}
+use Rattle.dw_board.specs.Geometry.{Geometry}
+use Rattle.dw_board.specs.Lists.{Member}
+use Rattle.dw_board.specs.Placement.{Placement}
 use Rattle.dw_moves.specs.Moves.{Move}
-use Rattle.dw_games.specs.Walk.{place_of}
+use Rattle.dw_games.specs.Play.{after}
+use Rattle.dw_games.specs.Walk.{place_of, CanFollow}
 use Rattle.dw_games.specs.declared.branches.Branch.{Branch}
 use Rattle.dw_games.specs.declared.branches.ChildOrLast.{ChildOrLast}
 use Rattle.dw_games.specs.declared.branches.ChildOrLast.TheVariants.{Child, Last}
@@ -22,6 +26,10 @@ firsts_of branches = map (λ b. place_of b.first_child) branches
 
 abbrev pub nexts_of : {B : Type 0} → List (Branch B) → List (Option ℕ)
 nexts_of branches = map (λ b. place_of b.next_sibling) branches
+
+-- the positions after their moves
+abbrev pub positions_of : {B : Type 0} → List (Branch B) → List Placement
+positions_of branches = map (λ b. b.position) branches
 
 -- the path to a node, or the empty one to the root
 abbrev pub path_to : List (List Move) → Option ℕ → List Move
@@ -70,6 +78,16 @@ pub record AreLinked (steps : List BranchStep) (firsts nexts : List (Option ℕ)
 -- Sealed: nodes hang together. The clauses of a tree say all that is to be known of it.
 abbrev pub Hang : {B : Type 0} → List (Branch B) → Type 0
 Hang branches = AreLinked (steps_of branches) (firsts_of branches) (nexts_of branches)
+
+-- each move can follow the moves before it
+abbrev pub ArePlayed : Geometry → Placement → List (List Move) → Type 0
+ArePlayed g start paths = (b : List Move) (m : Move) → Member (b ++ m ∷ []) paths → CanFollow g start b m
+
+-- Sealed: the nodes of a tree that starts from a position. The clauses of a tree say all that is to be known of it.
+pub record IsPlayedTree {B : Type 0} (g : Geometry) (start : Placement) (branches : List (Branch B)) : Type 0 where
+  pub hang : Hang branches
+  pub played : ArePlayed g start (paths_of (steps_of branches))
+  pub positions : positions_of branches ≡ map (after g start) (paths_of (steps_of branches))
 
 -- the first children and the next siblings with a new node linked: after the last child of its parent, if there is one
 abbrev pub first_linked : List (Option ℕ) → (last parent : Option ℕ) → ℕ → List (Option ℕ)

@@ -60,8 +60,9 @@ pub record HasRead {B : Type 0} (g : Geometry) (p : Placement) (ts : List Token)
   pub before : List Move
   pub moves : List Move
   pub paths : List (List Move)
-  pub opened : Opened g p reader.tree room ts reader.line reader.outer.items before moves paths
-  pub distinct : AreDistinct paths reader.tree
+  pub start : reader.tree.start ≡ p
+  pub opened : Opened g p reader.tree.paths room ts reader.line reader.outer.items before moves paths
+  pub distinct : AreDistinct paths reader.tree.paths
 
 -- a fault is that of a token after those before it
 abbrev pub IsFaultOf : Geometry → Placement → List Token → Token → MovetextFault → Type 0

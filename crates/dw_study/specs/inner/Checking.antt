@@ -9,6 +9,9 @@ use Rattle.dw_moves.specs.Moves.{Move, Legal, play}
 use Rattle.dw_moves.specs.Order.{Precedes, IsListOf}
 use Rattle.dw_solve.specs.Wins.{Lost}
 use Rattle.dw_verdict.specs.Verdict.{IsWinning}
+use Rattle.dw_games.specs.Play.{after}
+use Rattle.dw_games.specs.Walk.{PlayedTree, beginning_at, place_of}
+use Rattle.dw_study.specs.declared.branch.CheckNode.{CheckNode}
 use Rattle.dw_study.specs.declared.branch.Child.{Child}
 use Rattle.dw_study.specs.declared.branch.Seen.{Seen}
 use Rattle.dw_study.specs.declared.remark.Remark.TheVariants.{Fails}
@@ -17,7 +20,12 @@ use Rattle.dw_study.specs.Remarks.{Remark, GoesOnBy, StandsBefore, IsFirstRefuta
 use Rattle.dw_study.specs.Remarks.{AfterKey, AreRemarks}
 use Rattle.dw_study.specs.Telling.{Say}
 
--- the nodes after a beginning by moves that are legal there, in the tree's order
+-- a place of the check is that of this beginning in a tree, with the position after it
+pub record IsAt {B : Type 0} (g : Geometry) (tree : PlayedTree) (spot : CheckNode B) (b : List Move) : Type 0 where
+  pub there : beginning_at tree.paths (place_of spot.node) ≡ Some b
+  pub position : spot.position ≡ after g tree.start b
+
+-- the nodes after a beginning, in the tree's order
 pub record AreChildren {B : Type 0} (g : Geometry) (p : Placement) (tree : List (List Move)) (b : List Move)
     (children : List (Child B)) : Type 0 where
   pub in_order : IsListOf (StandsBefore tree b) (GoesOnBy g p tree b) (map (λ c. c.mv) children)

@@ -12,11 +12,11 @@ returns-in-Some g c said is =
     let s = c.args.solution.now in (
       s.checked.now.wins,
       c.requires.compared.wins,
-      subst (λ z. IsCheckedRow g.B.Board.geometry s.problem.now.number s.position.now s.n z said
+      subst (λ z. IsCheckedRow g.B.Board.geometry s.problem.now.number s.tree.now.start s.n z said
           (string_bytes c.in-Some.line)) (numbers_same s.checked.now.wins c.holds.result (tallied c.args.tally)
           (counted said) c.holds.ensures (c.requires.tally said is) _ refl)
           (of_some _ c.in_ok-made.made c.in-Some.line c.in-Some.is
-          (c.in_ok-made.ensures.row said (ap (map (remark_in s.tree.now)) c.as_slice.ensures.value ∙ is))),
+          (c.in_ok-made.ensures.row said (ap (map (remark_in s.tree.now.paths)) c.as_slice.ensures.value ∙ is))),
     )
 
 pub returns-in-None : goal.returns-in-None
@@ -24,6 +24,5 @@ returns-in-None g c =
     let s = c.args.solution.now in
     let said = c.requires.compared.remarks in
     is_some c.in_ok-made.made c.in-None.is (c.in_ok-made.ensures.some said.0
-    (ap (map (remark_in s.tree.now)) c.as_slice.ensures.value ∙ said.1) (λ r here. c.remarks_can_be_told.ensures
-    g.B.Board.geometry s.position.now c.requires.compared.tree.0 s.tree.now c.requires.compared.tree.1 s.n said.0 said.2
-    r here))
+    (ap (map (remark_in s.tree.now.paths)) c.as_slice.ensures.value ∙ said.1) (c.remarks_can_be_told.ensures
+    g.B.Board.geometry s.tree.now.start s.tree.now.paths s.n said.0 said.2))

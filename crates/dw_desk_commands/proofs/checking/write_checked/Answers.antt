@@ -14,8 +14,8 @@ returns-then-json-clause-text g c = λ said is are.
     let s = c.args.solution.now in
     let text = string_bytes c.in_ok-line.line in (
       text,
-      subst (λ z. MatchBool z (IsCheckedLine geo s.problem.now.number s.position.now s.n said text)
-          (IsCheckedText geo (numbered s.problem.now) s.position.now s.n said text)) (sym c.if-json.true)
+      subst (λ z. MatchBool z (IsCheckedLine geo s.problem.now.number s.tree.now.start s.n said text)
+          (IsCheckedText geo (numbered s.problem.now) s.tree.now.start s.n said text)) (sym c.if-json.true)
           (c.in_ok-line.ensures said is),
       subst (Appends (taken c.args.sink.now) (taken c.write_all.new.sink))
           (c.as_bytes.ensures.value ∙ c.as_str.ensures.value) c.in_ok-write_all.ensures.ok,
@@ -27,8 +27,8 @@ returns-clause-text g c = λ said is are.
     let s = c.args.solution.now in
     then_ok c.write_words.result (c.write_words.ensures.text said is are) (λ written. (
       written.0,
-      subst (λ z. MatchBool z (IsCheckedLine geo s.problem.now.number s.position.now s.n said written.0)
-          (IsCheckedText geo (numbered s.problem.now) s.position.now s.n said written.0)) (sym c.if-json.false)
+      subst (λ z. MatchBool z (IsCheckedLine geo s.problem.now.number s.tree.now.start s.n said written.0)
+          (IsCheckedText geo (numbered s.problem.now) s.tree.now.start s.n said written.0)) (sym c.if-json.false)
           written.1,
       written.2,
     ))

@@ -8,7 +8,7 @@ pub returns-in_ok-write_all-clause-text : goal.returns-in_ok-write_all-clause-te
 returns-in_ok-write_all-clause-text g c = λ r is can.
     let taken = g.K.Sink.taken in (
       string_bytes c.in-Some.text,
-      subst (λ z. IfSome z (λ text. IsRemarkText g.B.Board.geometry c.args.position.now r (string_bytes text)))
+      subst (λ z. IfSome z (λ text. IsRemarkText g.B.Board.geometry c.args.tree.now.start r (string_bytes text)))
           c.in-Some.is (c.in_ok-text.ensures.text r is),
       subst (Appends (taken c.args.sink.now) (taken c.write_all.new.sink))
           (c.as_bytes.ensures.value ∙ c.as_str.ensures.value) c.in_ok-write_all.ensures.ok,

@@ -14,11 +14,11 @@ remarks-init g c = record {
 
 pub remarks-preserved : goal.remarks-preserved
 remarks-preserved g c =
-    let One = IsRemarkText g.B.Board.geometry c.args.position.now in
+    let One = IsRemarkText g.B.Board.geometry c.args.tree.now.start in
     let taken = g.K.Sink.taken in
     record {
       texts = λ said e can.
-          let at = says_at (remark_in c.args.tree.now) c.args.remarks.now said c.remarks.remark-index
+          let at = says_at (remark_in c.args.tree.now.paths) c.args.remarks.now said c.remarks.remark-index
           c.remark-item.result e c.remarks-test.true c.remark-item.is in
           let before = c.remarks.invariant.texts said e can in
           let new = c.in_ok-write_remark.ensures.text at.this at.says (can at.this at.among) in (
@@ -34,8 +34,9 @@ pub returns-clause-texts : goal.returns-clause-texts
 returns-clause-texts g c = λ said e can.
     let told = c.remarks.invariant.texts said e can in (
       told.0,
-      subst (λ z. AreTexts (IsRemarkText g.B.Board.geometry c.args.position.now) z told.0)
-          (all_said (remark_in c.args.tree.now) c.args.remarks.now said c.remarks.remark-index e c.remarks-test.false)
+      subst (λ z. AreTexts (IsRemarkText g.B.Board.geometry c.args.tree.now.start) z told.0)
+          (all_said (remark_in c.args.tree.now.paths) c.args.remarks.now said c.remarks.remark-index e
+          c.remarks-test.false)
           told.1,
       told.2,
     )

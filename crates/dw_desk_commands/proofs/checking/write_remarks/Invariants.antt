@@ -9,10 +9,10 @@ use Rattle.dw_desk_commands.proofs.checking.write_remarks.Given as goal
 
 abbrev pub invariant-remarks : goal.invariant-remarks
 invariant-remarks g l = record {
-  texts : (said : List Remark) → map (remark_in l.tree) l.remarks ≡ map (λ r. Some r) said
-      → ((r : Remark) → Member r said → CanBeTold g.B.Board.geometry l.position r)
+  texts : (said : List Remark) → map (remark_in l.tree.paths) l.remarks ≡ map (λ r. Some r) said
+      → ((r : Remark) → Member r said → CanBeTold g.B.Board.geometry l.tree.start r)
       → (told : List ℕ)
-      × AreTexts (IsRemarkText g.B.Board.geometry l.position) (take l.remark-index said) told
+      × AreTexts (IsRemarkText g.B.Board.geometry l.tree.start) (take l.remark-index said) told
       × Appends (g.K.Sink.taken l.initial.sink) (g.K.Sink.taken l.sink) told;
   works : g.K.Sink.is_failed l.sink ≡ false;
 }

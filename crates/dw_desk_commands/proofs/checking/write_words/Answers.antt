@@ -13,9 +13,9 @@ pub returns-clause-text : goal.returns-clause-text
 returns-clause-text g c = λ said is are.
     let geo = g.B.Board.geometry in
     let s = c.args.solution.now in
-    let p = s.position.now in
+    let p = s.tree.now.start in
     let n = s.n in
-    let tree = s.tree.now in
+    let tree = s.tree.now.paths in
     let taken = g.K.Sink.taken in
     let start = taken c.args.sink.now in
     let named = taken c.write_all.new.sink in
@@ -25,7 +25,7 @@ returns-clause-text g c = λ said is are.
     let same : map (remark_in tree) c.as_slice-remarks.result.now ≡ map (λ r. Some r) said =
     ap (map (remark_in tree)) c.as_slice-remarks.ensures.value ∙ is in
     let told = c.in_ok-write_remarks.ensures.texts said same
-    (c.remarks_can_be_told.ensures geo p c.requires.compared.tree.0 tree c.requires.compared.tree.1 n said are) in
+    (c.remarks_can_be_told.ensures geo p tree n said are) in
     let line = string_bytes c.in_ok-line.line in
     let win : IsWinLine geo p n line = elim (cases_Bool s.checked.now.wins) [
       | inl wins ↦ inl (c.requires.compared.wins.0 wins, c.in_ok-line.ensures.win wins)

@@ -10,6 +10,11 @@ returns-in-Some-clause-steps g c =
     map-set_same _ c.args.branches.now.items c.in-Some.before.0 _ c.index_mut.result.now
     (ap (λ b. step_of b) c.index_mut.ensures.value)
 
+pub returns-in-Some-clause-positions : goal.returns-in-Some-clause-positions
+returns-in-Some-clause-positions g c =
+    map-set_same _ c.args.branches.now.items c.in-Some.before.0 _ c.index_mut.result.now
+    (ap (λ b. b.position) c.index_mut.ensures.value)
+
 pub returns-in-Some-clause-firsts : goal.returns-in-Some-clause-firsts
 returns-in-Some-clause-firsts g c = rw c.in-Some.is
     (map-set_same _ c.args.branches.now.items c.in-Some.before.0 _ c.index_mut.result.now
@@ -22,6 +27,11 @@ pub returns-in-Some-parent-clause-steps : goal.returns-in-Some-parent-clause-ste
 returns-in-Some-parent-clause-steps g c =
     map-set_same _ c.args.branches.now.items c.in-Some-parent.above.0 _ c.index_mut-in-Some-parent.result.now
     (ap (λ b. step_of b) c.index_mut-in-Some-parent.ensures.value)
+
+pub returns-in-Some-parent-clause-positions : goal.returns-in-Some-parent-clause-positions
+returns-in-Some-parent-clause-positions g c =
+    map-set_same _ c.args.branches.now.items c.in-Some-parent.above.0 _ c.index_mut-in-Some-parent.result.now
+    (ap (λ b. b.position) c.index_mut-in-Some-parent.ensures.value)
 
 pub returns-in-Some-parent-clause-firsts : goal.returns-in-Some-parent-clause-firsts
 returns-in-Some-parent-clause-firsts g c = rw (c.in_default.is, c.in-Some-parent.is)

@@ -4,7 +4,7 @@ use Rattle.dw_games.specs.inner.LineReading.{beginnings_after}
 use Rattle.dw_games.proofs.line.moves_of.Given as goal
 
 abbrev pub invariant-moves : goal.invariant-moves
-invariant-moves g l = (all : List Move) → l.tree ≡ beginnings_after [] all
+invariant-moves g l = (all : List Move) → l.tree.paths ≡ beginnings_after [] all
     → (rest : List Move) × (all ≡ l.moves.items ++ rest)
 
 abbrev pub decreases-moves : goal.decreases-moves

@@ -1,4 +1,4 @@
-use Rattle.std.proofs.Common.{arith, ◌∙◌}
+use Rattle.std.proofs.Common.{arith, ap, ◌∙◌}
 use Rattle.std.proofs.lemmas.Result.{err_from_is_err_and}
 use Rattle.dw_games.specs.Lines.{too_large}
 use Rattle.dw_games.proofs.LineLemmas.{tree_read, tree_short, line_stopped_answer, line_odd_answer, line_with_result}
@@ -51,11 +51,11 @@ returns g c = elim c.if-branch.branch [
       line_with_result _ c.args.position.now c.args.text.now (omega arith) c.new-tokens.result
       c.new-tokens.ensures.tokens (λ line. line.items) c.reads_line.new.reader c.reads_line.new.tokens h.0 l.0 h.1 h.2
       h.3 h.4 l.1 l.2 _ (c.odd_line-2.ensures _
-      (c.into_tree.ensures ∙ tree_read _ c.args.position.now h.0 c.reads_line.new.reader h.2))
+      (ap (λ t. t.paths) c.into_tree.ensures ∙ tree_read _ c.args.position.now h.0 c.reads_line.new.reader h.2))
   | else-branch w ↦
       let h = rw w.if-branch.false at (c.in_ok-reads_line.ensures c.args.position.now c.new-reader.ensures) in
       line_without_result _ c.args.position.now c.args.text.now (omega arith) c.new-tokens.result
       c.new-tokens.ensures.tokens (λ line. line.items) c.reads_line.new.reader h.0 h.1 h.2 _
       (c.odd_line-2.ensures _
-      (c.into_tree.ensures ∙ tree_read _ c.args.position.now h.0 c.reads_line.new.reader h.1))
+      (ap (λ t. t.paths) c.into_tree.ensures ∙ tree_read _ c.args.position.now h.0 c.reads_line.new.reader h.1))
 ]

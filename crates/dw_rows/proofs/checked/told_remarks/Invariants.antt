@@ -7,6 +7,6 @@ use Rattle.dw_study.specs.Telling.{remark_in}
 use Rattle.dw_rows.proofs.checked.told_remarks.Given as goal
 
 abbrev pub invariant-remarks : goal.invariant-remarks
-invariant-remarks g l = (said : List Remark) → map (remark_in l.tree) l.remarks ≡ map (λ r. Some r) said
-    → AreObjects (IsRemarkObject g.B.Board.geometry l.position) (take l.remark-index said)
+invariant-remarks g l = (said : List Remark) → map (remark_in l.tree.paths) l.remarks ≡ map (λ r. Some r) said
+    → AreObjects (IsRemarkObject g.B.Board.geometry l.tree.start) (take l.remark-index said)
     (map members_told l.told.items)

@@ -4,7 +4,7 @@ use Rattle.dw_study.proofs.ChildLemmas.{HaveMet, ahead}
 use Rattle.dw_study.proofs.branch.children.Given as goal
 
 abbrev pub invariant-children : goal.invariant-children
-invariant-children g l = HaveMet g.B.Board.geometry l.position l.tree l.fn.node l.next l.children.items
+invariant-children g l = HaveMet g.B.Board.geometry l.tree l.spot l.next l.children.items
 
 abbrev pub decreases-children : goal.decreases-children
-decreases-children g l = ahead (length l.tree) (place_of l.next)
+decreases-children g l = ahead (length l.tree.paths) (place_of l.next)

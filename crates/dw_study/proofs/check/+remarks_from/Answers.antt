@@ -7,7 +7,7 @@ use Rattle.dw_study.proofs.check.+remarks_from.Goals as goal
 pub followed-init : goal.followed-init
 followed-init g t c =
     let geo = g.B.Board.geometry in
-    let tree = c.args.tree.now in
+    let tree = c.args.tree.now.paths in
     let spot = c.args.spot.now in
     let seen = c.in_ok-remarks.field-0 in
     record {
@@ -23,7 +23,7 @@ after-requires g t c =
     let spot = c.args.spot.now in
     let seen = c.in_ok-remarks.field-0 in
     let there = c.requires.there in
-    (child_kept g.B.Board.geometry c.args.tree.now spot.attacks spot.left spot.position there.0 seen
+    (child_kept g.B.Board.geometry c.args.tree.now.paths spot.attacks spot.left spot.position there.0 seen
     c.as_slice-child-items.result.now c.followed.child-index c.child-item.result
     (c.in_ok-remarks.ensures.seen there.0 there.1) c.as_slice-child-items.ensures.value c.followed-test.true
     c.child-item.is).0
@@ -31,7 +31,7 @@ after-requires g t c =
 pub remarks_from-requires : goal.remarks_from-requires
 remarks_from-requires g t c κs within =
     let geo = g.B.Board.geometry in
-    let tree = c.args.tree.now in
+    let tree = c.args.tree.now.paths in
     let spot = c.args.spot.now in
     let after = c.after.result in
     let item = c.child-item.result in
@@ -52,7 +52,10 @@ remarks_from-requires g t c κs within =
             (
               within.1.1.1,
               (
-                (there.0 ++ item.mv ∷ [], after_there geo tree spot after item there.0 c.after.ensures kept.2),
+                (
+                  there.0 ++ item.mv ∷ [],
+                  after_there geo c.args.tree.now spot after item there.0 there.1 c.after.ensures kept.2,
+                ),
                 (after_kept geo spot after item c.after.ensures kept.1, omega (arith, less, c.requires.few)),
               ),
             ),
@@ -93,7 +96,7 @@ followed-preserved g t c =
     let geo = g.B.Board.geometry in
     let content = g.M.Memo.content in
     let lost = g.M.Memo.dropped in
-    let tree = c.args.tree.now in
+    let tree = c.args.tree.now.paths in
     let spot = c.args.spot.now in
     let after = c.after.result in
     let item = c.child-item.result in
@@ -109,7 +112,7 @@ followed-preserved g t c =
           c.child-item.is (c.followed.invariant.said b there)
           (after_says geo tree spot after item b c.in_ok-behind.behind.items c.after.ensures
           (c.in_ok-behind.ensures.remarks (b ++ item.mv ∷ [])
-          (after_there geo tree spot after item b c.after.ensures kept.2)))
+          (after_there geo c.args.tree.now spot after item b there c.after.ensures kept.2)))
           c.in_ok-append.ensures.items;
       went = went_then geo content lost after.left spot.left c.args.slices.now c.followed.slices
           c.remarks_from.new.slices c.args.solver.now c.followed.solver c.remarks_from.new.solver answered less
@@ -121,7 +124,7 @@ followed-preserved g t c =
 pub returns-clause-remarks : goal.returns-clause-remarks
 returns-clause-remarks g t c = λ b there.
     let spot = c.args.spot.now in
-    said_all g.B.Board.geometry c.args.tree.now spot.attacks spot.left spot.position b
+    said_all g.B.Board.geometry c.args.tree.now.paths spot.attacks spot.left spot.position b
     c.as_slice-child-items.result.now c.followed.child-index c.followed.remarks.items
     (omega (arith, c.followed-test.false))
     (kept_some g.B.Board.geometry spot.attacks spot.left spot.position c.requires.kept)

@@ -1,7 +1,7 @@
-use Rattle.std.proofs.Common.{◌≡◌, ◌+◌, ◌*◌, cond, List, Some}
+use Rattle.std.proofs.Common.{◌+◌, ◌*◌, cond, List}
 use Rattle.dw_moves.specs.Moves.{Move}
-use Rattle.dw_games.specs.Walk.{beginning_at, place_of}
 use Rattle.dw_study.specs.Slices.{Went}
+use Rattle.dw_study.specs.inner.Checking.{IsAt}
 use Rattle.dw_study.proofs.SeenLemmas.{SaidTo}
 use Rattle.dw_study.proofs.WentLemmas.{answered}
 use Rattle.dw_study.proofs.check.+remarks_from.Given as goal
@@ -11,8 +11,8 @@ decreases-remarks_from g l = 2 * l.spot.now.left + cond l.spot.now.attacks 0 1
 
 abbrev pub invariant-followed : goal.invariant-followed
 invariant-followed g l = record {
-  said : (b : List Move) → beginning_at l.tree (place_of l.spot.node) ≡ Some b
-      → SaidTo g.B.Board.geometry l.tree l.spot.attacks l.spot.left l.spot.position b l.child-items l.child-index
+  said : (b : List Move) → IsAt g.B.Board.geometry l.tree l.spot b
+      → SaidTo g.B.Board.geometry l.tree.paths l.spot.attacks l.spot.left l.spot.position b l.child-items l.child-index
       l.remarks.items;
   went : Went g.B.Board.geometry g.M.Memo.content g.M.Memo.dropped l.spot.left l.fn.slices l.slices l.fn.solver
       l.solver answered;

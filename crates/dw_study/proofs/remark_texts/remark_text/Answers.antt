@@ -5,6 +5,6 @@ use Rattle.dw_study.proofs.remark_texts.remark_text.Goals as goal
 
 pub returns-in_ok-text-in-Some-clause-text : goal.returns-in_ok-text-in-Some-clause-text
 returns-in_ok-text-in-Some-clause-text g c = λ r is.
-    c.in_ok-text-in-Some.ensures c.args.tree.now c.args.position.now r is
-    (subst (λ made. IfSome made (λ words. AreRemarkWords g.B.Board.geometry c.args.position.now r (texts_in words)))
+    c.in_ok-text-in-Some.ensures c.args.tree.now.paths c.args.tree.now.start r is
+    (subst (λ made. IfSome made (λ words. AreRemarkWords g.B.Board.geometry c.args.tree.now.start r (texts_in words)))
     c.in-Some.is (c.in_ok-words.ensures.words r is))

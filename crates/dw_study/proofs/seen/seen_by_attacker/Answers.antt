@@ -9,8 +9,9 @@ use Rattle.dw_study.proofs.seen.seen_by_attacker.Goals as goal
 
 pub returns-then-is_empty-clause-seen : goal.returns-then-is_empty-clause-seen
 returns-then-is_empty-clause-seen g c = λ b there.
-    ends_seen g.B.Board.geometry c.args.spot.now.position c.args.spot.now.left c.args.tree.now b c.args.spot.now.node
-    there c.in_ok-children.children.items (c.in_ok-children.ensures b there) _ c.in_ok-end.field-0
+    ends_seen g.B.Board.geometry c.args.spot.now.position c.args.spot.now.left c.args.tree.now.paths b
+    c.args.spot.now.node there.there c.in_ok-children.children.items (c.in_ok-children.ensures b there) _
+    c.in_ok-end.field-0
     (none_there c.in_ok-children.children _ c.is_empty.ensures c.if-is_empty.true) (λ e. cc) c.in_ok-end.ensures.remarks
     c.in_ok-end.ensures.followed
 
@@ -66,7 +67,7 @@ returns-clause-seen g c = λ b there.
     let geo = g.B.Board.geometry in
     let p = c.args.spot.now.position in
     let n = c.args.spot.now.left in
-    let tree = c.args.tree.now in
+    let tree = c.args.tree.now.paths in
     let node = c.args.spot.now.node in
     let children = c.in_ok-children.children.items in
     let all = c.in_ok-children.ensures b there in
@@ -81,10 +82,10 @@ returns-clause-seen g c = λ b there.
     elim c.if-not-is_empty.branch [
       | then-not-is_empty+in_ok-push w ↦
           subst (IsSeen geo tree true n p b) (sym w.seen-is)
-          (attacker_misses geo p n tree b node there children all seen _ c.in_ok-keys.keys sorted some keys
+          (attacker_misses geo p n tree b node there.there children all seen _ c.in_ok-keys.keys sorted some keys
           (some_there c.in_ok-keys.keys _ c.is_empty-2.ensures w.if-not-is_empty.true) w.in_ok-push.ensures refl)
       | else-not-is_empty w ↦
           subst (IsSeen geo tree true n p b) (sym w.seen-is)
-          (attacker_seen geo p n tree b node there children all seen c.in_ok-keys.keys.items sorted some keys
+          (attacker_seen geo p n tree b node there.there children all seen c.in_ok-keys.keys.items sorted some keys
           (none_there c.in_ok-keys.keys _ c.is_empty-2.ensures w.if-not-is_empty.false))
     ]

@@ -9,7 +9,7 @@ use Rattle.dw_study.proofs.worded.fails_words.Goals as goal
 pub returns-then-not-is_legal-2-clause-some : goal.returns-then-not-is_legal-2-clause-some
 returns-then-not-is_legal-2-clause-some g c = λ p b begun told.
     let there = c.play-after.ensures ∙ ap (λ z. play g.B.Board.geometry z c.args.mv.now) begun.position in
-    let legal = subst (λ z. Legal g.B.Board.geometry z c.args.reply.now) (sym there) told.3 in
+    let legal = subst (λ z. Legal g.B.Board.geometry z c.args.reply.now) (sym there) told.1 in
     let bad : true ≡ false = sym (c.is_legal-2.ensures.1 legal) ∙ c.if-not-is_legal-2.true in
     cc
 

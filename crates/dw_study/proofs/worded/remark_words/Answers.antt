@@ -10,8 +10,8 @@ use Rattle.dw_study.proofs.worded.remark_words.Goals as goal
 
 pub returns-in-Some-clause-words : goal.returns-in-Some-clause-words
 returns-in-Some-clause-words g c = λ r is.
-    let p = c.args.position.now in
-    let tree = c.args.tree.now in
+    let p = c.args.tree.now.start in
+    let tree = c.args.tree.now.paths in
     let said = told (beginning_at tree (place_of c.in-Fails.at)) (λ b. fails b c.in-Fails.mv c.in-Fails.reply) r
     (subst (λ z. remark_in tree z ≡ Some r) c.in-Fails.is is) in
     let begun = subst (λ made. IfSome made (IsBegun g.B.Board.geometry p said.0)) c.in-Some.is
@@ -21,8 +21,8 @@ returns-in-Some-clause-words g c = λ r is.
 
 pub returns-in-Some-2-clause-words : goal.returns-in-Some-2-clause-words
 returns-in-Some-2-clause-words g c = λ r is.
-    let p = c.args.position.now in
-    let tree = c.args.tree.now in
+    let p = c.args.tree.now.start in
+    let tree = c.args.tree.now.paths in
     let said = told (beginning_at tree (place_of c.in-Also.at)) (λ b. also b c.in-Also.keys.items) r
     (subst (λ z. remark_in tree z ≡ Some r) c.in-Also.is is) in
     let begun = subst (λ made. IfSome made (IsBegun g.B.Board.geometry p said.0)) c.in-Some-2.is
@@ -32,8 +32,8 @@ returns-in-Some-2-clause-words g c = λ r is.
 
 pub returns-in-Some-3-clause-words : goal.returns-in-Some-3-clause-words
 returns-in-Some-3-clause-words g c = λ r is.
-    let p = c.args.position.now in
-    let tree = c.args.tree.now in
+    let p = c.args.tree.now.start in
+    let tree = c.args.tree.now.paths in
     let said = told (beginning_at tree (place_of c.in-Open.at)) (λ b. leaves_open b c.in-Open.replies.items) r
     (subst (λ z. remark_in tree z ≡ Some r) c.in-Open.is is) in
     let begun = subst (λ made. IfSome made (IsBegun g.B.Board.geometry p said.0)) c.in-Some-3.is
@@ -43,8 +43,8 @@ returns-in-Some-3-clause-words g c = λ r is.
 
 pub returns-in-Some-4-clause-words : goal.returns-in-Some-4-clause-words
 returns-in-Some-4-clause-words g c = λ r is.
-    let p = c.args.position.now in
-    let tree = c.args.tree.now in
+    let p = c.args.tree.now.start in
+    let tree = c.args.tree.now.paths in
     let said = told (beginning_at tree (place_of c.in-Ends.at)) (λ b. ends b) r
     (subst (λ z. remark_in tree z ≡ Some r) c.in-Ends.is is) in
     let begun = subst (λ made. IfSome made (IsBegun g.B.Board.geometry p said.0)) c.in-Some-4.is
@@ -54,8 +54,8 @@ returns-in-Some-4-clause-words g c = λ r is.
 
 pub returns-in-Some-clause-some : goal.returns-in-Some-clause-some
 returns-in-Some-clause-some g c = λ r is can.
-    let p = c.args.position.now in
-    let tree = c.args.tree.now in
+    let p = c.args.tree.now.start in
+    let tree = c.args.tree.now.paths in
     let said = told (beginning_at tree (place_of c.in-Fails.at)) (λ b. fails b c.in-Fails.mv c.in-Fails.reply) r
     (subst (λ z. remark_in tree z ≡ Some r) c.in-Fails.is is) in
     let begun = subst (λ made. IfSome made (IsBegun g.B.Board.geometry p said.0)) c.in-Some.is
@@ -64,8 +64,8 @@ returns-in-Some-clause-some g c = λ r is can.
 
 pub returns-in-Some-2-clause-some : goal.returns-in-Some-2-clause-some
 returns-in-Some-2-clause-some g c = λ r is can.
-    let p = c.args.position.now in
-    let tree = c.args.tree.now in
+    let p = c.args.tree.now.start in
+    let tree = c.args.tree.now.paths in
     let said = told (beginning_at tree (place_of c.in-Also.at)) (λ b. also b c.in-Also.keys.items) r
     (subst (λ z. remark_in tree z ≡ Some r) c.in-Also.is is) in
     let begun = subst (λ made. IfSome made (IsBegun g.B.Board.geometry p said.0)) c.in-Some-2.is
@@ -74,8 +74,8 @@ returns-in-Some-2-clause-some g c = λ r is can.
 
 pub returns-in-Some-3-clause-some : goal.returns-in-Some-3-clause-some
 returns-in-Some-3-clause-some g c = λ r is can.
-    let p = c.args.position.now in
-    let tree = c.args.tree.now in
+    let p = c.args.tree.now.start in
+    let tree = c.args.tree.now.paths in
     let said = told (beginning_at tree (place_of c.in-Open.at)) (λ b. leaves_open b c.in-Open.replies.items) r
     (subst (λ z. remark_in tree z ≡ Some r) c.in-Open.is is) in
     let begun = subst (λ made. IfSome made (IsBegun g.B.Board.geometry p said.0)) c.in-Some-3.is

@@ -5,6 +5,6 @@ use Rattle.dw_study.proofs.worded.words_for.Goals as goal
 pub returns-then-not-are_legal-clause-some : goal.returns-then-not-are_legal-clause-some
 returns-then-not-are_legal-clause-some g c = λ p b begun told.
     let bad : true ≡ false = sym (c.are_legal.ensures.1
-    (λ m here. subst (λ z. Legal g.B.Board.geometry z m) (sym begun.position) (told.2 m here)))
+    (λ m here. subst (λ z. Legal g.B.Board.geometry z m) (sym begun.position) (told m here)))
     ∙ c.if-not-are_legal.true in
     cc

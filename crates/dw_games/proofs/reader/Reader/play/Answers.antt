@@ -1,7 +1,7 @@
 use Rattle.std.proofs.Common.{refl, arith}
 use Rattle.std.proofs.lemmas.Result.{err_from_is_err_and}
 use Rattle.dw_games.specs.inner.Ahead.{token_value}
-use Rattle.dw_games.proofs.TakenLemmas.{known_now, some_is, read_legal, taken_move}
+use Rattle.dw_games.proofs.TakenLemmas.{can_note, read_legal, taken_move}
 use Rattle.dw_games.proofs.reader.Reader.play.Goals as goal
 
 pub returns-in_err-mv : goal.returns-in_err-mv
@@ -12,10 +12,12 @@ returns-in_err-mv g c = λ p ts h.
 pub note-requires : goal.note-requires
 note-requires g c =
     let r = c.requires.reading in
-    some_is _ _ (known_now _ r.0 r.1 c.args.self.now r.2 (token_value c.args.token))
+    let m = c.in_ok-mv.ensures r.0 r.1 r.2 in
+    can_note _ r.0 r.1 c.args.self.now r.2 (token_value c.args.token) c.in_ok-mv.mv c.play-position.result
+    (read_legal _ _ _ _ m.0.named) m.1 c.play-position.ensures
 
-pub play-requires : goal.play-requires
-play-requires g c =
+pub play-position-requires : goal.play-position-requires
+play-position-requires g c =
     let r = c.requires.reading in let m = c.in_ok-mv.ensures r.0 r.1 r.2 in read_legal _ _ _ _ m.0.named
 
 pub overflow_add-self : goal.overflow_add-self
@@ -24,5 +26,6 @@ overflow_add-self g c =
 
 pub returns : goal.returns
 returns g c = λ p ts h. let m = c.in_ok-mv.ensures p ts h in
-    taken_move _ p ts c.args.self.now h (token_value c.args.token) _ c.in_ok-mv.mv c.in_ok-node.node m.0 m.1
-    c.in_ok-node.ensures.noted c.in_ok-node.ensures.node (rw c.play.ensures refl) refl
+    taken_move _ p ts c.args.self.now h (token_value c.args.token) _ c.in_ok-mv.mv c.in_ok-node.node
+    c.note.ensures.start m.0 m.1
+    c.in_ok-node.ensures.noted c.in_ok-node.ensures.node (rw c.play-position.ensures refl) refl

@@ -6,4 +6,4 @@ use Rattle.dw_games.proofs.tree.Tree.len.Goals as goal
 
 pub returns : goal.returns
 returns g c = ap length c.as_slice.ensures.value ∙ (sym (steps_length c.self.inside.branches.items)
-    ∙ (sym (length_paths (steps_of c.self.inside.branches.items)) ∙ ap length c.self.view_is))
+    ∙ (sym (length_paths (steps_of c.self.inside.branches.items)) ∙ ap (λ t. length t.paths) c.self.view_is))
