@@ -1,6 +1,6 @@
 -- The requests of the commands of `dw-desk`, by their options.
-use Rattle.std.specs.Prelude.{◌≡◌, ℕ, true, Result, Ok, Err, IsErr, MatchBool, Option, Some, None, is_some, unwrap_or}
-use Rattle.std.specs.Prelude.{List, [], codes}
+use Rattle.std.specs.Prelude.{◌≡◌, ℕ, true, Result, Ok, Err, IsErr, MatchBool, Option, Some, None, is_some, option_map}
+use Rattle.std.specs.Prelude.{List, [], codes, unwrap_or}
 use Rattle.std.specs.Option.{option_or}
 use Rattle.std.specs.Str.{bytes_eq}
 use Rattle.std.specs.Borrow.{Bor}
@@ -31,19 +31,19 @@ each_given options = number_given 1 1000000000000 options (codes "each")
 
 -- the request of `find`
 pub record AsksFind (options : List Row) (asked : FindArgs) : Type 0 where
-  pub most : asked.most ≡ unwrap_or (number_given 1 20 options (codes "most")) 20
+  pub most : asked.most.value ≡ unwrap_or (number_given 1 20 options (codes "most")) 20
   pub each : asked.each ≡ each_given options
   pub json : asked.json ≡ flag_given options (codes "json")
 
 -- the request of `check`
 pub record AsksCheck (options : List Row) (asked : CheckArgs) : Type 0 where
-  pub n : asked.n ≡ number_given 1 20 options (codes "n")
+  pub n : option_map (λ n. n.value) asked.n ≡ number_given 1 20 options (codes "n")
   pub faults : asked.faults ≡ flag_given options (codes "faults")
   pub json : asked.json ≡ flag_given options (codes "json")
 
 -- the request of `solution`; the parser requires either -n or --most
 pub record AsksSolution (options : List Row) (asked : SolutionArgs) : Type 0 where
-  pub moves : asked.moves ≡ unwrap_or (option_or (number_given 1 20 options (codes "n"))
+  pub moves : asked.moves.value ≡ unwrap_or (option_or (number_given 1 20 options (codes "n"))
       (number_given 1 20 options (codes "most"))) 1
   pub is_least : asked.is_least ≡ is_some (number_given 1 20 options (codes "most"))
   pub lines : asked.lines ≡ lines_given options
@@ -51,7 +51,7 @@ pub record AsksSolution (options : List Row) (asked : SolutionArgs) : Type 0 whe
 
 -- the request of `page`; the parser requires either -n or --most
 pub record AsksPage (options : List Row) (asked : PageArgs) : Type 0 where
-  pub moves : asked.moves ≡ unwrap_or (option_or (number_given 1 20 options (codes "n"))
+  pub moves : asked.moves.value ≡ unwrap_or (option_or (number_given 1 20 options (codes "n"))
       (number_given 1 20 options (codes "most"))) 1
   pub is_least : asked.is_least ≡ is_some (number_given 1 20 options (codes "most"))
   pub lines : asked.lines ≡ lines_given options
@@ -63,18 +63,18 @@ pub record AsksPage (options : List Row) (asked : PageArgs) : Type 0 where
 
 -- the request of `certify`
 pub record AsksCertify (options : List Row) (asked : CertifyArgs) : Type 0 where
-  pub n : asked.n ≡ moves_within options
+  pub n : asked.n.value ≡ moves_within options
 
 -- the request of `mend`
 pub record AsksMend (options : List Row) (asked : MendArgs) : Type 0 where
-  pub n : asked.n ≡ moves_within options
+  pub n : asked.n.value ≡ moves_within options
   pub each : asked.each ≡ each_given options
   pub part : part_named (text_given options (codes "part")) ≡ Some (asked.part, asked.parts)
   pub json : asked.json ≡ flag_given options (codes "json")
 
 -- the request of `moves`
 pub record AsksMoves (options : List Row) (asked : MovesArgs) : Type 0 where
-  pub n : asked.n ≡ moves_within options
+  pub n : asked.n.value ≡ moves_within options
   pub part : part_named (text_given options (codes "part")) ≡ Some (asked.part, asked.parts)
   pub json : asked.json ≡ flag_given options (codes "json")
 

@@ -15,7 +15,7 @@ Reads options args = ReadsFrom options args.board args.form args.file
 -- the part of a request that every command with a search has; the parser requires -n
 pub record Searches (options : List Row) (args : ReportArgs) : Type 0 where
   pub reads : Reads options args
-  pub n : args.n ≡ moves_within options
+  pub n : args.n.value ≡ moves_within options
   pub positions : args.positions
       ≡ unwrap_or (number_given 1 1000000000000 options (codes "positions")) 1000000000000
   pub keeps : Keeps options 100000 args.memo args.cache

@@ -1,18 +1,15 @@
 //! The arguments of the command `certify`.
-ghost use Rattle.std.specs.Prelude.{◌≤◌};
-
 use crate::desk_options::{CACHE_HELP, moves_of, progress};
 use crate::options::{board, cache, file, memo, one_problem, pdn, within};
 use clap::{ArgMatches, Command};
+use dw_stipulation::MoveCount;
 use std::alloc::{AllocError, Global};
 
 /// The request of the command `certify`.
 #[derive(Clone, Copy)]
 pub struct CertifyArgs {
-    /// The number of moves within which there is a win or none, `FEWEST_MOVES` to `MOST_MOVES`.
-    pub n: u8,
-    pub ghost some_moves: { 1 ≤ n },
-    pub ghost few_moves: { n ≤ 20 },
+    /// The number of moves within which there is a win or none.
+    pub n: MoveCount,
 }
 
 const ABOUT: &str =

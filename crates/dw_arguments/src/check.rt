@@ -1,25 +1,20 @@
 //! The arguments of the command `check`.
-ghost use Rattle.std.specs.Prelude.{◌≤◌, IfSome};
-ghost use Rattle.std.proofs.Props.{props};
-
 use crate::desk_options::{CACHE_HELP, JSON_HELP, json, progress};
 use crate::options::{board, cache, file, flag, flag_given, memo, moves_given, pdn, within};
 use crate::portion::problem;
 use clap::{ArgMatches, Command};
+use dw_stipulation::MoveCount;
 use std::alloc::{AllocError, Global};
 
 /// The request of the command `check`.
 #[derive(Clone, Copy)]
 pub struct CheckArgs {
-    /// The number of moves within which a win is looked for, `FEWEST_MOVES` to `MOST_MOVES`; `None` stands for as many
-    /// as the solution has.
-    pub n: Option<u8>,
+    /// The number of moves within which a win is looked for; `None` stands for as many as the solution has.
+    pub n: Option<MoveCount>,
     /// Whether problems without remarks are left out.
     pub faults: bool,
     /// Whether a line of JSON is written for each problem.
     pub json: bool,
-    pub ghost some_moves: { IfSome n (λ moves. 1 ≤ moves) } by { Prim.hlevel props },
-    pub ghost few_moves: { IfSome n (λ moves. moves ≤ 20) } by { Prim.hlevel props },
 }
 
 const FAULTS_HELP: &str = "Leave out problems without remarks and refusals";

@@ -4,8 +4,9 @@ ghost use Rattle.dw_arguments.specs.Commands.{moves_within};
 ghost use Rattle.dw_arguments.specs.DeskCommands.{lines_given};
 ghost use Rattle.dw_arguments.specs.Options.{options_of};
 
-use crate::options::{FEWEST_MOVES, count_given, flag, moves_given, option};
+use crate::options::{count_given, flag, moves_given, option};
 use clap::{Arg, ArgMatches, value_parser};
+use dw_stipulation::MoveCount;
 use std::alloc::Global;
 
 /// The default size of a memo, in positions.
@@ -41,12 +42,10 @@ pub(crate) fn lines_of(matches: &ArgMatches<'_>) -> usize
 }
 
 /// Returns the number of moves of `-n`, which the parser requires.
-pub(crate) fn moves_of(matches: &ArgMatches<'_>) -> u8
-    ensures value { result ≡ moves_within (options_of matches.now) }
-    ensures some { 1 ≤ result }
-    ensures few { result ≤ 20 }
+pub(crate) fn moves_of(matches: &ArgMatches<'_>) -> MoveCount
+    ensures { result.value ≡ moves_within (options_of matches.now) }
 {
-    moves_given(matches, "n").unwrap_or(FEWEST_MOVES)
+    moves_given(matches, "n").unwrap_or(MoveCount::FEWEST)
 }
 
 /// Makes the flag `--json`.

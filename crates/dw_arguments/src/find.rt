@@ -4,25 +4,23 @@ ghost use Rattle.std.proofs.Props.{props};
 
 use crate::desk_options::{CACHE_HELP, JSON_HELP, json, progress};
 use crate::options::{
-    MOST_MOVES, board, cache, file, flag_given, memo, most, moves_given, pdn, positions,
-    positions_given,
+    board, cache, file, flag_given, memo, most, moves_given, pdn, positions, positions_given,
 };
 use crate::portion::problem;
 use clap::{ArgMatches, Command};
+use dw_stipulation::MoveCount;
 use std::alloc::{AllocError, Global};
 
 /// The request of the command `find`.
 #[derive(Clone, Copy)]
 pub struct FindArgs {
-    /// The most moves within which a win is looked for, `FEWEST_MOVES` to `MOST_MOVES`.
-    pub most: u8,
+    /// The most moves within which a win is looked for.
+    pub most: MoveCount,
     /// The most positions to expand for each problem until its number of moves is known, `FEWEST_POSITIONS` to
     /// `MOST_POSITIONS`; `None` sets no bound.
     pub each: Option<u64>,
     /// Whether a line of JSON is written for each problem.
     pub json: bool,
-    pub ghost some_moves: { 1 ≤ most },
-    pub ghost few_moves: { most ≤ 20 },
     pub ghost some_positions: { IfSome each (λ positions. 1 ≤ positions) } by { Prim.hlevel props },
     pub ghost few_positions: { IfSome each (λ positions. positions ≤ 1_000_000_000_000) } by { Prim.hlevel props },
 }
@@ -74,7 +72,7 @@ impl FindArgs {
         ensures { AsksFind (options_of matches.now) result }
     {
         FindArgs {
-            most: moves_given(matches, "most").unwrap_or(MOST_MOVES),
+            most: moves_given(matches, "most").unwrap_or(MoveCount::MOST),
             each: positions_given(matches, "each"),
             json: flag_given(matches, "json"),
         }

@@ -9,13 +9,14 @@ use crate::options::{
 };
 use crate::part::{part, part_given};
 use clap::{ArgMatches, Command};
+use dw_stipulation::MoveCount;
 use std::alloc::{AllocError, Global};
 
 /// The request of the command `mend`.
 #[derive(Clone, Copy)]
 pub struct MendArgs {
-    /// The number of moves within which a neighbour must be sound, `FEWEST_MOVES` to `MOST_MOVES`.
-    pub n: u8,
+    /// The number of moves within which a neighbour must be sound.
+    pub n: MoveCount,
     /// The most positions to expand for each neighbour, `FEWEST_POSITIONS` to `MOST_POSITIONS`; `None` sets no bound.
     pub each: Option<u64>,
     /// Which part of the neighbours is looked at, from 1 to `parts`.
@@ -24,8 +25,6 @@ pub struct MendArgs {
     pub parts: u32,
     /// Whether lines of JSON are written.
     pub json: bool,
-    pub ghost some_moves: { 1 ≤ n },
-    pub ghost few_moves: { n ≤ 20 },
     pub ghost some_positions: { IfSome each (λ positions. 1 ≤ positions) } by { Prim.hlevel props },
     pub ghost few_positions: { IfSome each (λ positions. positions ≤ 1_000_000_000_000) } by { Prim.hlevel props },
     pub ghost some_part: { 1 ≤ part },

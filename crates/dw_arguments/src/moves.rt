@@ -6,21 +6,20 @@ use crate::desk_options::{CACHE_HELP, json, moves_of, progress};
 use crate::options::{board, cache, file, flag_given, memo, one_problem, pdn, within};
 use crate::part::{part, part_given};
 use clap::{ArgMatches, Command};
+use dw_stipulation::MoveCount;
 use std::alloc::{AllocError, Global};
 
 /// The request of the command `moves`.
 #[derive(Clone, Copy)]
 pub struct MovesArgs {
-    /// The number of moves within which a win is looked for, `FEWEST_MOVES` to `MOST_MOVES`.
-    pub n: u8,
+    /// The number of moves within which a win is looked for.
+    pub n: MoveCount,
     /// Which part of the moves is looked at, from 1 to `parts`.
     pub part: u32,
     /// How many parts there are, at most 1,000,000.
     pub parts: u32,
     /// Whether a line of JSON is written.
     pub json: bool,
-    pub ghost some_moves: { 1 ≤ n },
-    pub ghost few_moves: { n ≤ 20 },
     pub ghost some_part: { 1 ≤ part },
     pub ghost among_parts: { part ≤ parts },
     pub ghost few_parts: { parts ≤ 1_000_000 },

@@ -9,13 +9,8 @@ use clap::builder::ValueParser;
 use clap::{Arg, ArgAction, ArgMatches, value_parser};
 use dw_notation::Form;
 use dw_notation::problems::MAX_PROBLEMS;
+use dw_stipulation::MoveCount;
 use std::alloc::Global;
-
-/// The fewest moves within which a win is looked for.
-pub const FEWEST_MOVES: u8 = 1;
-
-/// The most moves within which a win is looked for.
-pub const MOST_MOVES: u8 = 20;
 
 /// The least number of positions that an option may set as a bound.
 pub const FEWEST_POSITIONS: u64 = 1;
@@ -113,7 +108,7 @@ pub fn kept_given(matches: &ArgMatches<'_>) -> Option<usize>
     (FEWEST_KEPT..=MOST_KEPT).contains(&kept).then_some(kept)
 }
 
-/// Makes `-n`, `FEWEST_MOVES` to `MOST_MOVES`, with its help.
+/// Makes `-n`, the number of moves, with its help.
 pub fn within<'a>(alloc: Global, help: &'a str) -> Arg<'a> {
     Arg::new(alloc, "n")
         .short('n')
@@ -122,25 +117,21 @@ pub fn within<'a>(alloc: Global, help: &'a str) -> Arg<'a> {
         .help(help)
 }
 
-/// Makes `--most`, `FEWEST_MOVES` to `MOST_MOVES`, with its help.
+/// Makes `--most`, the greatest number of moves, with its help.
 pub fn most<'a>(alloc: Global, help: &'a str) -> Arg<'a> {
     option(alloc, "most", "N", moves(), help)
 }
 
 fn moves<'a>() -> ValueParser<'a> {
-    value_parser!(u8).range(i64::from(FEWEST_MOVES)..=i64::from(MOST_MOVES))
+    value_parser!(u8).range(i64::from(MoveCount::FEWEST.value)..=i64::from(MoveCount::MOST.value))
 }
 
-/// Returns the number of moves that the option of this name says, `FEWEST_MOVES` to `MOST_MOVES`, if it is given.
-pub fn moves_given(matches: &ArgMatches<'_>, name: &str) -> Option<u8>
-    ensures value { result ≡ number_given 1 20 (options_of matches.now) name.now }
-    ensures some { IfSome result (λ moves. 1 ≤ moves) }
-    ensures few { IfSome result (λ moves. moves ≤ 20) }
+/// Returns the number of moves that the option of this name says, if it is given.
+pub fn moves_given(matches: &ArgMatches<'_>, name: &str) -> Option<MoveCount>
+    ensures { option_map (λ moves. moves.value) result ≡ number_given 1 20 (options_of matches.now) name.now }
 {
     let moves = matches.get_one::<u8>(name)?;
-    (FEWEST_MOVES..=MOST_MOVES)
-        .contains(&moves)
-        .then_some(moves)
+    MoveCount::new(moves)
 }
 
 /// Makes an option with a number of positions, `FEWEST_POSITIONS` to `MOST_POSITIONS`.

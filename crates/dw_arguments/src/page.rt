@@ -4,19 +4,19 @@ ghost use Rattle.std.specs.Prelude.{◌≤◌};
 use crate::choices::{PageLanguage, PageTries, Placing};
 use crate::desk_options::{CACHE_HELP, lines, lines_of, progress};
 use crate::options::{
-    FEWEST_MOVES, board, cache, file, flag, flag_given, memo, most, moves_given, option, pdn,
-    text_given, within,
+    board, cache, file, flag, flag_given, memo, most, moves_given, option, pdn, text_given, within,
 };
 use crate::portion::problem;
 use clap::builder::ValueParser;
 use clap::{Arg, ArgMatches, Command};
+use dw_stipulation::MoveCount;
 use std::alloc::{AllocError, Global};
 
 /// The request of the command `page`.
 #[derive(Clone, Copy)]
 pub struct PageArgs<'a> {
-    /// The number of moves within which a win is looked for, `FEWEST_MOVES` to `MOST_MOVES`.
-    pub moves: u8,
+    /// The number of moves within which a win is looked for.
+    pub moves: MoveCount,
     /// Whether `moves` is only the most, and the least number of moves with a win is looked for.
     pub is_least: bool,
     /// The most lines to write of each solution, 1 to 1,000,000.
@@ -28,8 +28,6 @@ pub struct PageArgs<'a> {
     pub solutions: Placing,
     /// Which tries are written.
     pub tries: PageTries,
-    pub ghost some_moves: { 1 ≤ moves },
-    pub ghost few_moves: { moves ≤ 20 },
     pub ghost some_lines: { 1 ≤ lines },
     pub ghost few_lines: { lines ≤ 1_000_000 },
 }
@@ -120,7 +118,9 @@ impl<'a> PageArgs<'a> {
     {
         let most = moves_given(matches, "most");
         PageArgs {
-            moves: moves_given(matches, "n").or(most).unwrap_or(FEWEST_MOVES),
+            moves: moves_given(matches, "n")
+                .or(most)
+                .unwrap_or(MoveCount::FEWEST),
             is_least: most.is_some(),
             lines: lines_of(matches),
             title: text_given(matches, "title").unwrap_or(USUAL_TITLE),

@@ -7,13 +7,14 @@ ghost use Rattle.dw_arguments.specs.Options.{number_given, options_of, text_give
 use crate::choices::{BoardSize, MemoKind};
 use crate::error::CliError;
 use crate::options::{
-    FEWEST_KEPT, FEWEST_MOVES, FIRST_PROBLEM, MOST_POSITIONS, VERSION, board, cache, count_given,
-    file, form_given, kept_given, memo, moves_given, one_problem, option, pdn, positions,
+    FEWEST_KEPT, FIRST_PROBLEM, MOST_POSITIONS, VERSION, board, cache, count_given, file,
+    form_given, kept_given, memo, moves_given, one_problem, option, pdn, positions,
     positions_given, problem_given, text_given, within,
 };
 use clap::builder::ValueParser;
 use clap::{Arg, ArgMatches, Command, value_parser};
 use dw_notation::Form;
+use dw_stipulation::MoveCount;
 use std::alloc::{AllocError, Global};
 
 /// The commands of `dw`.
@@ -37,8 +38,8 @@ pub struct ReportArgs<'a> {
     /// The number of the one problem to report, `FIRST_PROBLEM` to `MAX_PROBLEMS`; `None` stands for all.
     pub only: Option<u32>,
     pub board: BoardSize,
-    /// The number of moves within which a win is looked for, `FEWEST_MOVES` to `MOST_MOVES`.
-    pub n: u8,
+    /// The number of moves within which a win is looked for.
+    pub n: MoveCount,
     /// The most positions to expand, `FEWEST_POSITIONS` to `MOST_POSITIONS`.
     pub positions: u64,
     pub memo: MemoKind,
@@ -52,8 +53,6 @@ pub struct ReportArgs<'a> {
     pub file: Option<&'a str>,
     pub ghost some_number: { IfSome only (λ number. 1 ≤ number) } by { Prim.hlevel props },
     pub ghost few_number: { IfSome only (λ number. number ≤ 1_000_000) } by { Prim.hlevel props },
-    pub ghost some_moves: { 1 ≤ n },
-    pub ghost few_moves: { n ≤ 20 },
     pub ghost some_positions: { 1 ≤ positions },
     pub ghost few_positions: { positions ≤ 1_000_000_000_000 },
     pub ghost some_kept: { 1 ≤ cache },
@@ -315,7 +314,7 @@ impl<'a> ReportArgs<'a> {
             form: form_given(matches),
             only: problem_given(matches),
             board: BoardSize::named(text_given(matches, "board")),
-            n: FEWEST_MOVES,
+            n: MoveCount::FEWEST,
             positions: MOST_POSITIONS,
             memo: MemoKind::None,
             cache: FEWEST_KEPT,
@@ -337,7 +336,7 @@ impl<'a> ReportArgs<'a> {
             form: read.form,
             only: read.only,
             board: read.board,
-            n: moves_given(matches, "n").unwrap_or(FEWEST_MOVES),
+            n: moves_given(matches, "n").unwrap_or(MoveCount::FEWEST),
             positions: positions_given(matches, "positions").unwrap_or(MOST_POSITIONS),
             memo: MemoKind::named(text_given(matches, "memo")),
             cache: kept_given(matches).unwrap_or(USUALLY_KEPT),

@@ -2,26 +2,23 @@
 ghost use Rattle.std.specs.Prelude.{◌≤◌};
 
 use crate::desk_options::{CACHE_HELP, JSON_HELP, json, lines, lines_of, progress};
-use crate::options::{
-    FEWEST_MOVES, board, cache, file, flag_given, memo, most, moves_given, pdn, within,
-};
+use crate::options::{board, cache, file, flag_given, memo, most, moves_given, pdn, within};
 use crate::portion::problem;
 use clap::{ArgMatches, Command};
+use dw_stipulation::MoveCount;
 use std::alloc::{AllocError, Global};
 
 /// The request of the command `solution`.
 #[derive(Clone, Copy)]
 pub struct SolutionArgs {
-    /// The number of moves within which a win is looked for, `FEWEST_MOVES` to `MOST_MOVES`.
-    pub moves: u8,
+    /// The number of moves within which a win is looked for.
+    pub moves: MoveCount,
     /// Whether `moves` is only the most, and the least number of moves with a win is looked for.
     pub is_least: bool,
     /// The most lines to write of each solution, 1 to 1,000,000.
     pub lines: usize,
     /// Whether a line of JSON is written for each problem.
     pub json: bool,
-    pub ghost some_moves: { 1 ≤ moves },
-    pub ghost few_moves: { moves ≤ 20 },
     pub ghost some_lines: { 1 ≤ lines },
     pub ghost few_lines: { lines ≤ 1_000_000 },
 }
@@ -77,7 +74,9 @@ impl SolutionArgs {
     {
         let most = moves_given(matches, "most");
         SolutionArgs {
-            moves: moves_given(matches, "n").or(most).unwrap_or(FEWEST_MOVES),
+            moves: moves_given(matches, "n")
+                .or(most)
+                .unwrap_or(MoveCount::FEWEST),
             is_least: most.is_some(),
             lines: lines_of(matches),
             json: flag_given(matches, "json"),

@@ -14,6 +14,7 @@ use dw_board::{Board, Position};
 use dw_memo::Memo;
 use dw_moves::legal::legal;
 use dw_moves::play::play;
+use dw_stipulation::MoveCount;
 use indexmap::IndexMap;
 use std::alloc::{AllocError, Global};
 
@@ -26,28 +27,26 @@ pub struct Certificate<B: Board> {
     pub rows: IndexMap<Position<B>, u8>,
 }
 
-/// Takes the certificate for a win within `moves` moves, or for no win, out of a memo. `moves` must be 1 to 20. Its
-/// rows are the position, and the positions reached by one winning move of each row and all replies to it; or by all
-/// moves of each row and one reply to each. The error `Missing` means that the memo lacks a bound that is needed.
+/// Takes the certificate for a win within `moves` moves, or for no win, out of a memo. Its rows are the position, and
+/// the positions reached by one winning move of each row and all replies to it; or by all moves of each row and one
+/// reply to each. The error `Missing` means that the memo lacks a bound that is needed.
 pub fn certify<B: Board, M: Memo<B>>(
     alloc: Global,
     memo: &mut M,
     position: &Position<B>,
-    moves: u8,
+    moves: MoveCount,
 ) -> Result<Certificate<B>, CertificateFault>
-    requires some { 1 ≤ moves }
-    requires few { moves ≤ 20 }
-    ensures { IfOk result (λ certificate. IsCertificate B.geometry position.now moves certificate.win
+    ensures { IfOk result (λ certificate. IsCertificate B.geometry position.now moves.value certificate.win
         certificate.rows.entries) }
 {
-    let Some(win) = answer_of(memo, position, moves) else {
+    let Some(win) = answer_of(memo, position, moves.value) else {
         return Err(CertificateFault::Missing);
     };
     let mut certificate = Certificate {
         win,
         rows: IndexMap::new(alloc),
     };
-    certificate.put(memo, position, moves)?;
+    certificate.put(memo, position, moves.value)?;
     let mut index = 0;
     'rows: while let Some(row) = certificate.row_at(index) {
         certificate.support(alloc, memo, &row.0, row.1)?;

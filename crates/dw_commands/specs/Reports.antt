@@ -26,7 +26,7 @@ abbrev pub request_for : ReportArgs → (after : Option (List Move)) → Request
 request_for args after = record {
   command = command_for args.command;
   form = args.form;
-  moves = args.n;
+  moves = args.n.value;
   only = args.only;
   lines = args.lines;
   after = after;

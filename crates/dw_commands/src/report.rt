@@ -109,7 +109,7 @@ fn settings_of<B: Board>(
     ensures { result ≡ record {
       command = command_for args.now.command;
       form = args.now.form;
-      n = args.now.n;
+      n = args.now.n.value;
       only = args.now.only;
       lines = args.now.lines;
       after = after;
@@ -119,7 +119,7 @@ fn settings_of<B: Board>(
     Settings {
         command: command_of(args.command),
         form: args.form,
-        n: args.n,
+        n: args.n.value,
         only: args.only,
         lines: args.lines,
         after,

@@ -1,6 +1,6 @@
 -- The output of `check` for the solution of a game.
 use Rattle.std.specs.Prelude.{◌≡◌, ◌==◌, ◌&&◌, ◌⊎◌, ◌++◌, if◌then◌else◌, Bool, ℕ, List, [], Option, Some, None, codes}
-use Rattle.std.specs.Prelude.{decimal, max, min, true, false, not}
+use Rattle.std.specs.Prelude.{decimal, max, true, false, not}
 use Rattle.std.specs.List.{count_by}
 use Rattle.dw_board.specs.Geometry.{Geometry}
 use Rattle.dw_board.specs.Placement.{Placement}
@@ -13,6 +13,7 @@ use Rattle.dw_games.specs.declared.fault.MovetextFaultKind.{MovetextFaultKind}
 use Rattle.dw_study.specs.RemarkText.{IsRemarkText}
 use Rattle.dw_study.specs.Remarks.{Remark, fails, also, leaves_open, ends, AreRemarks}
 use Rattle.dw_study.specs.Turns.{HasTurns}
+use Rattle.dw_stipulation.specs.declared.MoveCount.{MoveCount}
 use Rattle.dw_arguments.specs.declared.check.CheckArgs.{CheckArgs}
 use Rattle.dw_desk_commands.specs.FindingJson.{refused_row}
 use Rattle.dw_desk_commands.specs.ProblemText.{AreTexts}
@@ -118,11 +119,10 @@ IsChecked g asked problem p n remarks refused text = (refused ≡ not (holds (co
     × MatchBool (asked.faults && is_none remarks) (text ≡ [])
     (MatchBool asked.json (IsCheckedLine g problem.number p n remarks text) (IsCheckedText g problem p n remarks text))
 
--- the number of moves within which a tree is checked: as many as are asked for, or else as it has; at least 1, at most
--- 20
-abbrev pub IsNumberFor : Option ℕ → List (List Move) → ℕ → Type 0
-IsNumberFor asked tree n =
-    (m : ℕ) × ((asked ≡ Some m) ⊎ ((asked ≡ None) × HasTurns tree m)) × (n ≡ max 1 (min m 20))
+-- the number of moves within which a tree is checked: as many as are asked for, or else as it has, but at least 1
+abbrev pub IsNumberFor : Option MoveCount → List (List Move) → ℕ → Type 0
+IsNumberFor (Some moves) tree n = n ≡ moves.value
+IsNumberFor None tree n = (turns : ℕ) × HasTurns tree turns × (n ≡ max turns 1)
 
 -- the line that names the fault of a movetext, and its place
 abbrev pub refused_line : MovetextFaultKind → (place : ℕ) → List ℕ

@@ -33,7 +33,8 @@ form_for other form = form
 -- The output of a command for the chosen games, and the ending of the program after it.
 abbrev pub Tells : {T : Type 0} → Geometry → Portion → Task → List NumberedGame → Ending T → List ℕ → Type 0
 Tells g portion (task.Find asked) games ending text =
-    IsReportOnAll (λ game. IsFindOf g asked.json asked.most asked.each (problem_of game)) portion games ending text
+    IsReportOnAll (λ game. IsFindOf g asked.json asked.most.value asked.each (problem_of game)) portion games ending
+    text
 Tells g portion (task.Check asked) games ending text = IsReportOnAll (IsCheckOf g asked) portion games ending text
 Tells g portion (task.Solution asked) games ending text =
     IsReportOnAll (IsSolutionOf g asked) portion games ending text
@@ -41,7 +42,7 @@ Tells g portion (task.Page asked) games ending text =
     (counts : Counts) × IsPageOf g asked portion games counts text
     × (ending ≡ ending_after counts.shown counts.refused portion)
 Tells g portion (task.Certify asked) games ending text =
-    IsReportOnOne (λ game. IsCertifyOf g asked.n (problem_of game)) portion.first games ending text
+    IsReportOnOne (λ game. IsCertifyOf g asked.n.value (problem_of game)) portion.first games ending text
 Tells g portion (task.Moves asked) games ending text =
     IsReportOnOne (λ game. IsMovesOf g asked (problem_of game)) portion.first games ending text
 Tells g portion (task.Mend asked) games ending text =

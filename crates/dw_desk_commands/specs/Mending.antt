@@ -23,7 +23,7 @@ wording_for json = if json then Row else Words
 abbrev pub SaysMended : Geometry → MendArgs → (expanded : ℕ) → Placement → (refused : Bool) → List ℕ → Type 0
 SaysMended g asked expanded p refused text =
     (all sound undecided : ℕ)
-    × IsMendText (wording_for asked.json) g p asked.n asked.part asked.parts all sound undecided text
+    × IsMendText (wording_for asked.json) g p asked.n.value asked.part asked.parts all sound undecided text
     × AreBounded asked.each all undecided 0 expanded × (refused ≡ not (undecided == 0))
 
 -- the text before the neighbours: the first line of the problem, or nothing if they are rows

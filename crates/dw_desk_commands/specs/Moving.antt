@@ -28,8 +28,8 @@ IsFirstMovesLine g n i m problem (Err fault) refused text = (refused ≡ true) �
 -- the output for a problem
 abbrev pub IsMovesText : Geometry → MovesArgs → Numbered → (refused : Bool) → List ℕ → Type 0
 IsMovesText g asked problem refused text = MatchBool asked.json
-    (IsFirstMovesLine g asked.n asked.part asked.parts problem.number problem.found refused text)
-    (IsProblemText g (SaysFirstMoves g asked.n asked.part asked.parts) problem refused text)
+    (IsFirstMovesLine g asked.n.value asked.part asked.parts problem.number problem.found refused text)
+    (IsProblemText g (SaysFirstMoves g asked.n.value asked.part asked.parts) problem refused text)
 
 -- the effect of `moves` on a problem
 abbrev pub IsMovesOf : {T : Type 0} → Geometry → MovesArgs → Numbered → Ending T → List ℕ → Type 0

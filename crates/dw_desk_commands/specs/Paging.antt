@@ -121,7 +121,7 @@ Stands Nowhere Says behind later = (behind ≡ []) × (later ≡ [])
 
 -- the number of moves of a problem: the least with a win up to the given number, or that number
 abbrev pub IsAskedIn : Geometry → PageArgs → Placement → ℕ → Type 0
-IsAskedIn g asked p n = MatchBool asked.is_least (IsJudgedAt g p asked.moves n) (n ≡ asked.moves)
+IsAskedIn g asked p n = MatchBool asked.is_least (IsJudgedAt g p asked.moves.value n) (n ≡ asked.moves.value)
 
 -- a problem up to its task: its number and tags, its diagram, and the task
 abbrev pub task_part : Geometry → PageArgs → (number : ℕ) → Placement → List Tag → (n : ℕ) → List ℕ

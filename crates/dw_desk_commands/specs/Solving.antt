@@ -71,7 +71,7 @@ AreWrittenTags g p section text =
 
 -- the number of moves: the least with a win up to the given number, or that number
 abbrev pub IsNumberOf : Geometry → SolutionArgs → Placement → ℕ → Type 0
-IsNumberOf g asked p n = MatchBool asked.is_least (IsJudgedAt g p asked.moves n) (n ≡ asked.moves)
+IsNumberOf g asked p n = MatchBool asked.is_least (IsJudgedAt g p asked.moves.value n) (n ≡ asked.moves.value)
 
 -- A position as a game: its tags, its solution, and an empty line.
 abbrev pub IsGameText : Geometry → SolutionArgs → Placement → (section text : List ℕ) → Type 0

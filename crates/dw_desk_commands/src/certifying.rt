@@ -14,12 +14,13 @@ use dw_games::Game;
 use dw_notation::{Sink, write_all};
 use dw_report::{RunFault, Stop, problem_line};
 use dw_solve::{ByTrial, Solver};
+use dw_stipulation::MoveCount;
 use dw_study::{Slices, wins_in_slices};
 use std::alloc::{AllocError, Global};
 use std::mem::replace;
 
 impl<B: Board, E> ReportOne<B, E> for CertifyArgs {
-    ghost says = { λ asked expanded game. IsCertifyOf B.geometry asked.n (problem_of game) };
+    ghost says = { λ asked expanded game. IsCertifyOf B.geometry asked.n.value (problem_of game) };
 
     /// Writes the certificate of whether a problem is won within `n` moves, and returns how that ended. Only the first
     /// line of a refused problem is written.
@@ -36,7 +37,7 @@ impl<B: Board, E> ReportOne<B, E> for CertifyArgs {
             return Ok(Ending::Refused);
         };
         desk.begin(slices, problem.number);
-        let searched = wins_in_slices(desk.alloc, &mut desk.solver, position, self.n, slices);
+        let searched = wins_in_slices(desk.alloc, &mut desk.solver, position, self.n.value, slices);
         slices.watcher.end();
         searched?;
         if desk.solver.dropped() > 0 {
@@ -62,16 +63,14 @@ impl<B: Board, E> ReportOne<B, E> for CertifyArgs {
 fn text_of<B: Board>(
     desk: &mut Desk<B>,
     position: &Position<B>,
-    n: u8,
+    n: MoveCount,
 ) -> Result<Vec<u8>, CertificateFault>
-    requires some { 1 ≤ n }
-    requires few { n ≤ 20 }
-    ensures { IfOk result (λ text. IsCertificateText B.geometry n position.now text.items) }
+    ensures { IfOk result (λ text. IsCertificateText B.geometry n.value position.now text.items) }
 {
     let solver = replace(&mut desk.solver, unused_solver(desk.alloc)?);
     let mut memo = solver.into_memo();
     let certificate = certify(desk.alloc, &mut memo, position, n)?;
-    Ok(certificate_text(desk.alloc, position, n, &certificate)?)
+    Ok(certificate_text(desk.alloc, position, n.value, &certificate)?)
 }
 
 /// Makes a solver that keeps nothing.

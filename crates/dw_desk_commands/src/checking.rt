@@ -25,12 +25,12 @@ use crate::json_rows::refused_line as refused_row;
 use crate::reporting::ReportEach;
 use crate::watcher::DeskWatcher;
 use dw_arguments::CheckArgs;
-use dw_arguments::options::{FEWEST_MOVES, MOST_MOVES};
 use dw_board::{Board, Position};
 use dw_games::{Game, MovetextFault, MovetextFaultKind, Tree, read_movetext};
 use dw_notation::{Problem, ProblemFault, Sink, write_all};
 use dw_report::{Stop, problem_line};
 use dw_rows::{CheckNumbers, checked_row, refused_solution_row};
+use dw_stipulation::MoveCount;
 use dw_study::check::check;
 use dw_study::{Checked, Remark, Slices, remark_text, turns_of};
 use itoa::Buffer;
@@ -62,7 +62,7 @@ impl<B: Board> ReportEach<B> for CheckArgs {
                 let solution = Solution {
                     problem,
                     tree: &tree,
-                    n,
+                    n: n.value,
                     checked: &checked,
                 };
                 let fails = write_solution(desk.alloc, self, &solution, sink)?;
@@ -138,16 +138,15 @@ struct Solution<'a, B: Board> {
 
 /// Returns the number of moves within which a solution is checked: that of `-n`, or else that of the solution, but at
 /// least 1.
-fn moves_for<B: Board>(asked: Option<u8>, tree: &Tree<B>) -> u8
-    ensures number { IsNumberFor asked tree.now.paths result }
-    ensures some { 1 ≤ result }
-    ensures few { result ≤ 20 }
+fn moves_for<B: Board>(asked: Option<MoveCount>, tree: &Tree<B>) -> MoveCount
+    ensures { IsNumberFor asked tree.now.paths result.value }
 {
-    let moves = match asked {
+    match asked {
         Some(moves) => moves,
-        None => turns_of(tree),
-    };
-    moves.clamp(FEWEST_MOVES, MOST_MOVES)
+        None => MoveCount {
+            value: turns_of(tree).max(MoveCount::FEWEST.value),
+        },
+    }
 }
 
 /// Compares a solution with all wins, and shows how far the search is.
@@ -156,13 +155,11 @@ fn checked<B: Board, W: DeskWatcher>(
     slices: &mut Slices<W>,
     number: u32,
     tree: &Tree<B>,
-    n: u8,
+    n: MoveCount,
 ) -> Result<Checked<B>, Stop>
-    requires some { 1 ≤ n }
-    requires few { n ≤ 20 }
-    ensures wins { IfOk result (λ checked. IsTrue checked.wins ↔ Win B.geometry tree.now.start n) }
+    ensures wins { IfOk result (λ checked. IsTrue checked.wins ↔ Win B.geometry tree.now.start n.value) }
     ensures remarks { IfOk result (λ checked. Say tree.now.paths checked.remarks.items
-        (AreRemarks B.geometry tree.now.paths n tree.now.start [])) }
+        (AreRemarks B.geometry tree.now.paths n.value tree.now.start [])) }
     ensures stop { IsErrOf result Limit → desk.new.solver.expanded ≡ u64.MAX }
 {
     desk.begin(slices, number);

@@ -24,7 +24,7 @@ use dw_study::find::find;
 use dw_study::{FindBounds, Finding, Slices, found_text};
 
 impl<B: Board> ReportEach<B> for FindArgs {
-    ghost says = { λ asked game. IsFindOf B.geometry asked.json asked.most asked.each (problem_of game) };
+    ghost says = { λ asked game. IsFindOf B.geometry asked.json asked.most.value asked.each (problem_of game) };
 
     fn report<W: DeskWatcher, K: Sink>(
         &self,
@@ -51,8 +51,8 @@ fn report_in_words<B: Board, W: DeskWatcher, K: Sink>(
 ) -> Result<bool, DeskFault>
     requires { K.is_failed sink.old ≡ false }
     ensures text { IfOk result (λ refused. (text : List ℕ)
-        × IsProblemText B.geometry (SaysFound B.geometry asked.now.most asked.now.each) (numbered problem.now) refused
-        text
+        × IsProblemText B.geometry (SaysFound B.geometry asked.now.most.value asked.now.each) (numbered problem.now)
+        refused text
         × Appends (K.taken sink.old) (K.taken sink.new) text) }
     ensures works { IfOk result (λ _. K.is_failed sink.new ≡ false) }
     ensures fails { ReportFails (K.is_failed sink.new) desk.new.solver.expanded result }
@@ -77,7 +77,7 @@ fn report_in_json<B: Board, W: DeskWatcher, K: Sink>(
 ) -> Result<bool, DeskFault>
     requires { K.is_failed sink.old ≡ false }
     ensures text { IfOk result (λ refused. (text : List ℕ)
-        × IsJsonOf B.geometry asked.now.most asked.now.each problem.now.number problem.now.found refused text
+        × IsJsonOf B.geometry asked.now.most.value asked.now.each problem.now.number problem.now.found refused text
         × Appends (K.taken sink.old) (K.taken sink.new) text) }
     ensures works { IfOk result (λ _. K.is_failed sink.new ≡ false) }
     ensures fails { ReportFails (K.is_failed sink.new) desk.new.solver.expanded result }
@@ -94,7 +94,7 @@ fn json_of<B: Board, W: DeskWatcher>(
     asked: &FindArgs,
     problem: &Problem<B>,
 ) -> Result<(String, bool), Stop>
-    ensures row { IfOk result (λ told. IsJsonOf B.geometry asked.now.most asked.now.each problem.now.number
+    ensures row { IfOk result (λ told. IsJsonOf B.geometry asked.now.most.value asked.now.each problem.now.number
         problem.now.found told.1 (string_bytes told.0)) }
     ensures stop { IsErrOf result Limit → desk.new.solver.expanded ≡ u64.MAX }
 {
@@ -125,9 +125,9 @@ fn search<B: Board, W: DeskWatcher>(
     number: u32,
     position: &Position<B>,
 ) -> Result<Finding<B>, Stop>
-    ensures found { IfOk result (λ finding. IsFound B.geometry asked.now.most asked.now.each position.now
+    ensures found { IfOk result (λ finding. IsFound B.geometry asked.now.most.value asked.now.each position.now
         (told_by finding)) }
-    ensures bounded { IfSome asked.now.each (λ _. IfOk result (IsBounded B.geometry position.now asked.now.most
+    ensures bounded { IfSome asked.now.each (λ _. IfOk result (IsBounded B.geometry position.now asked.now.most.value
         slices.old.first asked.now.each desk.new.solver)) }
     ensures stop { IsErrOf result Limit → desk.new.solver.expanded ≡ u64.MAX }
 {

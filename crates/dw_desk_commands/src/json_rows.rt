@@ -64,7 +64,7 @@ fn put_found<B: Board>(
         × WritesMembers members row.old row.new) }
 {
     match finding {
-        Finding::Judged { moves, judged } => put_judged(alloc, row, position, *moves, judged),
+        Finding::Judged { moves, judged } => put_judged(alloc, row, position, moves.value, judged),
         Finding::Undecided { no_win_in } => put_undecided(row, *no_win_in),
     }
 }

@@ -62,7 +62,7 @@ fn write_words<B: Board, W: DeskWatcher, K: Sink>(
 ) -> Result<bool, DeskFault>
     requires { K.is_failed sink.old ≡ false }
     ensures text { IfOk result (λ refused. (text : List ℕ)
-        × IsProblemText B.geometry (SaysFirstMoves B.geometry asked.now.n asked.now.part asked.now.parts)
+        × IsProblemText B.geometry (SaysFirstMoves B.geometry asked.now.n.value asked.now.part asked.now.parts)
         (numbered problem.now) refused text
         × Appends (K.taken sink.old) (K.taken sink.new) text) }
     ensures fails { ReportFails (K.is_failed sink.new) desk.new.solver.expanded result }
@@ -87,7 +87,7 @@ fn write_row<B: Board, W: DeskWatcher, K: Sink>(
 ) -> Result<bool, DeskFault>
     requires { K.is_failed sink.old ≡ false }
     ensures text { IfOk result (λ refused. (text : List ℕ)
-        × IsFirstMovesLine B.geometry asked.now.n asked.now.part asked.now.parts problem.now.number
+        × IsFirstMovesLine B.geometry asked.now.n.value asked.now.part asked.now.parts problem.now.number
         problem.now.found refused text
         × Appends (K.taken sink.old) (K.taken sink.new) text) }
     ensures fails { ReportFails (K.is_failed sink.new) desk.new.solver.expanded result }
@@ -104,7 +104,7 @@ fn row_of<B: Board, W: DeskWatcher>(
     asked: &MovesArgs,
     problem: &Problem<B>,
 ) -> Result<(String, bool), Stop>
-    ensures row { IfOk result (λ told. IsFirstMovesLine B.geometry asked.now.n asked.now.part asked.now.parts
+    ensures row { IfOk result (λ told. IsFirstMovesLine B.geometry asked.now.n.value asked.now.part asked.now.parts
         problem.now.number problem.now.found told.1 (string_bytes told.0)) }
     ensures stop { IsErrOf result Limit → desk.new.solver.expanded ≡ u64.MAX }
 {
@@ -112,7 +112,7 @@ fn row_of<B: Board, W: DeskWatcher>(
     match &problem.found {
         Ok(position) => {
             let found = searched(desk, slices, asked, number, position)?;
-            let line = first_moves_row(desk.alloc, number, asked.n, &found)?;
+            let line = first_moves_row(desk.alloc, number, asked.n.value, &found)?;
             Ok((line, false))
         }
         Err(fault) => Ok((refused_line(desk.alloc, number, *fault)?, true)),
@@ -128,7 +128,7 @@ fn searched<B: Board, W: DeskWatcher>(
     position: &Position<B>,
 ) -> Result<FirstMoves<B>, Stop>
     ensures start { IfOk result (λ found. found.start ≡ position.now) }
-    ensures effects { IfOk result (λ found. AreFirstMoves B.geometry position.now asked.now.n asked.now.part
+    ensures effects { IfOk result (λ found. AreFirstMoves B.geometry position.now asked.now.n.value asked.now.part
         asked.now.parts found.effects) }
     ensures stop { IsErrOf result Limit → desk.new.solver.expanded ≡ u64.MAX }
 {

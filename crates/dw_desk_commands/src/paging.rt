@@ -230,7 +230,8 @@ fn found<B: Board, W: DeskWatcher>(
     number: u32,
     position: &Position<B>,
 ) -> Result<Finding<B>, Stop>
-    ensures finding { IfOk result (λ finding. IsFinding B.geometry position.now asked.now.moves (told_by finding)) }
+    ensures finding { IfOk result (λ finding. IsFinding B.geometry position.now asked.now.moves.value
+        (told_by finding)) }
     ensures judged { IfOk result (λ finding. is_open (told_by finding) ≡ false) }
     ensures stop { IsErrOf result Limit → desk.new.solver.expanded ≡ u64.MAX }
 {
@@ -253,8 +254,8 @@ fn judged_within<B: Board, W: DeskWatcher>(
     position: &Position<B>,
 ) -> Result<Judged<B>, Stop>
     ensures verdict { IfOk result (λ judged.
-        IsVerdict B.geometry position.now asked.now.moves (said_by judged.verdict)) }
-    ensures tries { IfOk result (λ judged. Tries B.geometry position.now asked.now.moves judged.tries.items) }
+        IsVerdict B.geometry position.now asked.now.moves.value (said_by judged.verdict)) }
+    ensures tries { IfOk result (λ judged. Tries B.geometry position.now asked.now.moves.value judged.tries.items) }
     ensures stop { IsErrOf result Limit → desk.new.solver.expanded ≡ u64.MAX }
 {
     desk.begin(slices, number);
@@ -272,11 +273,9 @@ fn judged_part<B: Board>(
     section: &[u8],
     later: &mut Vec<u8>,
 ) -> Result<Vec<u8>, Stop>
-    requires some { 1 ≤ task.now.moves }
-    requires few { task.now.moves ≤ 20 }
-    requires verdict { IsVerdict B.geometry task.now.position.now task.now.moves (said_by judged.now.verdict) }
-    requires tries { Tries B.geometry task.now.position.now task.now.moves judged.now.tries.items }
-    requires asked { IsAskedIn B.geometry asked.now task.now.position.now task.now.moves }
+    requires verdict { IsVerdict B.geometry task.now.position.now task.now.moves.value (said_by judged.now.verdict) }
+    requires tries { Tries B.geometry task.now.position.now task.now.moves.value judged.now.tries.items }
+    requires asked { IsAskedIn B.geometry asked.now task.now.position.now task.now.moves.value }
     ensures part { IfOk result (λ part. (new : List ℕ)
         × IsPositionPart B.geometry asked.now task.now.number task.now.position.now section.now part.items new
         × (later.new.items ≡ later.old.items ++ new)) }
@@ -298,13 +297,11 @@ fn push_placed<B: Board>(
     part: &mut Vec<u8>,
     later: &mut Vec<u8>,
 ) -> Result<(), Stop>
-    requires some { 1 ≤ task.now.moves }
-    requires few { task.now.moves ≤ 20 }
-    requires verdict { IsVerdict B.geometry task.now.position.now task.now.moves (said_by judged.now.verdict) }
-    requires tries { Tries B.geometry task.now.position.now task.now.moves judged.now.tries.items }
+    requires verdict { IsVerdict B.geometry task.now.position.now task.now.moves.value (said_by judged.now.verdict) }
+    requires tries { Tries B.geometry task.now.position.now task.now.moves.value judged.now.tries.items }
     ensures solution { OnOk result ((behind new : List ℕ) × Stands asked.now.solutions (IsSolved B.geometry
         (language_for asked.now.language) asked.now.lines asked.now.tries task.now.number
-        task.now.position.now task.now.moves) behind
+        task.now.position.now task.now.moves.value) behind
         new
         × (part.new.items ≡ part.old.items ++ behind) × (later.new.items ≡ later.old.items ++ new)) }
     ensures stop { IsErrOf result Limit → desk.new.solver.expanded ≡ u64.MAX }
@@ -332,7 +329,7 @@ fn push_tagged<B: Board>(
 ) -> Result<(), Stop>
     ensures text { OnOk result ((tags : List TagText) × AreTags section.now tags × (page.new.items ≡ page.old.items
         ++ task_part B.geometry asked.now task.now.number task.now.position.now (map (λ t. t.tag) tags)
-        task.now.moves)) }
+        task.now.moves.value)) }
     ensures stop { result ≡ Err Limit → ⊥ }
 {
     let tags = read_tags(desk.alloc, section)?;
@@ -371,12 +368,10 @@ fn push_solved<B: Board>(
     is_apart: bool,
     page: &mut Vec<u8>,
 ) -> Result<(), Stop>
-    requires some { 1 ≤ task.now.moves }
-    requires few { task.now.moves ≤ 20 }
-    requires verdict { IsVerdict B.geometry task.now.position.now task.now.moves (said_by judged.now.verdict) }
-    requires tries { Tries B.geometry task.now.position.now task.now.moves judged.now.tries.items }
+    requires verdict { IsVerdict B.geometry task.now.position.now task.now.moves.value (said_by judged.now.verdict) }
+    requires tries { Tries B.geometry task.now.position.now task.now.moves.value judged.now.tries.items }
     ensures solution { OnOk result ((text : List ℕ) × IsSolved B.geometry (language_for asked.now.language)
-        asked.now.lines asked.now.tries task.now.number task.now.position.now task.now.moves is_apart text
+        asked.now.lines asked.now.tries task.now.number task.now.position.now task.now.moves.value is_apart text
         × (page.new.items ≡ page.old.items ++ text)) }
     ensures stop { IsErrOf result Limit → desk.new.solver.expanded ≡ u64.MAX }
 {
@@ -386,7 +381,7 @@ fn push_solved<B: Board>(
         desk.alloc,
         language_of(asked.language),
         position,
-        task.moves,
+        task.moves.value,
         judged,
     )?;
     let tries = tries_shown(desk.alloc, asked.tries, position, judged)?;

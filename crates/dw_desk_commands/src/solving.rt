@@ -25,6 +25,7 @@ use dw_report::{Stop, refusal_text};
 use dw_rows::solution_row;
 use dw_solution::movetext::movetext;
 use dw_solution::{FirstLines, Heading, SolutionText, VerdictKind, first_lines};
+use dw_stipulation::MoveCount;
 use dw_study::{Slices, verdict_in_slices, wins_resuming};
 use dw_verdict::Verdict;
 use itoa::Buffer;
@@ -182,10 +183,8 @@ fn number_for<B: Board, W: DeskWatcher>(
     slices: &mut Slices<W>,
     asked: &SolutionArgs,
     position: &Position<B>,
-) -> Result<u8, Stop>
-    ensures number { IfOk result (IsNumberOf B.geometry asked.now position.now) }
-    ensures some { IfOk result (λ moves. 1 ≤ moves) }
-    ensures few { IfOk result (λ moves. moves ≤ 20) }
+) -> Result<MoveCount, Stop>
+    ensures number { IfOk result (λ moves. IsNumberOf B.geometry asked.now position.now moves.value) }
     ensures stop { IsErrOf result Limit → desk.new.solver.expanded ≡ u64.MAX }
 {
     if asked.is_least {
@@ -200,20 +199,16 @@ fn least_number<B: Board, W: DeskWatcher>(
     desk: &mut Desk<B>,
     slices: &mut Slices<W>,
     position: &Position<B>,
-    most: u8,
-) -> Result<u8, Stop>
-    requires some { 1 ≤ most }
-    requires few { most ≤ 20 }
-    ensures number { IfOk result (IsJudgedAt B.geometry position.now most) }
-    ensures some { IfOk result (λ moves. 1 ≤ moves) }
-    ensures few { IfOk result (λ moves. moves ≤ most) }
+    most: MoveCount,
+) -> Result<MoveCount, Stop>
+    ensures number { IfOk result (λ moves. IsJudgedAt B.geometry position.now most.value moves.value) }
     ensures stop { IsErrOf result Limit → desk.new.solver.expanded ≡ u64.MAX }
 {
     dw_solve::laws::wins_are_decided();
     slices.begin(desk.solver.expanded());
-    'moves: for moves in 1..most {
-        if wins_resuming(desk.alloc, &mut desk.solver, position, moves, slices)? {
-            return Ok(moves);
+    'moves: for value in 1..most.value {
+        if wins_resuming(desk.alloc, &mut desk.solver, position, value, slices)? {
+            return Ok(MoveCount { value });
         }
     }
     Ok(most)
@@ -227,19 +222,17 @@ pub(crate) struct Solved<B: Board> {
     pub(crate) movetext: SolutionText,
 }
 
-/// Makes the solution of a position within `moves` moves, 1 to 20, with at most `lines` lines. The verdict must be that
-/// of the position.
+/// Makes the solution of a position within `moves` moves, with at most `lines` lines. The verdict must be that of the
+/// position.
 pub(crate) fn solved_within<B: Board>(
     desk: &mut Desk<B>,
     position: &Position<B>,
-    moves: u8,
+    moves: MoveCount,
     lines: usize,
     verdict: &Verdict<B>,
 ) -> Result<Solved<B>, Stop>
-    requires some { 1 ≤ moves }
-    requires few { moves ≤ 20 }
-    requires verdict { IsVerdict B.geometry position.now moves (said_by verdict.now) }
-    ensures solved { IfOk result (λ s. IsMovetextOf B.geometry position.now moves lines s.heading s.first
+    requires verdict { IsVerdict B.geometry position.now moves.value (said_by verdict.now) }
+    ensures solved { IfOk result (λ s. IsMovetextOf B.geometry position.now moves.value lines s.heading s.first
         s.movetext.lines s.movetext.text.items) }
     ensures stop { IsErrOf result Limit → desk.new.solver.expanded ≡ u64.MAX }
 {
@@ -247,7 +240,7 @@ pub(crate) fn solved_within<B: Board>(
     let first = first_lines(desk.alloc, &mut desk.solver, position, moves, lines)?;
     let heading = Heading {
         kind: kind_of(verdict),
-        moves,
+        moves: moves.value,
     };
     let movetext = movetext(desk.alloc, &first, heading)?;
     Ok(Solved {

@@ -18,23 +18,22 @@ use dw_moves::Move;
 use dw_moves::listed::listed;
 use dw_moves::play::play;
 use dw_solve::{Guide, Solver, Stop};
+use dw_stipulation::MoveCount;
 use dw_study::{Slices, Watcher, wins_resuming};
 use std::alloc::{AllocError, Global};
 
-/// Finds the effect of a legal move within `moves` moves, 1 to 20. It looks for a win within 1 move, then within 2 and
+/// Finds the effect of a legal move within `moves` moves. It looks for a win within 1 move, then within 2 and
 /// so on. If there is none, it looks at each reply within the moves left after the first.
 pub(crate) fn effect_of<B: Board, M: Memo<B>, G: Guide<B>, W: Watcher>(
     alloc: Global,
     solver: &mut Solver<B, M, G>,
     position: &Position<B>,
     mv: &Move<B>,
-    moves: u8,
+    moves: MoveCount,
     slices: &mut Slices<W>,
 ) -> Result<Effect<B>, Stop>
     requires legal { Legal B.geometry position.now mv.now }
-    requires some { 1 ≤ moves }
-    requires few { moves ≤ 20 }
-    ensures effect { IfOk result (λ effect. HasEffect B.geometry position.now moves mv.now (effect_of effect)) }
+    ensures effect { IfOk result (λ effect. HasEffect B.geometry position.now moves.value mv.now (effect_of effect)) }
     ensures count { IsCounted solver.old.expanded solver.old.limit solver.new.expanded solver.new.limit }
     ensures stop { IsErrOf result Limit → solver.new.expanded ≡ solver.new.limit }
     ensures right { AreTrue B.geometry (M.content solver.new.memo) }
@@ -44,14 +43,14 @@ pub(crate) fn effect_of<B: Board, M: Memo<B>, G: Guide<B>, W: Watcher>(
     solver.keeps_its_limit();
     solver.keeps_its_facts();
     let after = play(position, mv);
-    'moves: for left in 0..moves - 1 {
+    'moves: for left in 0..moves.value - 1 {
         if is_lost(alloc, solver, &after, left, slices)? {
             return Ok(Effect::WinsIn(left + 1));
         }
     }
-    let replies = refutations(alloc, solver, &after, moves - 1, slices)?;
+    let replies = refutations(alloc, solver, &after, moves.value - 1, slices)?;
     if replies.is_empty() {
-        Ok(Effect::WinsIn(moves))
+        Ok(Effect::WinsIn(moves.value))
     } else {
         Ok(Effect::RefutedBy(replies))
     }

@@ -19,25 +19,24 @@ use dw_moves::Move;
 use dw_moves::listed::listed;
 use dw_parts::{Part, part_of};
 use dw_solve::{Guide, Solver, Stop};
+use dw_stipulation::MoveCount;
 use dw_study::{Slices, Watcher};
 use std::alloc::{AllocError, Global};
 
-/// Finds the effects of the legal moves of a part, in the order of moves. `moves`, the number of moves of the side to
-/// move, must be 1 to 20. An effect is the least number of moves within which the move wins; or it is the list of all
-/// replies after which there is no win within the moves then left. The slices start again, and no answer depends on
-/// them. After a stop all bounds in the memo are right, and the call can be repeated.
+/// Finds the effects of the legal moves of a part within `moves` moves of the side to move, in the order of moves. An
+/// effect is the least number of moves within which the move wins; or it is the list of all replies after which there
+/// is no win within the moves then left. The slices start again, and no answer depends on them. After a stop all bounds
+/// in the memo are right, and the call can be repeated.
 pub fn first_moves<B: Board, M: Memo<B>, G: Guide<B>, W: Watcher>(
     alloc: Global,
     solver: &mut Solver<B, M, G>,
     position: &Position<B>,
-    moves: u8,
+    moves: MoveCount,
     part: Part,
     slices: &mut Slices<W>,
 ) -> Result<FirstMoves<B>, Stop>
-    requires some { 1 ≤ moves }
-    requires few { moves ≤ 20 }
     ensures start { IfOk result (λ found. found.start ≡ position.now) }
-    ensures effects { IfOk result (λ found. AreFirstMoves B.geometry position.now moves part.number part.parts
+    ensures effects { IfOk result (λ found. AreFirstMoves B.geometry position.now moves.value part.number part.parts
         found.effects) }
     ensures count { IsCounted solver.old.expanded solver.old.limit solver.new.expanded solver.new.limit }
     ensures stop { IsErrOf result Limit → solver.new.expanded ≡ solver.new.limit }
@@ -75,13 +74,12 @@ fn effects_of<B: Board, M: Memo<B>, G: Guide<B>, W: Watcher>(
     solver: &mut Solver<B, M, G>,
     position: &Position<B>,
     some: &[Move<B>],
-    moves: u8,
+    moves: MoveCount,
     slices: &mut Slices<W>,
 ) -> Result<Vec<FirstMove<B>>, Stop>
     requires legal { (m : of.Move) → Member m some.now → Legal B.geometry position.now m }
-    requires some { 1 ≤ moves }
-    requires few { moves ≤ 20 }
-    ensures done { IfOk result (λ done. AreEffects B.geometry position.now moves some.now (map told_by done.items)) }
+    ensures done { IfOk result (λ done. AreEffects B.geometry position.now moves.value some.now
+        (map told_by done.items)) }
     ensures count { IsCounted solver.old.expanded solver.old.limit solver.new.expanded solver.new.limit }
     ensures stop { IsErrOf result Limit → solver.new.expanded ≡ solver.new.limit }
     ensures right { AreTrue B.geometry (M.content solver.new.memo) }

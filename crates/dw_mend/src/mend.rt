@@ -15,7 +15,7 @@ ghost use Rattle.dw_mend.specs.Mending.{IsMendText, IsMendStop, AreBounded, AreM
 ghost use Rattle.dw_parts.specs.Parts.{part_of};
 ghost use Rattle.dw_mend.specs.Telling.{told_by};
 ghost use Rattle.dw_mend.specs.declared.mend.MendFault.TheVariants as because;
-ghost use Rattle.dw_mend.specs.inner.Mending.{IsSoundnessOf, IsUndecided, Adds, CanAsk, Goes, Leaves};
+ghost use Rattle.dw_mend.specs.inner.Mending.{IsSoundnessOf, IsUndecided, Adds, Goes, Leaves};
 
 use crate::neighbours::{Neighbour, neighbours};
 use crate::rows::{Wording, last_line, line_of};
@@ -26,6 +26,7 @@ use dw_moves::Move;
 use dw_notation::{Sink, WriteFault, write_all};
 use dw_parts::{Part, part_of};
 use dw_solve::{Guide, Solver, Stop};
+use dw_stipulation::MoveCount;
 use dw_study::{Slices, Watcher};
 use std::alloc::{AllocError, Global};
 use thiserror::Error;
@@ -33,8 +34,8 @@ use thiserror::Error;
 /// The neighbours to look at, and the bounds of the search.
 #[derive(Clone, Copy, Debug, PartialEq, Eq)]
 pub struct MendBounds {
-    /// The number of moves in which a neighbour must be sound, 1 to 20.
-    pub moves: u8,
+    /// The number of moves in which a neighbour must be sound.
+    pub moves: MoveCount,
     /// The most positions to expand for each neighbour, at least 1. `None` sets no bound.
     pub each: Option<u64>,
     /// The part of the neighbours to look at.
@@ -103,12 +104,10 @@ pub fn mend<B: Board, M: Memo<B>, G: Guide<B>, W: Watcher, K: Sink>(
     slices: &mut Slices<W>,
     sink: &mut K,
 ) -> Result<Mended, MendFault>
-    requires some { 1 ≤ bounds.moves }
-    requires few { bounds.moves ≤ 20 }
     requires room { IfSome bounds.each (λ bound. 1 ≤ bound) }
     requires works { K.is_failed sink.old ≡ false }
     ensures text { IfOk result (λ mended. (text : List ℕ)
-        × IsMendText bounds.wording B.geometry position.now bounds.moves bounds.part.number bounds.part.parts
+        × IsMendText bounds.wording B.geometry position.now bounds.moves.value bounds.part.number bounds.part.parts
         mended.all mended.sound mended.undecided text
         × Appends (K.taken sink.old) (K.taken sink.new) text) }
     ensures bounded { IfOk result (λ mended. AreBounded bounds.each mended.all mended.undecided solver.old.expanded
@@ -116,8 +115,8 @@ pub fn mend<B: Board, M: Memo<B>, G: Guide<B>, W: Watcher, K: Sink>(
     ensures stopped { (stop : _) (all : List (Changed × Placement)) → AreNeighbours B.geometry position.now all
         → result ≡ Err (because.Stopped stop)
         → (text : List ℕ)
-        × IsMendStop bounds.wording B.geometry bounds.moves (part_of bounds.part.number bounds.part.parts all) text
-        × Appends (K.taken sink.old) (K.taken sink.new) text }
+        × IsMendStop bounds.wording B.geometry bounds.moves.value (part_of bounds.part.number bounds.part.parts all)
+        text × Appends (K.taken sink.old) (K.taken sink.new) text }
     ensures count { IsCounted solver.old.expanded solver.old.limit solver.new.expanded solver.new.limit }
     ensures stop { result ≡ Err (because.Stopped Limit) → solver.new.expanded ≡ solver.new.limit }
     ensures right { AreTrue B.geometry (M.content solver.new.memo) }
@@ -146,17 +145,17 @@ fn mend_these<B: Board, M: Memo<B>, G: Guide<B>, W: Watcher, K: Sink>(
     slices: &mut Slices<W>,
     sink: &mut K,
 ) -> Result<Mended, MendFault>
-    requires asks { CanAsk bounds.moves bounds.each }
+    requires room { IfSome bounds.each (λ bound. 1 ≤ bound) }
     requires works { K.is_failed sink.old ≡ false }
     ensures text { IfOk result (λ mended. (text : List ℕ)
-        × AreMended bounds.wording B.geometry bounds.moves (map told_by some.now) text
+        × AreMended bounds.wording B.geometry bounds.moves.value (map told_by some.now) text
         (record { sound = mended.sound; undecided = mended.undecided })
         × Appends (K.taken sink.old) (K.taken sink.new) text) }
     ensures all { IfOk result (λ mended. mended.all ≡ length some.now) }
     ensures bounded { IfOk result (λ mended. AreBounded bounds.each mended.all mended.undecided solver.old.expanded
         solver.new.expanded) }
     ensures stopped { (stop : _) → result ≡ Err (because.Stopped stop)
-        → (text : List ℕ) × IsMendStop bounds.wording B.geometry bounds.moves (map told_by some.now) text
+        → (text : List ℕ) × IsMendStop bounds.wording B.geometry bounds.moves.value (map told_by some.now) text
         × Appends (K.taken sink.old) (K.taken sink.new) text }
     ensures leaves { Leaves B.geometry M.content solver.old solver.new result }
     ensures sink { OnOk result (K.is_failed sink.new ≡ false) }
@@ -175,7 +174,7 @@ fn mend_these<B: Board, M: Memo<B>, G: Guide<B>, W: Watcher, K: Sink>(
             Soundness::Unsound => {}
             Soundness::Undecided => mended.undecided += 1,
         }
-        slices.tell(bounds.moves, solver.expanded());
+        slices.tell(bounds.moves.value, solver.expanded());
     }
     Ok(mended)
 }
@@ -213,10 +212,10 @@ fn write_found<B: Board, M: Memo<B>, G: Guide<B>, W: Watcher, K: Sink>(
     slices: &mut Slices<W>,
     sink: &mut K,
 ) -> Result<Soundness<B>, MendFault>
-    requires asks { CanAsk bounds.moves bounds.each }
+    requires room { IfSome bounds.each (λ bound. 1 ≤ bound) }
     requires works { K.is_failed sink.old ≡ false }
     ensures text { IfOk result (λ found. (text : List ℕ)
-        × Adds bounds.wording B.geometry bounds.moves (told_by neighbour.now) found text
+        × Adds bounds.wording B.geometry bounds.moves.value (told_by neighbour.now) found text
         × Appends (K.taken sink.old) (K.taken sink.new) text) }
     ensures goes { Goes bounds.each solver.old.expanded solver.old.limit solver.new.expanded solver.new.limit result }
     ensures stopped { (stop : _) → result ≡ Err (because.Stopped stop) → K.taken sink.new ≡ K.taken sink.old }
@@ -227,7 +226,7 @@ fn write_found<B: Board, M: Memo<B>, G: Guide<B>, W: Watcher, K: Sink>(
 {
     let found = found_of(alloc, solver, &neighbour.position, bounds, slices)?;
     if let Soundness::Sound(key) = &found {
-        let line = line_of(alloc, bounds.wording, neighbour, bounds.moves, key)?;
+        let line = line_of(alloc, bounds.wording, neighbour, bounds.moves.value, key)?;
         slices.watcher.make_way();
         write_all(sink, line.as_str().as_bytes())?;
     }
@@ -242,8 +241,8 @@ fn found_of<B: Board, M: Memo<B>, G: Guide<B>, W: Watcher>(
     bounds: MendBounds,
     slices: &mut Slices<W>,
 ) -> Result<Soundness<B>, Stop>
-    requires asks { CanAsk bounds.moves bounds.each }
-    ensures found { IfOk result (IsSoundnessOf B.geometry position.now bounds.moves) }
+    requires room { IfSome bounds.each (λ bound. 1 ≤ bound) }
+    ensures found { IfOk result (IsSoundnessOf B.geometry position.now bounds.moves.value) }
     ensures spent { IfOk result (λ found. IsUndecided found → (bound : ℕ) × (bounds.each ≡ Some bound)
         × (solver.new.expanded ≡ solver.old.expanded + bound)) }
     ensures few { IfSome bounds.each (λ bound. solver.new.expanded ≤ solver.old.expanded + bound) }
@@ -263,11 +262,10 @@ fn found_by_key<B: Board, M: Memo<B>, G: Guide<B>, W: Watcher>(
     alloc: Global,
     solver: &mut Solver<B, M, G>,
     position: &Position<B>,
-    moves: u8,
+    moves: MoveCount,
     slices: &mut Slices<W>,
 ) -> Result<Soundness<B>, Stop>
-    requires asks { (1 ≤ moves) × (moves ≤ 20) }
-    ensures found { IfOk result (λ found. IsSoundnessOf B.geometry position.now moves found
+    ensures found { IfOk result (λ found. IsSoundnessOf B.geometry position.now moves.value found
         × (IsUndecided found → ⊥)) }
     ensures count { IsCounted solver.old.expanded solver.old.limit solver.new.expanded solver.new.limit }
     ensures stop { IsErrOf result Limit → solver.new.expanded ≡ solver.new.limit }
@@ -282,12 +280,12 @@ fn found_within<B: Board, M: Memo<B>, G: Guide<B>, W: Watcher>(
     alloc: Global,
     solver: &mut Solver<B, M, G>,
     position: &Position<B>,
-    moves: u8,
+    moves: MoveCount,
     bound: u64,
     slices: &mut Slices<W>,
 ) -> Result<Soundness<B>, Stop>
-    requires asks { CanAsk moves (Some bound) }
-    ensures found { IfOk result (IsSoundnessOf B.geometry position.now moves) }
+    requires room { 1 ≤ bound }
+    ensures found { IfOk result (IsSoundnessOf B.geometry position.now moves.value) }
     ensures spent { IfOk result (λ found. IsUndecided found → solver.new.expanded ≡ solver.old.expanded + bound) }
     ensures few { solver.new.expanded ≤ solver.old.expanded + bound }
     ensures count { IsCounted solver.old.expanded solver.old.limit solver.new.expanded solver.new.limit }

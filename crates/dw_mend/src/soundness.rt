@@ -12,25 +12,24 @@ use dw_board::{Board, Position};
 use dw_memo::Memo;
 use dw_moves::Move;
 use dw_solve::{Guide, Solver, Stop};
+use dw_stipulation::MoveCount;
 use dw_study::{Slices, Watcher, verdict_resuming, wins_resuming};
 use dw_verdict::Verdict;
 use std::alloc::Global;
 
 /// Finds the key of a position that is sound within `moves` moves of the side to move; it is `None` if the position is
-/// not sound. `moves` must be 1 to 20. The slices continue earlier ones, and no answer depends on them. After a stop
+/// not sound. The slices continue earlier ones, and no answer depends on them. After a stop
 /// all bounds in the memo are right, and the call can be repeated.
 pub fn sound_key<B: Board, M: Memo<B>, G: Guide<B>, W: Watcher>(
     alloc: Global,
     solver: &mut Solver<B, M, G>,
     position: &Position<B>,
-    moves: u8,
+    moves: MoveCount,
     slices: &mut Slices<W>,
 ) -> Result<Option<Move<B>>, Stop>
-    requires some { 1 ≤ moves }
-    requires few { moves ≤ 20 }
     ensures key { IfOk result (λ key. MatchOption key
-        ((m : AnyMove) → IsVerdict B.geometry position.now moves (sound m) → ⊥)
-        (λ m. IsVerdict B.geometry position.now moves (sound m))) }
+        ((m : AnyMove) → IsVerdict B.geometry position.now moves.value (sound m) → ⊥)
+        (λ m. IsVerdict B.geometry position.now moves.value (sound m))) }
     ensures count { IsCounted solver.old.expanded solver.old.limit solver.new.expanded solver.new.limit }
     ensures stop { IsErrOf result Limit → solver.new.expanded ≡ solver.new.limit }
     ensures right { AreTrue B.geometry (M.content solver.new.memo) }
@@ -39,10 +38,10 @@ pub fn sound_key<B: Board, M: Memo<B>, G: Guide<B>, W: Watcher>(
     ensures start { slices.new.start ≡ slices.old.start }
 {
     dw_verdict::laws::one_verdict();
-    if !wins_resuming(alloc, solver, position, moves, slices)? {
+    if !wins_resuming(alloc, solver, position, moves.value, slices)? {
         return Ok(None);
     }
-    if wins_resuming(alloc, solver, position, moves - 1, slices)? {
+    if wins_resuming(alloc, solver, position, moves.value - 1, slices)? {
         return Ok(None);
     }
     let verdict = verdict_resuming(alloc, solver, position, moves, slices)?;

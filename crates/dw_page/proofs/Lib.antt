@@ -1,4 +1,3 @@
-pub mod AppendLemmas
 pub mod EscapingLemmas
 pub mod DrawingLemmas
 pub mod JoinLemmas

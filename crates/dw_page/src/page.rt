@@ -18,6 +18,7 @@ use crate::style::STYLE;
 use crate::words::{Language, Phrase};
 use dw_board::{Board, Position};
 use dw_solution::FirstLines;
+use dw_stipulation::MoveCount;
 use itoa::Buffer;
 use std::alloc::{AllocError, Global};
 
@@ -38,8 +39,8 @@ pub struct Look<'a> {
 pub struct Task<'a, B: Board> {
     pub number: u32,
     pub position: &'a Position<B>,
-    /// The number of moves, 1 to 20.
-    pub moves: u8,
+    /// The number of moves.
+    pub moves: MoveCount,
 }
 
 /// The values of a problem's tags that a page shows.
@@ -137,7 +138,7 @@ pub fn push_problem<B: Board>(
 ) -> Result<(), AllocError>
     ensures { OnOk result (page.new.items ≡ page.old.items
         ++ problem B.geometry look.now.language look.now.numbers task.now.number (author_of heading.now)
-        (values_of heading.now) task.now.position.now task.now.moves) }
+        (values_of heading.now) task.now.position.now task.now.moves.value) }
 {
     push_begin(alloc, page, task.number, heading)?;
     push_diagram(alloc, page, task.position, look.numbers)?;
@@ -153,14 +154,14 @@ fn push_task<B: Board>(
     task: &Task<'_, B>,
 ) -> Result<(), AllocError>
     ensures { OnOk result (page.new.items ≡ page.old.items
-        ++ of.task language task.now.position.now.turn task.now.moves) }
+        ++ of.task language task.now.position.now.turn task.now.moves.value) }
 {
     let mut digits = Buffer::new();
     let texts = [
         "\n<p class=\"task\">",
         language.task(task.position.turn()),
-        digits.format(task.moves),
-        language.moves(task.moves),
+        digits.format(task.moves.value),
+        language.moves(task.moves.value),
         "</p>\n",
     ];
     push_all(alloc, page, &texts)?;

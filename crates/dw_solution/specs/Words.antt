@@ -28,7 +28,7 @@ dots half = if half % 2 == 0 then codes "." else codes "..."
 abbrev pub number_word : Style → ℕ → List ℕ
 number_word shown half = shown (plain_text (decimal (half / 2 + 1))) ++ shown (plain_text (dots half))
 
--- the number before a move, if it has one: one of White's always, one of Black's where it is due
+-- the number before a move, if it has one: one of White's always, one of Black's if it is due
 abbrev pub number_words : Style → ℕ → (due : Bool) → List (List ℕ)
 number_words shown half due = if due || (half % 2 == 0) then number_word shown half ∷ [] else []
 

@@ -15,21 +15,19 @@ use dw_board::{Board, Position};
 use dw_list::Lister;
 use dw_memo::Memo;
 use dw_solve::{Guide, Solver, Stop};
+use dw_stipulation::MoveCount;
 use std::alloc::Global;
 
-/// Lists the first `most` lines in which the side to move wins, and says whether there are more. `moves`, the number of
-/// its moves, must be 1 to 20. It lists the lines one by one, and holds only their tree. After a stop the call can be
-/// repeated.
+/// Lists the first `most` lines in which the side to move wins within `moves` moves, and says whether there are more.
+/// It lists the lines one by one, and holds only their tree. After a stop the call can be repeated.
 pub fn first_lines<B: Board, M: Memo<B>, G: Guide<B>>(
     alloc: Global,
     solver: &mut Solver<B, M, G>,
     position: &Position<B>,
-    moves: u8,
+    moves: MoveCount,
     most: usize,
 ) -> Result<FirstLines<B>, Stop>
-    requires some { 1 ≤ moves }
-    requires few { moves ≤ 20 }
-    ensures lines { (lines : List (List of.Move)) → Lines B.geometry position.now moves lines
+    ensures lines { (lines : List (List of.Move)) → Lines B.geometry position.now moves.value lines
         → IfOk result (λ first. first ≡ record {
           start = position.now;
           lines = take most lines;
@@ -40,7 +38,7 @@ pub fn first_lines<B: Board, M: Memo<B>, G: Guide<B>>(
 {
     dw_list::laws::lines_exist();
     solver.keeps_its_limit();
-    let mut lister = Lister::start(solver, position, moves);
+    let mut lister = Lister::start(solver, position, moves.value);
     let first = taken(alloc, &mut lister, most);
     // A lister that is only dropped would not tell how many positions its solver has expanded.
     let _ = lister.into_solver();

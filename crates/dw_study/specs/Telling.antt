@@ -24,13 +24,13 @@ use Rattle.dw_study.specs.declared.remark.Remark.TheVariants.{Fails, Also, Open,
 
 -- the value of a finding
 abbrev pub told_by : {B : Type 0} → findings.Finding B → Finding
-told_by (Judged k it) = judged k (said_by it.verdict) it.tries.items
+told_by (Judged k it) = judged k.value (said_by it.verdict) it.tries.items
 told_by (Undecided k) = undecided k
 
 -- the most moves within which a win was searched for: those of the verdict; if the number stays open, one more than the
 -- moves known to be too few; n if the search was stopped
 abbrev pub searched_to : {B : Type 0} → Result (findings.Finding B) Stop → ℕ → ℕ
-searched_to (Ok (Judged k it)) n = k
+searched_to (Ok (Judged k it)) n = k.value
 searched_to (Ok (Undecided k)) n = k + 1
 searched_to (Err stop) n = n
 
@@ -63,7 +63,7 @@ pub record KnownInTime {M : Type 0} (g : Geometry) (content : M → Content) (lo
 abbrev pub IsKnownInTime : {M B : Type 0} → Geometry → (M → Content) → (M → ℕ) → Placement → (n first : ℕ)
     → (each : Option ℕ) → Solving M → Solving M → findings.Finding B → Type 0
 IsKnownInTime g content lost p n first each old new (Judged k it) =
-    KnownInTime g content lost p n first each old new k
+    KnownInTime g content lost p n first each old new k.value
 IsKnownInTime g content lost p n first each old new (Undecided k) = Unit {0}
 
 -- the value of a remark, whose beginning is given by its place in a tree

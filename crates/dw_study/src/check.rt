@@ -18,25 +18,24 @@ use dw_board::Board;
 use dw_games::Tree;
 use dw_memo::Memo;
 use dw_solve::{Guide, Solver, Stop};
+use dw_stipulation::MoveCount;
 use std::alloc::Global;
 
-/// Compares an author's solution with all wins, and returns its remarks and whether there is a win. The number of moves
-/// must be 1 to 20. A move that fails gets a remark, and the moves after it are not examined. The slices start
-/// again; no answer depends on them. After a stop all bounds in the memo are right, and the call can be repeated.
+/// Compares an author's solution with all wins, and returns its remarks and whether there is a win. A move that fails
+/// gets a remark, and the moves after it are not examined. The slices start again; no answer depends on them. After a
+/// stop all bounds in the memo are right, and the call can be repeated.
 pub fn check<B: Board, M: Memo<B>, G: Guide<B>, W: Watcher>(
     alloc: Global,
     solver: &mut Solver<B, M, G>,
     tree: &Tree<B>,
-    moves: u8,
+    moves: MoveCount,
     slices: &mut Slices<W>,
 ) -> Result<Checked<B>, Stop>
-    requires some { 1 ≤ moves }
-    requires few { moves ≤ 20 }
-    ensures wins { IfOk result (λ checked. IsTrue checked.wins ↔ Win B.geometry tree.now.start moves) }
+    ensures wins { IfOk result (λ checked. IsTrue checked.wins ↔ Win B.geometry tree.now.start moves.value) }
     ensures remarks { IfOk result (λ checked. Say tree.now.paths checked.remarks.items
-        (AreRemarks B.geometry tree.now.paths moves tree.now.start [])) }
-    ensures began { Began B.geometry M.content M.dropped moves (cut_off result moves) slices.old slices.new solver.old
-        solver.new result }
+        (AreRemarks B.geometry tree.now.paths moves.value tree.now.start [])) }
+    ensures began { Began B.geometry M.content M.dropped moves.value (cut_off result moves.value) slices.old slices.new
+        solver.old solver.new result }
     ensures right { AreTrue B.geometry (M.content solver.new.memo) }
     ensures map { IsMap (M.content solver.new.memo) }
 {
@@ -52,23 +51,21 @@ fn check_resuming<B: Board, M: Memo<B>, G: Guide<B>, W: Watcher>(
     alloc: Global,
     solver: &mut Solver<B, M, G>,
     tree: &Tree<B>,
-    moves: u8,
+    moves: MoveCount,
     slices: &mut Slices<W>,
 ) -> Result<Checked<B>, Stop>
-    requires some { 1 ≤ moves }
-    requires few { moves ≤ 20 }
-    ensures wins { IfOk result (λ checked. IsTrue checked.wins ↔ Win B.geometry tree.now.start moves) }
+    ensures wins { IfOk result (λ checked. IsTrue checked.wins ↔ Win B.geometry tree.now.start moves.value) }
     ensures remarks { IfOk result (λ checked. Say tree.now.paths checked.remarks.items
-        (AreRemarks B.geometry tree.now.paths moves tree.now.start [])) }
-    ensures went { Went B.geometry M.content M.dropped moves slices.old slices.new solver.old solver.new result }
+        (AreRemarks B.geometry tree.now.paths moves.value tree.now.start [])) }
+    ensures went { Went B.geometry M.content M.dropped moves.value slices.old slices.new solver.old solver.new result }
 {
     let position = tree.start();
-    let wins = wins_resuming(alloc, solver, &position, moves, slices)?;
+    let wins = wins_resuming(alloc, solver, &position, moves.value, slices)?;
     let root = CheckNode {
         node: None,
         position,
         attacks: true,
-        left: moves,
+        left: moves.value,
     };
     let remarks = remarks_from(alloc, solver, slices, tree, &root)?;
     Ok(Checked { wins, remarks })

@@ -13,14 +13,14 @@ use crate::slices::{Slices, Watcher};
 use dw_board::{Board, Position};
 use dw_memo::Memo;
 use dw_solve::{Guide, Solver, Stop};
+use dw_stipulation::MoveCount;
 use std::alloc::Global;
 
 /// Finds the least number of moves within which the side to move wins, and judges the position at it. If there is no
-/// win within `bounds.most` moves, it judges at that number. Both bounds must be in the ranges that `FindBounds` gives.
-/// The answer is `Undecided` if the number is not known after `bounds.each` expansions, also if the solver's limit is
-/// met with the last of them. The verdict and the tries have no limit but the solver's own, which stays the same. The
-/// slices start again; no answer depends on them. After a stop all bounds in the memo are right, and the call can be
-/// repeated.
+/// win within `bounds.most` moves, it judges at that number. The answer is `Undecided` if the number is not known after
+/// `bounds.each` expansions, at least 1, also if the solver's limit is met with the last of them. The verdict and the
+/// tries have no limit but the solver's own, which stays the same. The slices start again; no answer depends on them.
+/// After a stop all bounds in the memo are right, and the call can be repeated.
 pub fn find<B: Board, M: Memo<B>, G: Guide<B>, W: Watcher>(
     alloc: Global,
     solver: &mut Solver<B, M, G>,
@@ -28,14 +28,12 @@ pub fn find<B: Board, M: Memo<B>, G: Guide<B>, W: Watcher>(
     bounds: FindBounds,
     slices: &mut Slices<W>,
 ) -> Result<Finding<B>, Stop>
-    requires some { 1 ≤ bounds.most }
-    requires few { bounds.most ≤ 20 }
     requires room { IfSome bounds.each (λ bound. 1 ≤ bound) }
-    ensures finding { IfOk result (λ finding. IsFinding B.geometry position.now bounds.most (told_by finding)) }
+    ensures finding { IfOk result (λ finding. IsFinding B.geometry position.now bounds.most.value (told_by finding)) }
     ensures stays { StaysOpen M.content position.now bounds.each solver.old solver.new result }
-    ensures known { IfOk result (IsKnownInTime B.geometry M.content M.dropped position.now bounds.most slices.old.first
-        bounds.each solver.old solver.new) }
-    ensures began { let within = searched_to result bounds.most in
+    ensures known { IfOk result (IsKnownInTime B.geometry M.content M.dropped position.now bounds.most.value
+        slices.old.first bounds.each solver.old solver.new) }
+    ensures began { let within = searched_to result bounds.most.value in
         Began B.geometry M.content M.dropped within (cut_short result within) slices.old slices.new solver.old
         solver.new result }
     ensures right { AreTrue B.geometry (M.content solver.new.memo) }
@@ -45,7 +43,8 @@ pub fn find<B: Board, M: Memo<B>, G: Guide<B>, W: Watcher>(
     let start = solver.expanded();
     slices.begin(start);
     match number_within(alloc, solver, position, bounds, slices) {
-        Ok(moves) => {
+        Ok(value) => {
+            let moves = MoveCount { value };
             let judged = judge_resuming(alloc, solver, position, moves, slices)?;
             Ok(Finding::Judged { moves, judged })
         }

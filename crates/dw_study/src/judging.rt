@@ -13,6 +13,7 @@ use crate::slices::{Slices, Watcher};
 use dw_board::{Board, Position};
 use dw_memo::Memo;
 use dw_solve::{Guide, Solver, Stop};
+use dw_stipulation::MoveCount;
 use dw_verdict::judge::{judge, verdict};
 use dw_verdict::{Judged, Verdict};
 use std::alloc::Global;
@@ -64,23 +65,20 @@ impl<B: Board> Question<B, Judged<B>> for AllAsked {
     }
 }
 
-/// Returns the verdict and the tries, as `judge` does, with searches in slices. The number of moves must be 1 to 20.
-/// The slices start again; no answer depends on them. After a stop all bounds in the memo are right, and the call can
-/// be repeated.
+/// Returns the verdict and the tries, as `judge` does, with searches in slices. The slices start again; no answer
+/// depends on them. After a stop all bounds in the memo are right, and the call can be repeated.
 pub fn judge_in_slices<B: Board, M: Memo<B>, G: Guide<B>, W: Watcher>(
     alloc: Global,
     solver: &mut Solver<B, M, G>,
     position: &Position<B>,
-    moves: u8,
+    moves: MoveCount,
     slices: &mut Slices<W>,
 ) -> Result<Judged<B>, Stop>
-    requires some { 1 ≤ moves }
-    requires few { moves ≤ 20 }
-    ensures verdict { IfOk result (λ judged. IsVerdict B.geometry position.now moves (said_by judged.verdict)) }
-    ensures tries { IfOk result (λ judged. Tries B.geometry position.now moves judged.tries.items) }
-    ensures began { Began B.geometry M.content M.dropped moves (cut_off result moves) slices.old slices.new solver.old
-        solver.new result }
-    ensures watched { IsWatched W.told moves slices.old.first solver.old.expanded solver.old.expanded
+    ensures verdict { IfOk result (λ judged. IsVerdict B.geometry position.now moves.value (said_by judged.verdict)) }
+    ensures tries { IfOk result (λ judged. Tries B.geometry position.now moves.value judged.tries.items) }
+    ensures began { Began B.geometry M.content M.dropped moves.value (cut_off result moves.value) slices.old slices.new
+        solver.old solver.new result }
+    ensures watched { IsWatched W.told moves.value slices.old.first solver.old.expanded solver.old.expanded
         solver.new.expanded slices.old.watcher slices.new.watcher }
     ensures right { AreTrue B.geometry (M.content solver.new.memo) }
     ensures map { IsMap (M.content solver.new.memo) }
@@ -96,37 +94,33 @@ pub fn judge_resuming<B: Board, M: Memo<B>, G: Guide<B>, W: Watcher>(
     alloc: Global,
     solver: &mut Solver<B, M, G>,
     position: &Position<B>,
-    moves: u8,
+    moves: MoveCount,
     slices: &mut Slices<W>,
 ) -> Result<Judged<B>, Stop>
-    requires some { 1 ≤ moves }
-    requires few { moves ≤ 20 }
-    ensures verdict { IfOk result (λ judged. IsVerdict B.geometry position.now moves (said_by judged.verdict)) }
-    ensures tries { IfOk result (λ judged. Tries B.geometry position.now moves judged.tries.items) }
-    ensures went { Went B.geometry M.content M.dropped moves slices.old slices.new solver.old solver.new result }
-    ensures searched { SearchedSome B.geometry M.content M.dropped moves solver.old solver.new }
-    ensures watched { IsWatched W.told moves slices.old.first slices.old.start solver.old.expanded
+    ensures verdict { IfOk result (λ judged. IsVerdict B.geometry position.now moves.value (said_by judged.verdict)) }
+    ensures tries { IfOk result (λ judged. Tries B.geometry position.now moves.value judged.tries.items) }
+    ensures went { Went B.geometry M.content M.dropped moves.value slices.old slices.new solver.old solver.new result }
+    ensures searched { SearchedSome B.geometry M.content M.dropped moves.value solver.old solver.new }
+    ensures watched { IsWatched W.told moves.value slices.old.first slices.old.start solver.old.expanded
         solver.new.expanded slices.old.watcher slices.new.watcher }
     ensures right { AreTrue B.geometry (M.content solver.new.memo) }
     ensures map { IsMap (M.content solver.new.memo) }
 {
-    ask_resuming(alloc, solver, position, moves, slices, &AllAsked)
+    ask_resuming(alloc, solver, position, moves.value, slices, &AllAsked)
 }
 
-/// Returns the verdict as `judge_in_slices` does, without the tries. The number of moves must be 1 to 20.
+/// Returns the verdict as `judge_in_slices` does, without the tries.
 pub fn verdict_in_slices<B: Board, M: Memo<B>, G: Guide<B>, W: Watcher>(
     alloc: Global,
     solver: &mut Solver<B, M, G>,
     position: &Position<B>,
-    moves: u8,
+    moves: MoveCount,
     slices: &mut Slices<W>,
 ) -> Result<Verdict<B>, Stop>
-    requires some { 1 ≤ moves }
-    requires few { moves ≤ 20 }
-    ensures verdict { IfOk result (λ verdict. IsVerdict B.geometry position.now moves (said_by verdict)) }
-    ensures began { Began B.geometry M.content M.dropped moves (cut_off result moves) slices.old slices.new solver.old
-        solver.new result }
-    ensures watched { IsWatched W.told moves slices.old.first solver.old.expanded solver.old.expanded
+    ensures verdict { IfOk result (λ verdict. IsVerdict B.geometry position.now moves.value (said_by verdict)) }
+    ensures began { Began B.geometry M.content M.dropped moves.value (cut_off result moves.value) slices.old slices.new
+        solver.old solver.new result }
+    ensures watched { IsWatched W.told moves.value slices.old.first solver.old.expanded solver.old.expanded
         solver.new.expanded slices.old.watcher slices.new.watcher }
     ensures right { AreTrue B.geometry (M.content solver.new.memo) }
     ensures map { IsMap (M.content solver.new.memo) }
@@ -136,23 +130,21 @@ pub fn verdict_in_slices<B: Board, M: Memo<B>, G: Guide<B>, W: Watcher>(
     verdict_resuming(alloc, solver, position, moves, slices)
 }
 
-/// Returns the verdict as `judge_resuming` does, without the tries. The number of moves must be 1 to 20.
+/// Returns the verdict as `judge_resuming` does, without the tries.
 pub fn verdict_resuming<B: Board, M: Memo<B>, G: Guide<B>, W: Watcher>(
     alloc: Global,
     solver: &mut Solver<B, M, G>,
     position: &Position<B>,
-    moves: u8,
+    moves: MoveCount,
     slices: &mut Slices<W>,
 ) -> Result<Verdict<B>, Stop>
-    requires some { 1 ≤ moves }
-    requires few { moves ≤ 20 }
-    ensures verdict { IfOk result (λ verdict. IsVerdict B.geometry position.now moves (said_by verdict)) }
-    ensures went { Went B.geometry M.content M.dropped moves slices.old slices.new solver.old solver.new result }
-    ensures searched { SearchedSome B.geometry M.content M.dropped moves solver.old solver.new }
-    ensures watched { IsWatched W.told moves slices.old.first slices.old.start solver.old.expanded
+    ensures verdict { IfOk result (λ verdict. IsVerdict B.geometry position.now moves.value (said_by verdict)) }
+    ensures went { Went B.geometry M.content M.dropped moves.value slices.old slices.new solver.old solver.new result }
+    ensures searched { SearchedSome B.geometry M.content M.dropped moves.value solver.old solver.new }
+    ensures watched { IsWatched W.told moves.value slices.old.first slices.old.start solver.old.expanded
         solver.new.expanded slices.old.watcher slices.new.watcher }
     ensures right { AreTrue B.geometry (M.content solver.new.memo) }
     ensures map { IsMap (M.content solver.new.memo) }
 {
-    ask_resuming(alloc, solver, position, moves, slices, &VerdictAsked)
+    ask_resuming(alloc, solver, position, moves.value, slices, &VerdictAsked)
 }

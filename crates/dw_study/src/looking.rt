@@ -13,6 +13,7 @@ use crate::slices::{Slices, Watcher};
 use dw_board::{Board, Position};
 use dw_memo::Memo;
 use dw_solve::{Guide, Solver, Stop};
+use dw_stipulation::MoveCount;
 use std::alloc::Global;
 
 /// The result of a search that was stopped.
@@ -32,10 +33,8 @@ pub(crate) fn number_within<B: Board, M: Memo<B>, G: Guide<B>, W: Watcher>(
     bounds: FindBounds,
     slices: &mut Slices<W>,
 ) -> Result<u8, Cut>
-    requires some { 1 ≤ bounds.most }
-    requires few { bounds.most ≤ 20 }
     requires room { IfSome bounds.each (λ bound. 1 ≤ bound) }
-    ensures number { IsLooked B.geometry position.now bounds.most result }
+    ensures number { IsLooked B.geometry position.now bounds.most.value result }
     ensures says { IfOk result (λ moves. LostNothing M.content M.dropped solver.old solver.new
         → SaysLeast (M.content solver.new.memo) position.now moves) }
     ensures known { IfErr result (λ cut. (j : ℕ) → SaysLeast (M.content solver.old.memo) position.now j
@@ -71,12 +70,10 @@ fn number<B: Board, M: Memo<B>, G: Guide<B>, W: Watcher>(
     alloc: Global,
     solver: &mut Solver<B, M, G>,
     position: &Position<B>,
-    most: u8,
+    most: MoveCount,
     slices: &mut Slices<W>,
 ) -> Result<u8, Cut>
-    requires some { 1 ≤ most }
-    requires few { most ≤ 20 }
-    ensures number { IsLooked B.geometry position.now most result }
+    ensures number { IsLooked B.geometry position.now most.value result }
     ensures says { IfOk result (λ moves. LostNothing M.content M.dropped solver.old solver.new
         → SaysLeast (M.content solver.new.memo) position.now moves) }
     ensures known { IfErr result (λ cut. (j : ℕ) → SaysLeast (M.content solver.old.memo) position.now j
@@ -86,7 +83,7 @@ fn number<B: Board, M: Memo<B>, G: Guide<B>, W: Watcher>(
 {
     dw_solve::laws::searches_add_up();
     solver.keeps_its_limit();
-    'moves: for moves in 1..most + 1 {
+    'moves: for moves in 1..most.value + 1 {
         match wins_resuming(alloc, solver, position, moves, slices) {
             Ok(true) => return Ok(moves),
             Ok(false) => {}
@@ -98,5 +95,5 @@ fn number<B: Board, M: Memo<B>, G: Guide<B>, W: Watcher>(
             }
         }
     }
-    Ok(most)
+    Ok(most.value)
 }

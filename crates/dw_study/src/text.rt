@@ -22,7 +22,7 @@ pub fn found_text<B: Board>(
     ensures { IfOk result (λ text. IsFoundText B.geometry position.now (told_by finding.now) (string_bytes text)) }
 {
     match finding {
-        Finding::Judged { moves, judged } => judged_text(alloc, position, *moves, judged),
+        Finding::Judged { moves, judged } => judged_text(alloc, position, moves.value, judged),
         Finding::Undecided { no_win_in } => [
             "undecided, no win in ",
             Buffer::new().format(*no_win_in),

@@ -35,12 +35,6 @@ Adds w g n x (Sound key) text = IsVerdict g x.1 n (sound key) × IsLineOf w g n 
 Adds w g n x Unsound text = ((key : Move) → IsVerdict g x.1 n (sound key) → ⊥) × (text ≡ [])
 Adds w g n x Undecided text = text ≡ []
 
--- the bounds for each neighbour: a win within 1 to 20 moves, and one position at least
-pub record CanAsk (n : ℕ) (each : Option ℕ) : Type 0 where
-  pub some : 1 ≤ n
-  pub few : n ≤ 20
-  pub room : IfSome each (λ bound. 1 ≤ bound)
-
 -- after neighbours were looked at each expansion is counted, up to the solver's limit, and its memo is right
 pub record Leaves {M A : Type 0} (g : Geometry) (content : M → Content) (old new : Solving M)
     (result : Result A MendFault) : Type 0 where

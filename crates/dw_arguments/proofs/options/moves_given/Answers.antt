@@ -1,28 +1,24 @@
-use Rattle.std.proofs.Common.{◌≡◌, arith, ◌∙◌, Some, None}
-use Rattle.std.specs.Prelude.{option_and_then}
-use Rattle.std.proofs.lemmas.Bool.Decides.{nat_tests}
-use Rattle.std.proofs.lemmas.Grind.{common_steps}
+use Rattle.std.proofs.Common.{◌≡◌, arith, ◌∙◌, Some, None, ap}
+use Rattle.std.specs.Prelude.{option_and_then, option_map}
 use Rattle.clap.specs.Words.{found_of}
 use Rattle.dw_arguments.specs.Options.{if_within, number_given, options_of}
 use Rattle.dw_arguments.proofs.NumberLemmas.{given_number}
 use Rattle.dw_arguments.proofs.options.moves_given.Goals as goal
 
-pub returns-in_err-moves-clause-value : goal.returns-in_err-moves-clause-value
-returns-in_err-moves-clause-value c =
+pub returns-in_err-moves : goal.returns-in_err-moves
+returns-in_err-moves c =
     let given : option_and_then (if_within 1 20) c.get_one.result
     ≡ number_given 1 20 (options_of c.args.matches.now) c.args.name.now =
     given_number 8 1 20 (found_of c.args.matches.now) c.args.name.now c.get_one.result (omega arith)
     c.get_one.ensures.none c.get_one.ensures.value in
     let none : c.get_one.result ≡ None = c.in_err-moves.was in
-    c.from_residual.ensures ∙ (rw none at given)
+    ap (option_map (λ moves. moves.value)) c.from_residual.ensures ∙ (rw none at given)
 
-pub returns-clause-value : goal.returns-clause-value
-returns-clause-value c =
+pub returns : goal.returns
+returns c =
     let given : option_and_then (if_within 1 20) c.get_one.result
     ≡ number_given 1 20 (options_of c.args.matches.now) c.args.name.now =
     given_number 8 1 20 (found_of c.args.matches.now) c.args.name.now c.get_one.result (omega arith)
     c.get_one.ensures.none c.get_one.ensures.value in
     let some : c.get_one.result ≡ Some c.in_ok-moves.moves = c.in_ok-moves.was in
-    let here : c.then_some.result ≡ if_within 1 20 c.in_ok-moves.moves =
-    c.then_some.ensures ∙ grind (arith, nat_tests, common_steps, c.contains.ensures.value, c.new.ensures) in
-    here ∙ (rw some at given)
+    c.new.ensures ∙ (rw some at given)

@@ -8,22 +8,22 @@ use Rattle.dw_certificate.proofs.certificate.certify.Goals as goal
 
 pub rows-init : goal.rows-init
 rows-init g c = record {
-  are = rows_first c.args.position.now c.args.moves c.new.result.entries c.put.new.self.rows.entries c.new.ensures.empty
-      c.in_ok-put.ensures.grown;
+  are = rows_first c.args.position.now c.args.moves.value c.new.result.entries c.put.new.self.rows.entries
+      c.new.ensures.empty c.in_ok-put.ensures.grown;
   known = c.in_ok-put.ensures.known;
-  followed = followed_none g.B.Board.geometry c.args.position.now c.args.moves c.put.new.self.win
+  followed = followed_none g.B.Board.geometry c.args.position.now c.args.moves.value c.put.new.self.win
       c.new.result.entries c.put.new.self.rows.entries c.new.ensures.empty c.in_ok-put.ensures.grown;
 }
 
 pub support-requires : goal.support-requires
-support-requires g c = some_at c.args.moves c.rows.certificate.rows.entries c.rows.index c.in-Some-row_at.row.0
+support-requires g c = some_at c.args.moves.value c.rows.certificate.rows.entries c.rows.index c.in-Some-row_at.row.0
     c.in-Some-row_at.row.1 c.rows.invariant.are (sym c.row_at.ensures.row ∙ c.in-Some-row_at.is)
 
 pub rows-preserved : goal.rows-preserved
 rows-preserved g c =
     let geo = g.B.Board.geometry in
     let p = c.args.position.now in
-    let n = c.args.moves in
+    let n = c.args.moves.value in
     let win = c.rows.certificate.win in
     let old = c.rows.certificate.rows.entries in
     let new = c.support.new.self.rows.entries in
@@ -45,7 +45,7 @@ rows-preserved g c =
     }
 
 pub returns : goal.returns
-returns g c = certificate_of g.B.Board.geometry c.args.position.now c.args.moves c.rows.certificate.win
+returns g c = certificate_of g.B.Board.geometry c.args.position.now c.args.moves.value c.rows.certificate.win
     c.rows.certificate.rows.entries c.rows.index c.rows.invariant.are c.rows.invariant.followed
     (none_at c.rows.certificate.rows.entries c.rows.index (sym c.row_at.ensures.row ∙ c.in_default-row_at.is))
     c.rows.invariant.known

@@ -5,8 +5,8 @@ use Rattle.dw_certificate.proofs.certificate.certify.Given as goal
 
 abbrev pub invariant-rows : goal.invariant-rows
 invariant-rows g l = record {
-  are : AreRows l.moves l.certificate.rows.entries;
-  known : Knows l.certificate.win (claims l.certificate.win l.certificate.rows.entries) l.position l.moves;
+  are : AreRows l.fn.moves.value l.certificate.rows.entries;
+  known : Knows l.certificate.win (claims l.certificate.win l.certificate.rows.entries) l.position l.fn.moves.value;
   followed : AreFollowed g.B.Board.geometry l.position l.certificate.win l.certificate.rows.entries l.index;
 }
 

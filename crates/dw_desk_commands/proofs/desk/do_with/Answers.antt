@@ -42,7 +42,7 @@ returns-in-Certify-clause-does g c =
     let after = c.report_first.new.chosen in
     let before_text = g.K.Sink.taken c.args.sink.now in
     let after_text = g.K.Sink.taken c.report_first.new.sink in
-    let One = λ (game : NumberedGame). IsCertifyOf geo c.in-Certify.asked.n (problem_of game) in
+    let One = λ (game : NumberedGame). IsCertifyOf geo c.in-Certify.asked.n.value (problem_of game) in
     ok_so (λ ending. (next : Option NumberedGame) × (text : List ℕ)
     × IsNext geo source.coming source.has_ended chosen after next
     × IsReportOnOne One chosen.portion.first (as_list next) ending text × Appends before_text after_text text)

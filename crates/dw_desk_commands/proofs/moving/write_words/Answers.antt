@@ -14,7 +14,7 @@ returns-clause-text g c =
     let asked = c.args.asked.now in
     let p = c.in-Ok.position in
     let found = c.in_ok-found.found in
-    line_and_more geo (SaysFirstMoves geo asked.n asked.part asked.parts)
+    line_and_more geo (SaysFirstMoves geo asked.n.value asked.part asked.parts)
     (numbered c.args.problem.now) p false (string_bytes c.in_ok-text.text) (taken c.args.sink.now)
     (taken c.write_all.new.sink) (taken c.write_all-2.new.sink) c.in-Ok.is (
       found.effects,

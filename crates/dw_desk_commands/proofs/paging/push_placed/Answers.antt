@@ -11,7 +11,7 @@ returns-in_ok-push_solved-in-After-clause-solution g c =
       [],
       subst (λ z. Stands z (IsSolved g.B.Board.geometry (language_for asked.language) asked.lines asked.tries
           task.number
-          task.position.now task.moves) s.0 []) (sym c.in-After.is) (s.1, refl),
+          task.position.now task.moves.value) s.0 []) (sym c.in-After.is) (s.1, refl),
       s.2,
       sym (append-nil c.args.later.now.items),
     )
@@ -25,7 +25,7 @@ returns-in_ok-push_solved-in-End-clause-solution g c =
       s.0,
       subst (λ z. Stands z (IsSolved g.B.Board.geometry (language_for asked.language) asked.lines asked.tries
           task.number
-          task.position.now task.moves) [] s.0) (sym c.in-End.is) (refl, s.1),
+          task.position.now task.moves.value) [] s.0) (sym c.in-End.is) (refl, s.1),
       sym (append-nil c.args.part.now.items),
       s.2,
     )
@@ -38,7 +38,7 @@ returns-in-None-clause-solution g c =
       [],
       subst (λ z. Stands z (IsSolved g.B.Board.geometry (language_for asked.language) asked.lines asked.tries
           task.number
-          task.position.now task.moves) [] []) (sym c.in-None.is) (refl, refl),
+          task.position.now task.moves.value) [] []) (sym c.in-None.is) (refl, refl),
       sym (append-nil c.args.part.now.items),
       sym (append-nil c.args.later.now.items),
     )

@@ -28,9 +28,10 @@ returns-clause-text g c =
       subst (λ z. AreTags c.args.section.now (map tag_text z)) (sym c.as_slice-tags.ensures.value) c.in_ok-tags.ensures,
       c.in_ok-push_problem.ensures
           ∙ (ap (λ (z : Look). page ++ problem geo z.language z.numbers task.number (author_of heading)
-          (values_of heading) task.position.now task.moves) c.look_of.ensures
+          (values_of heading) task.position.now task.moves.value) c.look_of.ensures
           ∙ (ap (λ name. page ++ problem geo (language_for asked.language) asked.numbers task.number name
-          (values_of heading) task.position.now task.moves) author
+          (values_of heading) task.position.now task.moves.value) author
           ∙ ap (λ texts. page ++ problem geo (language_for asked.language) asked.numbers task.number
-          (value (codes "White") (map (λ t. t.tag) (map tag_text read))) texts task.position.now task.moves) values)),
+          (value (codes "White") (map (λ t. t.tag) (map tag_text read))) texts task.position.now task.moves.value)
+          values)),
     )

@@ -10,7 +10,7 @@ headed kind moves = record { kind = kind; moves = moves }
 pub returns-clause-solved : goal.returns-clause-solved
 returns-clause-solved g c =
     let geo = g.B.Board.geometry in
-    let n = c.args.moves in
+    let n = c.args.moves.value in
     let lines = c.lines_exist.ensures.some geo g.met.B.Board.numbers c.args.position.now n in
     record {
       verdict = said_by c.args.verdict.now;

@@ -4,7 +4,8 @@ use Rattle.dw_moves.specs.Moves.{play}
 use Rattle.dw_moves.specs.Order.{Precedes, IsListOf}
 use Rattle.dw_solve.specs.Wins.{Lost}
 use Rattle.dw_verdict.specs.Verdict.{IsWinning, Refutes}
-use Rattle.dw_first_moves.proofs.EffectLemmas.{counted_then, lost_of, none_refutes, none_there, some_refutes, some_there, wins_with}
+use Rattle.dw_first_moves.proofs.EffectLemmas.{counted_then, lost_of, none_refutes, none_there, some_refutes}
+use Rattle.dw_first_moves.proofs.EffectLemmas.{some_there, wins_with}
 use Rattle.dw_first_moves.proofs.effects.effect_of.Goals as goal
 
 one_less : (n : ℕ) → 1 ≤ n → n - 1 + 1 ≡ n
@@ -38,11 +39,11 @@ returns-then-is_empty-clause-effect g c =
     let geo = g.B.Board.geometry in
     let p = c.args.position.now in
     let m = c.args.mv.now in
-    let n = c.args.moves in
+    let n = c.args.moves.value in
     let lost = none_refutes c.wins_are_decided.ensures geo c.play-after.result (n - 1) c.in_ok-replies.replies.items
     c.in_ok-replies.ensures.replies (none_there c.in_ok-replies.replies _ c.is_empty.ensures c.if-is_empty.true) in
     record {
-      wins = subst (λ z. IsWinning geo p z m) (one_less n c.requires.some)
+      wins = subst (λ z. IsWinning geo p z m) (one_less n c.args.moves.some)
           (wins_with geo p (n - 1) m c.requires.legal
           (subst (λ z. Lost geo z (n - 1)) c.play-after.ensures lost));
       few = let e : n ≤ n = omega arith in e;
@@ -54,12 +55,12 @@ returns-else-is_empty-clause-effect g c =
     let geo = g.B.Board.geometry in
     let p = c.args.position.now in
     let m = c.args.mv.now in
-    let n = c.args.moves in
+    let n = c.args.moves.value in
     let replies = subst (λ z. IsListOf (Precedes geo z) (Refutes geo z (n - 1)) c.in_ok-replies.replies.items)
     c.play-after.ensures c.in_ok-replies.ensures.replies in (
       c.requires.legal,
       (λ wins. some_refutes geo (play geo p m) (n - 1) c.in_ok-replies.replies.items replies
           (some_there c.in_ok-replies.replies _ c.is_empty.ensures c.if-is_empty.false)
-          (lost_of geo p (n - 1) m (subst (λ z. IsWinning geo p z m) (sym (one_less n c.requires.some)) wins))),
+          (lost_of geo p (n - 1) m (subst (λ z. IsWinning geo p z m) (sym (one_less n c.args.moves.some)) wins))),
       replies,
     )

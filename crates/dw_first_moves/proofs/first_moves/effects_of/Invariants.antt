@@ -8,7 +8,7 @@ use Rattle.dw_first_moves.proofs.first_moves.effects_of.Given as goal
 
 abbrev pub invariant-some : goal.invariant-some
 invariant-some g l = record {
-  done : AreEffects g.B.Board.geometry l.position l.moves (take l.mv-index l.some) (map told_by l.done.items);
+  done : AreEffects g.B.Board.geometry l.position l.fn.moves.value (take l.mv-index l.some) (map told_by l.done.items);
   count : IsCounted l.initial.solver.expanded l.initial.solver.limit l.solver.expanded l.solver.limit;
   right : AreTrue g.B.Board.geometry (g.M.Memo.content l.solver.memo);
   map : IsMap (g.M.Memo.content l.solver.memo);

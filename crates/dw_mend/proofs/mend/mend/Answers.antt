@@ -13,7 +13,7 @@ use Rattle.dw_mend.proofs.mend.mend.Goals as goal
 pub returns-in_err-all-clause-stopped : goal.returns-in_err-all-clause-stopped
 returns-in_err-all-clause-stopped g c = λ stop all are e. (
   [],
-  stop_at_once c.args.bounds.wording g.B.Board.geometry c.args.bounds.moves _,
+  stop_at_once c.args.bounds.wording g.B.Board.geometry c.args.bounds.moves.value _,
   Appends-nil (g.K.Sink.taken
       c.args.sink.now),
 )
@@ -21,7 +21,7 @@ returns-in_err-all-clause-stopped g c = λ stop all are e. (
 pub returns-in_err-some-clause-stopped : goal.returns-in_err-some-clause-stopped
 returns-in_err-some-clause-stopped g c = λ stop all are e. (
   [],
-  stop_at_once c.args.bounds.wording g.B.Board.geometry c.args.bounds.moves _,
+  stop_at_once c.args.bounds.wording g.B.Board.geometry c.args.bounds.moves.value _,
   Appends-nil (g.K.Sink.taken
       c.args.sink.now),
 )
@@ -29,7 +29,7 @@ returns-in_err-some-clause-stopped g c = λ stop all are e. (
 pub returns-in_err-mended-clause-stopped : goal.returns-in_err-mended-clause-stopped
 returns-in_err-mended-clause-stopped g c = λ stop all are e.
     let geo = g.B.Board.geometry in
-    let n = c.args.bounds.moves in
+    let n = c.args.bounds.moves.value in
     let i = c.args.bounds.part.number in
     let m = c.args.bounds.part.parts in
     let told = part_told told_by geo c.args.position.now i m c.in_ok-all.all.items c.as_slice-2.result.now all
@@ -43,7 +43,7 @@ returns-in_err-mended-clause-stopped g c = λ stop all are e.
 pub returns-in_err-line-clause-stopped : goal.returns-in_err-line-clause-stopped
 returns-in_err-line-clause-stopped g c = λ stop all are e.
     let geo = g.B.Board.geometry in
-    let n = c.args.bounds.moves in
+    let n = c.args.bounds.moves.value in
     let i = c.args.bounds.part.number in
     let m = c.args.bounds.part.parts in
     let told = part_told told_by geo c.args.position.now i m c.in_ok-all.all.items c.as_slice-2.result.now all
@@ -61,7 +61,7 @@ returns-in_err-line-clause-stopped g c = λ stop all are e.
 pub returns-clause-text : goal.returns-clause-text
 returns-clause-text g c =
     let geo = g.B.Board.geometry in
-    let n = c.args.bounds.moves in
+    let n = c.args.bounds.moves.value in
     let i = c.args.bounds.part.number in
     let m = c.args.bounds.part.parts in
     let items = c.in_ok-all.all.items in

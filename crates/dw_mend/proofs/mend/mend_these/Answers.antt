@@ -13,7 +13,7 @@ pub returns-in_err-write_found-clause-stopped : goal.returns-in_err-write_found-
 returns-in_err-write_found-clause-stopped g c = λ stop e.
     let t = c.neighbours.invariant.text in (
       t.0,
-      stop_at told_by c.args.bounds.wording g.B.Board.geometry c.args.bounds.moves c.args.some.now
+      stop_at told_by c.args.bounds.wording g.B.Board.geometry c.args.bounds.moves.value c.args.some.now
           c.neighbours.neighbour-index
           c.neighbours.mended.sound c.neighbours.mended.undecided t.0 t.1,
       subst (λ z. Appends (g.K.Sink.taken c.args.sink.now) z t.0) (sym (c.in_err-write_found.ensures.stopped stop
@@ -24,7 +24,7 @@ returns-in_err-write_found-clause-stopped g c = λ stop e.
 pub neighbours-preserved : goal.neighbours-preserved
 neighbours-preserved g c =
     let geo = g.B.Board.geometry in
-    let n = c.args.bounds.moves in
+    let n = c.args.bounds.moves.value in
     let t = c.neighbours.invariant.text in
     let new = c.in_ok-write_found.ensures.text in
     let x = c.neighbour-item.result in

@@ -9,7 +9,7 @@ use Rattle.dw_mend.proofs.mend.mend_these.Given as goal
 
 abbrev pub invariant-neighbours : goal.invariant-neighbours
 invariant-neighbours g l = record {
-  text : (text : List ℕ) × AreMended l.bounds.wording g.B.Board.geometry l.bounds.moves (map told_by (take
+  text : (text : List ℕ) × AreMended l.bounds.wording g.B.Board.geometry l.bounds.moves.value (map told_by (take
       l.neighbour-index l.some)) text (record { sound = l.mended.sound; undecided = l.mended.undecided })
       × Appends (g.K.Sink.taken l.initial.sink) (g.K.Sink.taken l.sink) text;
   all : l.mended.all ≡ length l.some;

@@ -7,5 +7,5 @@ pub line_of-requires : goal.line_of-requires
 line_of-requires g c =
     let geo = g.B.Board.geometry in
     let p = c.args.neighbour.now.position in
-    sound_legal geo p c.args.bounds.moves c.in-Sound.key
-    (subst (λ z. IsSoundnessOf geo p c.args.bounds.moves z) c.in-Sound.is c.in_ok-found.ensures.found)
+    sound_legal geo p c.args.bounds.moves.value c.in-Sound.key
+    (subst (λ z. IsSoundnessOf geo p c.args.bounds.moves.value z) c.in-Sound.is c.in_ok-found.ensures.found)

@@ -11,8 +11,8 @@ returns-in_err-judged-in-Ok-clause-began g c =
     let geo = g.B.Board.geometry in
     let content = g.M.Memo.content in
     let lost = g.M.Memo.dropped in
-    let n = c.args.bounds.most in
-    let k = c.in-Ok.moves in
+    let n = c.args.bounds.most.value in
+    let k = c.in-Ok.value in
     let found = c.in-Ok.ensures in
     let begun = c.begin.new.self in
     let looked = c.number_within.new.slices in
@@ -34,7 +34,7 @@ returns-in_ok-judged-in-Ok-clause-began g c =
     let geo = g.B.Board.geometry in
     let content = g.M.Memo.content in
     let lost = g.M.Memo.dropped in
-    let k = c.in-Ok.moves in
+    let k = c.in-Ok.value in
     let begun = c.begin.new.self in
     let looked = c.number_within.new.slices in
     let before = c.args.solver.now in
@@ -56,7 +56,7 @@ returns-in-Err-clause-began g c =
 
 pub returns-in-Err-2-clause-began : goal.returns-in-Err-2-clause-began
 returns-in-Err-2-clause-began g c =
-    began_cut g.B.Board.geometry g.M.Memo.content g.M.Memo.dropped c.searches_add_up.ensures c.args.bounds.most _
+    began_cut g.B.Board.geometry g.M.Memo.content g.M.Memo.dropped c.searches_add_up.ensures c.args.bounds.most.value _
     c.args.slices.now c.begin.new.self c.number_within.new.slices c.args.solver.now c.number_within.new.solver _ _
     (ap (λ z. z.first) c.begin.ensures) (ap (λ z. z.start) c.begin.ensures ∙ c.expanded-start.ensures) (search rules)
     (let below = c.in-Err-2.ensures.number.0 in omega (arith, below)) c.in-Err-2.ensures.looks
@@ -92,7 +92,7 @@ returns-in_ok-judged-in-Ok-clause-known g c =
     let geo = g.B.Board.geometry in
     let content = g.M.Memo.content in
     let lost = g.M.Memo.dropped in
-    let n = c.args.bounds.most in
+    let n = c.args.bounds.most.value in
     let before = c.args.solver.now in
     let then = c.number_within.new.solver in
     let found = c.in-Ok.ensures in
@@ -102,7 +102,7 @@ returns-in_ok-judged-in-Ok-clause-known g c =
       before = begun_here geo content lost c.searches_add_up.ensures n c.args.slices.now.first c.begin.new.self.first
           c.begin.new.self.start 0 before then (ap (λ z. z.first) c.begin.ensures)
           (ap (λ z. z.start) c.begin.ensures ∙ c.expanded-start.ensures)
-          (goes_on_wider geo content lost c.in-Ok.moves n c.begin.new.self.first c.begin.new.self.start 0 before then
+          (goes_on_wider geo content lost c.in-Ok.value n c.begin.new.self.first c.begin.new.self.start 0 before then
           found.number.1 found.looks.on);
       says = found.says;
       after = c.in_ok-judged-in-Ok.ensures.searched;

@@ -4,7 +4,7 @@ use Rattle.dw_study.proofs.judging.judge_in_slices.Goals as goal
 
 pub returns-clause-began : goal.returns-clause-began
 returns-clause-began g c =
-    began_here g.B.Board.geometry g.M.Memo.content g.M.Memo.dropped c.searches_add_up.ensures c.args.moves
+    began_here g.B.Board.geometry g.M.Memo.content g.M.Memo.dropped c.searches_add_up.ensures c.args.moves.value
     c.args.slices.now c.begin.new.self c.judge_resuming.new.slices c.args.solver.now c.judge_resuming.new.solver
     c.judge_resuming.result
     (ap (λ z. z.first) c.begin.ensures) (ap (λ z. z.start) c.begin.ensures ∙ c.expanded.ensures)

@@ -92,7 +92,7 @@ returns-clause-looks g c =
       count = now.count;
       few = now.count.within;
       stop = tt;
-      on = goes_on_wider g.B.Board.geometry g.M.Memo.content g.M.Memo.dropped (c.moves.moves - 1) c.args.most
+      on = goes_on_wider g.B.Board.geometry g.M.Memo.content g.M.Memo.dropped (c.moves.moves - 1) c.args.most.value
           c.args.slices.now.first c.args.slices.now.start 0 c.args.solver.now c.moves.solver (omega (arith, end))
           now.on;
       first = now.first;

@@ -13,8 +13,8 @@ pub returns-then-dropped-gt0-clause-text : goal.returns-then-dropped-gt0-clause-
 returns-then-dropped-gt0-clause-text g c =
     let geo = g.B.Board.geometry in (
       [],
-      subst (λ z. IsDoneWith (Certifies geo c.args.self.now.n) (first_line geo (numbered c.args.game.now.problem)) z
-          TooManyPositions []) (sym c.in-Ok.is) refl,
+      subst (λ z. IsDoneWith (Certifies geo c.args.self.now.n.value)
+          (first_line geo (numbered c.args.game.now.problem)) z TooManyPositions []) (sym c.in-Ok.is) refl,
       Appends-nil (g.K.Sink.taken c.args.sink.now),
     )
 
@@ -22,8 +22,8 @@ pub returns-in-Err-Missing-clause-text : goal.returns-in-Err-Missing-clause-text
 returns-in-Err-Missing-clause-text g c =
     let geo = g.B.Board.geometry in (
       [],
-      subst (λ z. IsDoneWith (Certifies geo c.args.self.now.n) (first_line geo (numbered c.args.game.now.problem)) z
-          TooManyPositions []) (sym c.in-Ok.is) refl,
+      subst (λ z. IsDoneWith (Certifies geo c.args.self.now.n.value)
+          (first_line geo (numbered c.args.game.now.problem)) z TooManyPositions []) (sym c.in-Ok.is) refl,
       Appends-nil (g.K.Sink.taken c.args.sink.now),
     )
 
@@ -31,7 +31,8 @@ pub returns-in-Err-Memory-clause-text : goal.returns-in-Err-Memory-clause-text
 returns-in-Err-Memory-clause-text g c =
     let geo = g.B.Board.geometry in (
       [],
-      subst (λ z. IsDoneWith (Certifies geo c.args.self.now.n) (first_line geo (numbered c.args.game.now.problem)) z
+      subst (λ z. IsDoneWith (Certifies geo c.args.self.now.n.value)
+          (first_line geo (numbered c.args.game.now.problem)) z
           (Failed (Stopped Memory c.expanded-expanded.result)) []) (sym c.in-Ok.is) refl,
       Appends-nil (g.K.Sink.taken c.args.sink.now),
     )

@@ -28,7 +28,7 @@ returns-clause-text g c =
             mended.all,
             mended.sound,
             mended.undecided,
-            subst (λ z. IsMendText z geo c.in-Ok.position asked.n asked.part asked.parts mended.all mended.sound
+            subst (λ z. IsMendText z geo c.in-Ok.position asked.n.value asked.part asked.parts mended.all mended.sound
                 mended.undecided text.0) c.wording_for.ensures text.1,
             bounded_from asked.each mended.all mended.undecided c.begin.new.self.solver.expanded
                 c.args.desk.now.solver.expanded c.mend-mended.new.solver.expanded c.begin.ensures.count
