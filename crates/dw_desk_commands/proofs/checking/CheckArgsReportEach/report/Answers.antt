@@ -13,8 +13,8 @@ returns-in_ok-fails-in-Ok-read_movetext-clause-text g c =
     let written = c.in_ok-fails-in-Ok-read_movetext.ensures.text in (
       written.0,
       check_for geo c.args.self.now (problem_of (numbered_game game)) game.movetext.items game.problem.found
-          c.in-Ok.position tree c.moves_for-n.result written.1 _ written.0 c.in-Ok.is
+          c.in-Ok.position tree c.moves_for-n.result.value written.1 _ written.0 c.in-Ok.is
           (subst (λ z. IsAnswer geo c.in-Ok.position z (Ok tree)) c.as_slice.ensures.value
-          c.in-Ok-read_movetext.ensures) c.moves_for-n.ensures.number written.2 written.3,
+          c.in-Ok-read_movetext.ensures) c.moves_for-n.ensures written.2 written.3,
       written.4,
     )
