@@ -189,7 +189,8 @@ def builds():
         status, out, complained = made.call("judge", "-n", "2", "a b")
         asked = made.asked()
         assert (status, out) == (0, f"program {ALL} judge -n 2 a b\n"), (status, out, complained)
-        assert len(asked) == ALL and asked[0] == "dw_board" and asked[-1] == "dw", asked
+        assert len(asked) == ALL and asked[-1] == "dw", asked
+        assert all(stands_on(crate) <= set(asked[:i]) for i, crate in enumerate(asked, 1)), asked
         assert "dw: built" in complained, complained
         assert made.libraries() == sorted(f"{crate}.rlib" for crate in asked[:-1]) and made.is_whole()
         assert made.call("x") == (0, f"program {ALL} x\n", "") and not made.asked()
