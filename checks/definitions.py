@@ -199,7 +199,9 @@ NO_LAYER = r"dw_(tests_\w+|bench|example)"
 NAMES = re.findall(r"^\w+", (TOP / "crates.txt").read_text(), re.M)
 LAYERS = [name for name in NAMES if not re.fullmatch(NO_LAYER, name)]
 SOURCES = [path for layer in LAYERS for path in sorted((CRATES / layer).glob("src/**/*.rt"))]
-PRIVATE_TRAITS = {name for path in SOURCES for name in re.findall(r"^pub\(crate\) trait (\w+)", source_text(path), re.M)}
+PRIVATE_TRAITS = {
+    name for path in SOURCES for name in re.findall(r"^pub\(crate\) trait (\w+)", source_text(path), re.M)
+}
 
 
 def private_types(definition):

@@ -67,7 +67,10 @@ def bends(height, direct):
 
 
 def places(named, direct):
-    """The middle of each box and of each bend, and the size of the picture. A row is in the order of what it leads to."""
+    """The middle of each box and of each bend, and the size of the picture.
+
+    A row is in the order of what it leads to.
+    """
     all_rows = rows(named)
     height = {name: number for number, row in enumerate(all_rows) for name in row}
     leads = {name: [] for name in named}

@@ -5,8 +5,8 @@
 
 In the documents: no sentence has more than 35 words. There and in the comments of the code: no `can not`, no `behind`
 where `after` is meant, and none of the other words in WORDS. The comment of a function begins with a verb in the third
-person, as `Returns`; a law is a statement and may begin as it likes. No line has more than 120 columns. EXCEPTIONS has
-the places that may stay.
+person, as `Returns`; a law is a statement and may begin as it likes. No line has more than 120 columns, also in proofs,
+in checks and in the page. EXCEPTIONS has the places that may stay.
 """
 import pathlib
 import re
@@ -17,6 +17,8 @@ DOCUMENTS = [*(TOP / name for name in ("README.md", "CONTRIBUTING.md", "CHANGELO
              *sorted((TOP / "docs").glob("*.md"))]
 GENERATED = {"DEFINITIONS.md", "CALLS.md"}
 COLUMNS, SENTENCE = 120, 35
+WRITTEN = ("crates/*/src/**/*.rt", "crates/*/specs/**/*.antt", "crates/*/proofs/**/*.antt", "checks/*.py",
+           "web/**/*.*")
 # A word, and the better one.
 WORDS = {
     r"can not": "cannot",
@@ -57,11 +59,16 @@ def look_at_words(path, number, text, found):
             found.append(f"{path.relative_to(TOP)}:{number}: `{word}`, better `{better}`: {text.strip()}")
 
 
-def look_at_document(path, found):
-    text = path.read_text()
-    for number, line in enumerate(text.splitlines(), 1):
+def look_at_width(path, found):
+    for number, line in enumerate(path.read_text().splitlines(), 1):
         if len(line) > COLUMNS:
             found.append(f"{path.relative_to(TOP)}:{number}: over {COLUMNS} columns")
+
+
+def look_at_document(path, found):
+    text = path.read_text()
+    look_at_width(path, found)
+    for number, line in enumerate(text.splitlines(), 1):
         look_at_words(path, number, re.sub(r"`[^`]*`", "", line), found)
     for sentence in sentences(text) if path.name not in GENERATED else []:
         count = len([word for word in sentence.split() if re.search(r"\w", word)])
@@ -92,6 +99,8 @@ def main():
     code = [*TOP.glob("crates/*/src/**/*.rt"), *TOP.glob("crates/*/specs/*.antt")]
     for path in sorted(code):
         look_at_code(path, found)
+    for path in sorted(path for pattern in WRITTEN for path in TOP.glob(pattern)):
+        look_at_width(path, found)
     if found:
         sys.exit("\n".join([*found, f"{len(found)} places to mend"]))
     print(f"{len(DOCUMENTS)} documents and {len(code)} files of code: nothing that is known to be hard to read")

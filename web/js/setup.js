@@ -122,8 +122,8 @@ function followText(app) {
     }
 
     /**
-     * Asks what `dw` reads a text as, and shows the fault, or the position. The field says in `data-read` which text was
-     * read last. Answers why it is refused, if it is.
+     * Asks what `dw` reads a text as, and shows the fault, or the position. The field says in `data-read` which text
+     * was read last. Answers why it is refused, if it is.
      */
     async function read(/** @type {string} */ text) {
         const number = ++asked, { rows } = app.position;

@@ -4,7 +4,8 @@ use Rattle.std.proofs.lemmas.Bool.{eq-eqb, ne_eqb}
 use Rattle.dw_rows.specs.declared.checked.CheckNumbers.{CheckNumbers}
 use Rattle.dw_desk_commands.specs.Checking.{is_none, numbers_of, holds}
 use Rattle.std.proofs.Common.{◌≡◌, ℕ, ◌+◌, ◌<◌, List, [], ◌∷◌, ◌++◌, length, map, Option}
-use Rattle.std.proofs.Common.{IfSome, IsSome, None, Some, Bool, true, false, cond, refl, ap, ◌∙◌, subst, add-zero, arith}
+use Rattle.std.proofs.Common.{IfSome, IsSome, None, Some, Bool, true, false, cond, refl}
+use Rattle.std.proofs.Common.{ap, ◌∙◌, subst, add-zero, arith}
 use Rattle.std.proofs.Common.{Ok, inl}
 use Rattle.std.specs.List.{count_by}
 use Rattle.std.proofs.lemmas.List.Sums.{sum_by_push}

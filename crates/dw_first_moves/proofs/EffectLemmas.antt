@@ -117,7 +117,8 @@ pub effects_next : {V : Type 0} (told : V → Move × Effect) (g : Geometry) (p 
     → AreEffects g p n (take i moves) (map told done) → (told one).0 ≡ m → HasEffect g p n m (told one).1
     → now ≡ done ++ one ∷ [] → AreEffects g p n (take (i + 1) moves) (map told now)
 effects_next told g p n moves i m done now one low at before is here pushed =
-    subst (λ z. AreEffects g p n z (map told now)) (sym (take_more moves i m low ∙ ap (λ z. take i moves ++ z ∷ []) (sym at)))
+    subst (λ z. AreEffects g p n z (map told now))
+    (sym (take_more moves i m low ∙ ap (λ z. take i moves ++ z ∷ []) (sym at)))
     (subst (AreEffects g p n (take i moves ++ m ∷ [])) (sym (ap (map told) pushed ∙ map_push told done one))
     (effects_more g p n (take i moves) m (map told done) (told one) is here before))
 

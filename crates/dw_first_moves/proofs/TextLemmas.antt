@@ -1,5 +1,6 @@
 -- What is written of first moves.
-use Rattle.std.proofs.Common.{◌≡◌, ℕ, ◌+◌, ◌<◌, List, [], ◌∷◌, ◌++◌, length, map, take, get_or, refl, sym, ap, subst, ◌∙◌}
+use Rattle.std.proofs.Common.{◌≡◌, ℕ, ◌+◌, ◌<◌, List, [], ◌∷◌, ◌++◌, length, map, take}
+use Rattle.std.proofs.Common.{get_or, refl, sym, ap, subst, ◌∙◌}
 use Rattle.std.proofs.Common.{append_assoc, append-nil, arith, zero, suc, inl, inr}
 use Rattle.std.specs.Prelude.{Result, Ok, Err, IfOk, codes}
 use Rattle.std.proofs.lemmas.List.{take_more, map_push}
@@ -26,7 +27,8 @@ lines_more g p (first ∷ done) one lines line h here = (
   ap (λ z. z ++ line) h.4 ∙ append_assoc h.0 h.1 line,
 )
 
-pub lines_next : {V : Type 0} (told : V → Move × Effect) (g : Geometry) (p : Placement) (done : List V) (i : ℕ) (one : V)
+pub lines_next : {V : Type 0} (told : V → Move × Effect) (g : Geometry) (p : Placement) (done : List V) (i : ℕ)
+    (one : V)
     (lines line now : List ℕ) → i < length done → one ≡ get_or done i one
     → AreEffectLines g p (map told (take i done)) lines → IsEffectLine g p (told one) line → now ≡ lines ++ line
     → AreEffectLines g p (map told (take (i + 1) done)) now

@@ -316,7 +316,8 @@ module _ (g : Geometry) (p : Placement) where
       subst (λ x. Leads g p (within (suc room) before [] outer old) (ts ++ opening ∷ (us ++ closing ∷ []))
       (within (suc room) before now outer x))
       (append_assoc old paths more)
-      (leads_on ts (opening ∷ (us ++ closing ∷ [])) (within (suc room) before [] outer old) s next (varied v outer old) (
+      (leads_on ts (opening ∷ (us ++ closing ∷ [])) (within (suc room) before [] outer old)
+      s next (varied v outer old) (
         inside,
         begun_next room before moves last outer (old ++ paths) opening o,
         leads_on us (closing ∷ []) inside behind next (varied w around (old ++ paths)) (

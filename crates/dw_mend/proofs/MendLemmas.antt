@@ -80,17 +80,18 @@ mended_both w g n (x ∷ xs) ys text more counts others s u
         (let e : u ≡ behind.undecided + others.undecided = omega arith in e),
       ),
     )
-mended_both w g n (x ∷ xs) ys text more counts others s u (rest, behind, are', inr (inl (never, t, cs, cu))) are es eu = (
-  rest ++ more,
-  record { sound = behind.sound + others.sound; undecided = behind.undecided + others.undecided },
-  mended_both w g n xs ys rest more behind others _ _ are' are refl refl,
-  inr (inl (
-    never,
-    ap (λ z. z ++ more) t,
-    (let e : s ≡ behind.sound + others.sound = omega arith in e),
-    (let e : u ≡ behind.undecided + others.undecided = omega arith in e),
-  )),
-)
+mended_both w g n (x ∷ xs) ys text more counts others s u (rest, behind, are', inr (inl (never, t, cs, cu)))
+    are es eu = (
+      rest ++ more,
+      record { sound = behind.sound + others.sound; undecided = behind.undecided + others.undecided },
+      mended_both w g n xs ys rest more behind others _ _ are' are refl refl,
+      inr (inl (
+        never,
+        ap (λ z. z ++ more) t,
+        (let e : s ≡ behind.sound + others.sound = omega arith in e),
+        (let e : u ≡ behind.undecided + others.undecided = omega arith in e),
+      )),
+    )
 mended_both w g n (x ∷ xs) ys text more counts others s u (rest, behind, are', inr (inr (t, cs, cu))) are es eu = (
   rest ++ more,
   record { sound = behind.sound + others.sound; undecided = behind.undecided + others.undecided },

@@ -32,7 +32,10 @@ each_shown P lt gt amp quot apos other b =
                       elim (cases_Bool (b == 34)) [
                         | inl e ↦ at 34 e quot
                         | inr f ↦
-                            elim (cases_Bool (b == 39)) [ inl e ↦ at 39 e apos | inr h ↦ rw (a, c, d, f, h) (other b a c d f h) ]
+                            elim (cases_Bool (b == 39)) [
+                              | inl e ↦ at 39 e apos
+                              | inr h ↦ rw (a, c, d, f, h) (other b a c d f h)
+                            ]
                       ]
                 ]
           ]

@@ -54,7 +54,8 @@ part_left i m xs now k x low is so_far away =
 in_part : {X : Type 0} (i m place : ℕ) (xs : List X) (x : X) → Member x (part_from place i m xs) → Member x xs
 in_part i m place [] x here = here
 in_part i m place (y ∷ xs) x here = elim (cases_Bool (place % m == i % m)) [
-  | inl yes' ↦ elim (subst (λ b. Member x (if b then y ∷ part_from (place + 1) i m xs else part_from (place + 1) i m xs))
+  | inl yes' ↦ elim (subst (λ b. Member x (if b then y ∷ part_from (place + 1) i m xs
+      else part_from (place + 1) i m xs))
       yes' here) [
         | inl first ↦ inl first
         | inr later ↦ inr (in_part i m (place + 1) xs x later)

@@ -111,7 +111,8 @@ none_is_short g heading first text low (words, (tree, played, whole, are, joined
     joined ∙ ap (λ z. z ++ last) (no_words g p (first_half p.turn) true tree played whole.lines are) in
     let is : text ≡ verdict_comment heading ++ filled (length (verdict_comment heading)) last =
     e ∙ ap (λ z. in_lines (verdict_comment heading ∷ z)) none in
-    let long = ap length is ∙ length-append (verdict_comment heading) (filled (length (verdict_comment heading)) last) in
+    let long = ap length is ∙ length-append (verdict_comment heading)
+    (filled (length (verdict_comment heading)) last) in
     omega (
       arith,
       long,

@@ -1,5 +1,6 @@
 -- What holds of the parts of a tree of lines, and what is known of the first lines.
-use Rattle.std.proofs.Common.{◌≡◌, ◌≢◌, ◌⊎◌, ℕ, ◌+◌, ◌<◌, ◌≤◌, zero, suc, List, [], ◌∷◌, ◌++◌, length, take, drop, refl, sym}
+use Rattle.std.proofs.Common.{◌≡◌, ◌≢◌, ◌⊎◌, ℕ, ◌+◌, ◌<◌, ◌≤◌, zero, suc, List, [], ◌∷◌}
+use Rattle.std.proofs.Common.{◌++◌, length, take, drop, refl, sym}
 use Rattle.std.proofs.Common.{ap, subst, ◌∙◌, inl, inr, map, length-append, arith, Some, None, get_or, ◌-◌}
 use Rattle.std.proofs.lemmas.Bool.{cases_order}
 use Rattle.std.proofs.lemmas.List.{take-append-le, take_all, take_at, drop_at}
@@ -189,7 +190,8 @@ module _ (B : Type 0) where
       )
 
   -- the steps of the first lines
-  pub end_within : (steps : List (TreeStep B)) (ends : List ℕ) (lines end : ℕ) → AreEnds steps ends → lines < length ends
+  pub end_within : (steps : List (TreeStep B)) (ends : List ℕ) (lines end : ℕ) → AreEnds steps ends
+      → lines < length ends
       → end ≡ get_or ends lines end → end ≤ length steps
   end_within steps ends lines end known low is =
       (known lines end (slice_get_read ends (length ends) lines end refl low is)).0

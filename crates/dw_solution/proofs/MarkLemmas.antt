@@ -1,6 +1,7 @@
 -- Words as rows of tokens.
 use Rattle.std.proofs.Common.{◌≡◌, ℕ, ◌+◌, ◌<◌, List, [], ◌∷◌, ◌++◌, length, map, refl, sym, ap, subst}
-use Rattle.std.proofs.Common.{◌∙◌, inl, inr, append_assoc, append-nil, length-append, arith, Bool, true, false, leb, cond}
+use Rattle.std.proofs.Common.{◌∙◌, inl, inr, append_assoc, append-nil, length-append, arith, Bool}
+use Rattle.std.proofs.Common.{true, false, leb, cond}
 use Rattle.std.specs.List.{list_all}
 use Rattle.std.specs.Prelude.{◌==◌, ◌||◌}
 use Rattle.std.proofs.lemmas.Bool.{or_cases, eqb-true}
@@ -46,7 +47,8 @@ spelled_open : (w : List ℕ) (marks : List (TokenKind × List ℕ)) → IsSpell
     → IsSpelled (40 ∷ w) (opening ∷ marks)
 spelled_open w marks h place fresh after rest tokens e next =
     let same : place + length (40 ∷ w) ≡ (place + 1) + length w = omega arith in
-    let inner = h (place + 1) false after rest tokens e (subst (λ z. AreTokens z false after tokens rest) same next) in (
+    let inner = h (place + 1) false after rest tokens e (subst (λ z. AreTokens z false after tokens rest) same next)
+    in (
       (record { what = Opens; text = 40 ∷ []; place = place }) ∷ inner.0,
       token (40 ∷ []) (w ++ after) opens inner.1,
       ap (λ z. opening ∷ z) inner.2,

@@ -62,7 +62,8 @@ begin_later m b o k h =
 
 -- how a beginning of the lines of a tree goes
 abbrev Begun : Move → (b o : Tree) → List Move → Type 0
-Begun m b o x = (x ≡ m ∷ []) ⊎ (((k : List Move) × (x ≡ m ∷ k) × IsBeginning (lines_of b) k) ⊎ IsBeginning (lines_of o) x)
+Begun m b o x = (x ≡ m ∷ []) ⊎ (((k : List Move) × (x ≡ m ∷ k) × IsBeginning (lines_of b) k)
+    ⊎ IsBeginning (lines_of o) x)
 
 heads : {m n : Move} {l k : List Move} → m ∷ l ≡ n ∷ k → m ≡ n
 heads e = cc

@@ -1,6 +1,7 @@
 -- The play that is read of the words of a tree.
 use Rattle.std.proofs.Common.{◌≡◌, ℕ, ◌+◌, ◌-◌, ◌<◌, ◌≤◌, suc, List, [], ◌∷◌, ◌++◌, length, map, refl, sym, ap}
-use Rattle.std.proofs.Common.{subst, ◌∙◌, inl, inr, append_assoc, append-nil, length-append, arith, Bool, true, false, cond}
+use Rattle.std.proofs.Common.{subst, ◌∙◌, inl, inr, append_assoc, append-nil, length-append, arith}
+use Rattle.std.proofs.Common.{Bool, true, false, cond}
 use Rattle.std.proofs.Common.{codes, decimal}
 use Rattle.std.specs.List.{list_all}
 use Rattle.std.specs.Prelude.{◌==◌, ◌||◌, ◌%◌, ◌/◌, Ok}
@@ -177,7 +178,8 @@ module _ (named : WrittenMoveIsNamed) (stays : PlayStays) (takes : LegalMovesTak
 
   -- what words that are read as these marks say of a tree: play that goes on, or variations
   abbrev pub Plays : Tree → Placement → List Mark → Type 0
-  Plays t q ks = (room : ℕ) (before moves : List Move) (ts us : List Token) (paths : List (List Move)) (path : List Move)
+  Plays t q ks = (room : ℕ) (before moves : List Move) (ts us : List Token) (paths : List (List Move))
+      (path : List Move)
       → q ≡ after g p path → before ++ moves ≡ path → 40 ≤ suc room + length path → Fits (length path) t
       → IsVariation g p (suc room) before ts moves paths → map mark_of us ≡ ks
       → (more : List Move) × (new : List (List Move))
@@ -259,7 +261,8 @@ module _ (named : WrittenMoveIsNamed) (stays : PlayStays) (takes : LegalMovesTak
       (kr ko : List Mark) → IsPosition g q.cells → IsMoveText g q m text → Plays b (play g q m) kr
       → Varies o q ko
       → Varies (branch m b o) q ((opening ∷ ((marks_of_move half true text ++ kr) ++ closing ∷ [])) ++ ko)
-  varies_branch m b o q half text kr ko pos is plays varies room before moves last ts us paths path here join deep fits h
+  varies_branch m b o q half text kr ko pos is plays varies room before moves last ts us paths path
+      here join deep fits h
       e =
       let x : List Move = path ++ m ∷ [] in
       let long : length x ≡ length path + 1 = length-append path (m ∷ []) in
@@ -283,7 +286,8 @@ module _ (named : WrittenMoveIsNamed) (stays : PlayStays) (takes : LegalMovesTak
       (subst (λ z. IsVariation g p room path z others new) (sym words.2)
       (subst (λ z. IsVariation g p z path (words.0 ++ words.1) others new) room_is behind.2)) in
       let tokens : opened.0 ∷ (inside.0 ++ closed_up.0 ∷ []) ≡ outer.0 =
-      ap (λ z. opened.0 ∷ z) (ap (λ z. inside.0 ++ z) (ap (λ z. closed_up.0 ∷ z) (sym (map_none closed_up.1 closed_up.4))
+      ap (λ z. opened.0 ∷ z) (ap (λ z. inside.0 ++ z) (ap (λ z. closed_up.0 ∷ z)
+      (sym (map_none closed_up.1 closed_up.4))
       ∙ sym closed_up.2) ∙ sym inside.2) ∙ sym opened.2 in
       let one : IsVariation g p (suc room) before (ts ++ outer.0) (moves ++ last ∷ []) (paths ++ new) =
       subst (λ z. IsVariation g p (suc room) before (ts ++ z) (moves ++ last ∷ []) (paths ++ new)) tokens

@@ -5,7 +5,8 @@ use Rattle.std.specs.List.{list_all}
 use Rattle.std.specs.Prelude.{◌==◌, ◌&&◌, not, Ok}
 use Rattle.std.specs.Ordering.{nat_cmp}
 use Rattle.std.specs.FinSet as set
-use Rattle.std.proofs.lemmas.Bool.{true≢false, and_parts, not-true, cond-false, leb-true, ne_eqb, or_cases, eqb-true, or_left}
+use Rattle.std.proofs.lemmas.Bool.{true≢false, and_parts, not-true, cond-false, leb-true, ne_eqb}
+use Rattle.std.proofs.lemmas.Bool.{or_cases, eqb-true, or_left}
 use Rattle.dw_board.specs.FenTokens.{is_digit, colon}
 use Rattle.dw_board.specs.Geometry.{Geometry}
 use Rattle.dw_board.specs.Lists.{Member}
@@ -13,7 +14,8 @@ use Rattle.dw_board.specs.Placement.{Placement, at}
 use Rattle.dw_moves.specs.Laws.{LegalMovesTake}
 use Rattle.dw_moves.specs.Moves.{Move, Legal, LegalAt}
 use Rattle.dw_notation.specs.Text.{cross}
-use Rattle.dw_notation.specs.MoveReading.{IsNumber, is_cross, AreCrossed, single, more, Named, QuietMove, Names, by_dash}
+use Rattle.dw_notation.specs.MoveReading.{IsNumber, is_cross, AreCrossed, single, more, Named}
+use Rattle.dw_notation.specs.MoveReading.{QuietMove, Names, by_dash}
 use Rattle.dw_notation.specs.MoveReading.{by_crosses, Fits, IsRead}
 use Rattle.dw_games.specs.Play.{crossed, results}
 use Rattle.dw_games.specs.Tokens.{is_written, is_inside}
@@ -56,7 +58,8 @@ number_alone g (d ∷ f ∷ j ∷ bytes) a c s rest h e fails = absent s h
 
 crossed_second : {g : Geometry} {text squares : List ℕ} → AreCrossed g text squares → (a c : ℕ) (rest : List ℕ)
     → text ≡ a ∷ c ∷ rest → is_digit c ≡ false → is_cross c ≡ true
-crossed_second (single {g = g} {text = text} {s = s} h) a c rest e fails = absurd (number_alone g text a c s rest h e fails)
+crossed_second (single {g = g} {text = text} {s = s} h) a c rest e fails =
+    absurd (number_alone g text a c s rest h e fails)
 crossed_second (more {g = g} {s = s} front x back h is next) a c rest e fails =
     let split = number_before g front back x a c s rest h e fails in subst (λ z. is_cross z ≡ true) split.1 is
 

@@ -79,7 +79,8 @@ module _ (B : Type 0) where
       → tree_at (s ∷ steps) k ≡ branch s.mv (tree_at steps (k + 1)) (tree_at steps k)
   at_same s steps k e = cond-true (eqb s.depth k) _ _ (eq-eqb s.depth k e)
 
-  pub at_deeper : (s : TreeStep B) (steps : List (TreeStep B)) (k : ℕ) → k < s.depth → tree_at (s ∷ steps) k ≡ tree_at steps k
+  pub at_deeper : (s : TreeStep B) (steps : List (TreeStep B)) (k : ℕ) → k < s.depth
+      → tree_at (s ∷ steps) k ≡ tree_at steps k
   at_deeper s steps k low =
       cond-false (eqb s.depth k) _ _ (ne_eqb s.depth k (λ e. omega (arith, e, low)))
       ∙ cond-true (ltb k s.depth) _ _ (lt-ltb k s.depth low)
@@ -133,7 +134,8 @@ module _ (B : Type 0) where
       let more : List (TreeStep B) = chain d moves in
       elim (cases_order s.depth j) [
         | inl same ↦ at_same s (steps ++ more) j same
-            ∙ (ap (λ z. branch s.mv z (tree_at (steps ++ more) j)) (out_stays d (j + 1) steps moves (omega (arith, low)))
+            ∙ (ap (λ z. branch s.mv z (tree_at (steps ++ more) j))
+            (out_stays d (j + 1) steps moves (omega (arith, low)))
             ∙ (ap (branch s.mv (tree_at steps (j + 1))) (out_stays d j steps moves low) ∙ sym (at_same s steps j same)))
         | inr (inl out) ↦ at_out s (steps ++ more) j out ∙ sym (at_out s steps j out)
         | inr (inr high) ↦ at_deeper s (steps ++ more) j high
@@ -181,7 +183,8 @@ module _ (B : Type 0) where
         (λ e is. (
           out_stays d (k + 1) steps (m ∷ moves) (omega (arith, is)),
           deep_skip k steps more (over_deep k steps h.1 e)
-              ∙ subst (λ z. tree_at (chain {B = B} z (m ∷ moves)) k ≡ straight (m ∷ moves)) (sym is) (chain_here k (m ∷ moves)),
+              ∙ subst (λ z. tree_at (chain {B = B} z (m ∷ moves)) k ≡ straight (m ∷ moves)) (sym is)
+              (chain_here k (m ∷ moves)),
         ))
         (λ e low. (
           deep_skip k steps more (over_deep k steps h.1 e) ∙ chain_deeper d k (m ∷ moves) low,

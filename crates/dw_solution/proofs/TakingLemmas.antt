@@ -1,6 +1,7 @@
 -- The lines of a lister, taken one by one.
 use Rattle.std.proofs.Common.{◌≡◌, ℕ, ◌+◌, ◌<◌, ◌≤◌, zero, suc, List, [], ◌∷◌, ◌++◌, length, take, reverse, refl, sym}
-use Rattle.std.proofs.Common.{ap, subst, ◌∙◌, inl, inr, append_assoc, append-nil, length-append, arith, Bool, true, false}
+use Rattle.std.proofs.Common.{ap, subst, ◌∙◌, inl, inr, append_assoc, append-nil, length-append}
+use Rattle.std.proofs.Common.{arith, Bool, true, false}
 use Rattle.std.proofs.lemmas.List.{take_at, take_all}
 use Rattle.std.proofs.lemmas.Bool.{true≢false, cases_lt, le-ltb, lt-ltb}
 use Rattle.std.specs.Prelude.{◌↔◌, IsTrue, Result, Ok, Err, IfOk, nat_lt}
@@ -103,7 +104,8 @@ given_first g p n a b taken line is gives h =
       (gives.rest first.0).0 (subst (AreToCome g a) first.1 h.to_come),
     )
 
-pub taken_more : (g : Geometry) (p : Placement) (n : ℕ) (a b : LineStack) (old new : List (List Move)) (line : List Move)
+pub taken_more : (g : Geometry) (p : Placement) (n : ℕ) (a b : LineStack) (old new : List (List Move))
+    (line : List Move)
     → line ≡ reverse b.line → GivesFirst g a b → AreTaken g p n a old → new ≡ old ++ line ∷ []
     → Takes g p n true b old new
 taken_more g p n a b old new line is gives h e =
@@ -129,7 +131,8 @@ pub first_some : LinesExist → (g : Geometry) (p : Placement) (n most : ℕ) (l
 first_some exist g p n most lines taken rest all here many =
     sym (ap (take most) (exist.only g p n lines (taken ++ rest) all here) ∙ take_at taken rest most many)
 
-pub more_some : LinesExist → (g : Geometry) (p : Placement) (n most : ℕ) (lines taken : List (List Move)) (line : List Move)
+pub more_some : LinesExist → (g : Geometry) (p : Placement) (n most : ℕ) (lines taken : List (List Move))
+    (line : List Move)
     (rest : List (List Move)) → Lines g p n lines → Lines g p n (taken ++ line ∷ rest) → length taken ≡ most
     → most < length lines
 more_some exist g p n most lines taken line rest all here many =

@@ -13,7 +13,8 @@ use Rattle.dw_moves.specs.Laws.{PlayStays}
 use Rattle.dw_moves.specs.Moves.{Move, Legal, play}
 use Rattle.dw_moves.specs.inner.MemberLemmas.{mem_map}
 use Rattle.dw_notation.specs.Text.{IsMoveText}
-use Rattle.dw_notation.specs.MoveReading.{IsNumber, is_cross, AreCrossed, single, more, Named, Names, by_dash, by_crosses}
+use Rattle.dw_notation.specs.MoveReading.{IsNumber, is_cross, AreCrossed, single, more, Named}
+use Rattle.dw_notation.specs.MoveReading.{Names, by_dash, by_crosses}
 use Rattle.dw_notation.specs.MoveReadingLaws.{WrittenMoveIsNamed}
 use Rattle.dw_solution.specs.Tree.{Tree, over, branch}
 use Rattle.dw_solution.specs.Movetext.{in_movetext}
@@ -143,7 +144,8 @@ all_digits test h (x ∷ xs) e =
 pub decimal_unbroken : (n : ℕ) → IsUnbroken (decimal n)
 decimal_unbroken n = all_digits is_no_feed digit_unbroken (decimal n) (decimal_digits n)
 
-pub unbroken_append : (words later : List (List ℕ)) → AreUnbroken words → AreUnbroken later → AreUnbroken (words ++ later)
+pub unbroken_append : (words later : List (List ℕ)) → AreUnbroken words → AreUnbroken later
+    → AreUnbroken (words ++ later)
 unbroken_append [] later h k = k
 unbroken_append (w ∷ words) later h k = (h.0, unbroken_append words later h.1 k)
 

@@ -2,7 +2,8 @@ use Rattle.std.proofs.Common.{◌∙◌, ◌++◌, ◌∷◌, [], refl, sym, ap,
 use Rattle.std.proofs.lemmas.List.{take_all}
 use Rattle.dw_json.specs.Rows.{AreObjects}
 use Rattle.dw_json.specs.inner.Composing.{then_ok}
-use Rattle.dw_json.proofs.RowLemmas.{all_tokens, array_member, item_member, more_objects, object_value, objects_next, one_value}
+use Rattle.dw_json.proofs.RowLemmas.{all_tokens, array_member, item_member, more_objects}
+use Rattle.dw_json.proofs.RowLemmas.{object_value, objects_next, one_value}
 use Rattle.dw_json.proofs.objects.put_objects.Goals as goal
 
 pub items-init : goal.items-init

@@ -21,7 +21,8 @@ returns-in-Some c = then_ok c.put_text-in-Some.result c.put_text-in-Some.ensures
 pub returns-in-None : goal.returns-in-None
 returns-in-None c =
     two_parts c.args.kind.now (texts_in c.args.words.now) c.args.kind.now c.as_str.result.now
-    (map string_bytes c.as_slice.result.now) [] c.args.row.now c.put_text.new.row c.put_text-2.new.row c.put_texts.new.row
+    (map string_bytes c.as_slice.result.now) [] c.args.row.now c.put_text.new.row c.put_text-2.new.row
+    c.put_texts.new.row
     c.put_texts.new.row c.as_str.ensures.value (ap (map string_bytes) c.as_slice.ensures.value)
     (sym (ap (λ z. refutation_members (option_map string_bytes z)) c.in-None.is))
     c.in_ok-put_text.ensures c.in_ok-put_text-2.ensures c.in_ok-put_texts.ensures (none c.put_texts.new.row)

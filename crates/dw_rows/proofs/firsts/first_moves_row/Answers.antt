@@ -41,6 +41,10 @@ returns g c =
           (objects_told (IsFirstMoveObject geo c.position-position.result) told_by c.as_slice.result.now each
           c.in_ok-put_objects.ensures.1)),
       is ∙ (λ i. row ((codes "problem", count (c.into.ensures i))
-          ∷ (codes "fen", string ((c.as_str.ensures.value ∙ (c.fen_text.ensures ∙ ap (written geo) c.position-position.ensures)) i))
+          ∷ (
+            codes "fen",
+            string ((c.as_str.ensures.value ∙
+                (c.fen_text.ensures ∙ ap (written geo) c.position-position.ensures)) i),
+          )
           ∷ (codes "n", count (c.into-2.ensures i)) ∷ (codes "winning", count (c.wins.ensures i)) ∷ last ∷ [])),
     ))

@@ -32,7 +32,8 @@ returns-in_ok-texts-in-RefutedBy g c = λ p m there. then_ok c.put_texts.result 
             subst (λ z. AreMoveTexts g.B.Board.geometry z c.in-RefutedBy.replies.items all) there
                 (subst (λ z. AreMoveTexts g.B.Board.geometry c.args.after.now z all) c.as_slice.ensures.value
                 (subst (AreMoveTexts g.B.Board.geometry c.args.after.now c.as_slice.result.now)
-                (sym (ap (map string_bytes) c.as_slice-in-RefutedBy.ensures.value)) c.in_ok-texts-in-RefutedBy.ensures)),
+                (sym (ap (map string_bytes) c.as_slice-in-RefutedBy.ensures.value))
+                c.in_ok-texts-in-RefutedBy.ensures)),
             refl,
           ),
       written,

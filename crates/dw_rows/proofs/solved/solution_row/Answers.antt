@@ -37,7 +37,11 @@ returns g c =
       subst (λ z. AreObjects (IsPlacedObject geo) z each) (ap (map placed_by) c.as_slice.ensures.value ∙ tree.2)
           (objects_told (IsPlacedObject geo) placed_by c.as_slice.result.now each c.in_ok-put_objects.ensures.1),
       is ∙ (λ i. row ((codes "problem", count (c.into.ensures i))
-          ∷ (codes "fen", string ((c.as_str.ensures.value ∙ (c.fen_text.ensures ∙ ap (written geo) c.position.ensures)) i))
+          ∷ (
+            codes "fen",
+            string ((c.as_str.ensures.value ∙
+                (c.fen_text.ensures ∙ ap (written geo) c.position.ensures)) i),
+          )
           ∷ (codes "n", count (c.into-2.ensures i)) ∷ (codes "verdict", string (c.word.ensures i))
           ∷ (codes "more", boolean (c.is_cut.ensures i)) ∷ last ∷ [])),
     ))

@@ -8,7 +8,8 @@ bytes-preserved c = record {
   within = omega arith;
   word = λ w words whole e.
       let low : c.bytes.place < length c.args.text.now = omega arith in
-      word_on c.args.text.now c.args.from c.bytes.place w words low c.if-text-place-ne10.true (c.bytes.invariant.word w words whole e);
+      word_on c.args.text.now c.args.from c.bytes.place w words low c.if-text-place-ne10.true
+      (c.bytes.invariant.word w words whole e);
 }
 
 pub returns-else-text-place-ne10-clause-feed : goal.returns-else-text-place-ne10-clause-feed

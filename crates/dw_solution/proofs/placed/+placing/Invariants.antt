@@ -9,7 +9,8 @@ decreases-push_moves g l = length l.steps.now
 
 abbrev pub invariant-moves : goal.invariant-moves
 invariant-moves g l = record {
-  placed : map placed_by l.all.items ++ placed_moves g.B.Board.geometry l.position (l.depth + 1) (tree_at l.left l.depth)
+  placed : map placed_by l.all.items ++ placed_moves g.B.Board.geometry l.position (l.depth + 1)
+      (tree_at l.left l.depth)
       ≡ map placed_by l.initial.all.items
       ++ placed_moves g.B.Board.geometry l.position (l.depth + 1) (tree_at l.steps l.depth);
   playable : IsPlayable g.B.Board.geometry l.position (tree_at l.left l.depth);

@@ -30,8 +30,8 @@ returns-in_err-remarks-clause-went g c =
 pub returns-clause-remarks : goal.returns-clause-remarks
 returns-clause-remarks g c =
     let tree = c.args.tree.now in
-    subst (λ z. Say tree.paths c.in_ok-remarks.remarks.items (AreRemarks g.B.Board.geometry tree.paths c.args.moves.value z
-    []))
+    subst (λ z. Say tree.paths c.in_ok-remarks.remarks.items
+    (AreRemarks g.B.Board.geometry tree.paths c.args.moves.value z []))
     c.start-position.ensures
     (c.in_ok-remarks.ensures.remarks [] (record { there = refl; position = c.start-position.ensures }))
 

@@ -39,7 +39,8 @@ returns-in-Some-3-clause-words g c = λ r is.
     let begun = subst (λ made. IfSome made (IsBegun g.B.Board.geometry p said.0)) c.in-Some-3.is
     (c.in_ok-beginning-in-Open.ensures.begun said.0 said.1) in
     subst (λ z. IfOk c.words_for-in-Some-3.result (λ made. IfSome made (λ text. AreRemarkWords g.B.Board.geometry p z
-    (texts_in text)))) (ap (leaves_open said.0) c.as_slice-in-Some-3.ensures.value ∙ said.2) (c.words_for-in-Some-3.ensures.words p said.0 begun)
+    (texts_in text)))) (ap (leaves_open said.0) c.as_slice-in-Some-3.ensures.value ∙ said.2)
+    (c.words_for-in-Some-3.ensures.words p said.0 begun)
 
 pub returns-in-Some-4-clause-words : goal.returns-in-Some-4-clause-words
 returns-in-Some-4-clause-words g c = λ r is.
@@ -70,7 +71,8 @@ returns-in-Some-2-clause-some g c = λ r is can.
     (subst (λ z. remark_in tree z ≡ Some r) c.in-Also.is is) in
     let begun = subst (λ made. IfSome made (IsBegun g.B.Board.geometry p said.0)) c.in-Some-2.is
     (c.in_ok-beginning-in-Also.ensures.begun said.0 said.1) in
-    c.words_for.ensures.some p said.0 begun (subst (CanBeTold g.B.Board.geometry p) (sym (ap (also said.0) c.as_slice.ensures.value ∙ said.2)) can)
+    c.words_for.ensures.some p said.0 begun (subst (CanBeTold g.B.Board.geometry p)
+    (sym (ap (also said.0) c.as_slice.ensures.value ∙ said.2)) can)
 
 pub returns-in-Some-3-clause-some : goal.returns-in-Some-3-clause-some
 returns-in-Some-3-clause-some g c = λ r is can.
@@ -80,4 +82,6 @@ returns-in-Some-3-clause-some g c = λ r is can.
     (subst (λ z. remark_in tree z ≡ Some r) c.in-Open.is is) in
     let begun = subst (λ made. IfSome made (IsBegun g.B.Board.geometry p said.0)) c.in-Some-3.is
     (c.in_ok-beginning-in-Open.ensures.begun said.0 said.1) in
-    c.words_for-in-Some-3.ensures.some p said.0 begun (subst (CanBeTold g.B.Board.geometry p) (sym (ap (leaves_open said.0) c.as_slice-in-Some-3.ensures.value ∙ said.2)) can)
+    c.words_for-in-Some-3.ensures.some p said.0 begun
+    (subst (CanBeTold g.B.Board.geometry p) (sym (ap (leaves_open said.0) c.as_slice-in-Some-3.ensures.value ∙ said.2))
+    can)
