@@ -17,8 +17,8 @@ CRATES, PAGE = TOP / "crates", TOP / "docs/CALLS.md"
 WIDTH = 120
 HEAD = """# Functions with a contract
 
-This index has each public function with a contract, and the methods of the crates' own traits. `rt ci` proves them all.
-Follow a link to the file: a comment above each function says what it does, and its clauses state it exactly.
+This index has each public function with a contract, and the methods of the crates' traits, private ones too. `rt ci`
+proves them all. Follow a link: a comment above each function says what it does, and its clauses state what is proved.
 [CONTRACTS.md](CONTRACTS.md) explains the notation. Most functions are at the root of their crate
 (`dw_report::key_texts`), the others in the module of their file (`dw_page::escape::push_text`).
 

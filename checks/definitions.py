@@ -10,8 +10,7 @@ with their comments, as reading_order.py makes it; --write writes it again.
 No public contract of a layer may lead to a definition of specs/inner, and every other definition must be reached by
 some public contract. The exception is a sealed definition, as its comment says: contracts name it and state everything
 that is known of it, so it is not followed, and no other crate may unfold it. Definitions of public contracts name only
-public types of the code, and no crate cites the proofs of another one. No line in src and specs may have more than 120
-columns.
+public types of the code, and no crate cites the proofs of another one.
 """
 import dataclasses
 import pathlib
@@ -23,7 +22,6 @@ import reading_order
 
 TOP = pathlib.Path(__file__).resolve().parent.parent
 CRATES, PROVED = TOP / "crates", TOP / "docs/PROVED.md"
-MOST = 120
 NAME = r"[\w'◌>=-]+"
 STRING = re.compile(r'"(?:\\.|[^"\\])*"')
 USE = re.compile(r"(?:ghost )?use (Rattle\.[\w.]+)\.\{(.*)\};?$")
@@ -280,13 +278,9 @@ def main(words):
         assert row in told.splitlines(), f"docs/PROVED.md has no line {row}"
         if title == "`run`":
             whole = sum(len(path.read_text().splitlines()) for path in files)
-            assert f"those of `run` have {whole:,} lines in all" in " ".join(told.split()), f"{whole:,} lines in all"
+            assert f"files of `run` have {whole:,} lines" in " ".join(told.split()), f"{whole:,} lines in all"
     check_inner()
     check_citations()
-    for path in sorted([*CRATES.glob("*/src/**/*.rt"), *CRATES.glob("*/specs/**/*.antt")]):
-        wide = [number for number, line in enumerate(path.read_text().splitlines(), 1) if len(line) > MOST]
-        assert not wide, f"{path.relative_to(TOP)}: over {MOST} columns in line {wide}"
-    print(f"src and specs: no line of more than {MOST} columns")
 
 
 if __name__ == "__main__":

@@ -1,4 +1,4 @@
--- The content and the losses of a memo whose kind is chosen: those of the chosen memo.
+-- The content and the losses of a cache whose kind is chosen: those of the chosen cache.
 use Rattle.std.specs.Prelude.{ℕ, []}
 use Rattle.dw_memo.specs.Content.{Content}
 use Rattle.dw_memo.specs.declared.any_memo.AnyMemo.{AnyMemo}

@@ -1,4 +1,4 @@
--- The content of a memo: a finite map from positions to bounds, as a list of entries.
+-- The content of a cache: a finite map from positions to bounds, as a list of entries.
 use Rattle.std.specs.Prelude.{◌≡◌, ◌↔◌, ◌⊎◌, List, [], map, Option, Some, None}
 use Rattle.dw_board.specs.Lists.{Member, NoRepeat}
 use Rattle.dw_board.specs.Placement.{Placement}

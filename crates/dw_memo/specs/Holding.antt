@@ -1,4 +1,4 @@
--- A memo that holds entries, as contracts see it.
+-- A cache that holds entries, as contracts see it.
 use Rattle.std.specs.Prelude.{ℕ}
 use Rattle.dw_memo.specs.Content.{Content}
 

@@ -1,4 +1,4 @@
--- The effect of a note on a memo, which may lose entries.
+-- The effect of a note on a cache, which may lose entries.
 use Rattle.std.specs.Prelude.{◌≡◌, ◌≢◌, ℕ, ◌+◌, ◌-◌, ◌^◌, ◌⊎◌, min, List, length}
 use Rattle.dw_board.specs.Placement.{Placement}
 use Rattle.dw_memo.specs.declared.bounds.Bounds.{Bounds}
@@ -7,7 +7,7 @@ use Rattle.dw_memo.specs.declared.memo.Noted.TheVariants.{Kept}
 use Rattle.dw_memo.specs.Content.{Entry, entry, Content, IsMap}
 use Rattle.dw_board.specs.Lists.{Member, NoRepeat}
 
--- the given entry, or an old one of another position: the content of a memo that loses nothing, after a note
+-- the given entry, or an old one of another position: the content of a cache that loses nothing, after a note
 abbrev pub IsPutIn : Content → Placement → Bounds → Entry → Type 0
 IsPutIn old p b e = (e ≡ entry p b) ⊎ (Member e old × (e.position ≢ p))
 

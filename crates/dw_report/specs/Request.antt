@@ -1,4 +1,4 @@
--- The request for a report, which has no limit, no memo and no order of moves.
+-- The request for a report, which has no limit, no cache and no order of moves.
 use Rattle.std.specs.Prelude.{ℕ, Option, option_map, List, ◌==◌, Bool, true, false, Some, None}
 use Rattle.dw_moves.specs.Moves.{Move}
 use Rattle.dw_notation.specs.declared.problems.Form.{Form}

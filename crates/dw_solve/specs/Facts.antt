@@ -1,4 +1,4 @@
--- The bounds in a memo as facts, and when they are right.
+-- The bounds in a cache as facts, and when they are right.
 use Rattle.std.specs.Prelude.{◌≡◌, ℕ, ◌-◌, ◌<◌, ◌≤◌, ◌⊎◌, Some}
 use Rattle.dw_board.specs.Geometry.{Geometry}
 use Rattle.dw_board.specs.Placement.{Placement}
@@ -7,7 +7,7 @@ use Rattle.dw_memo.specs.Content.{Entry, Content}
 use Rattle.dw_board.specs.Lists.{Member}
 use Rattle.dw_solve.specs.Wins.{Win}
 
--- the memo says that the position has no win within f moves
+-- the cache says that the position has no win within f moves
 pub record KnownFail (c : Content) (p : Placement) (f : ℕ) : Type 0 where
   pub entry : Entry
   pub held : Member entry c
@@ -16,7 +16,7 @@ pub record KnownFail (c : Content) (p : Placement) (f : ℕ) : Type 0 where
   pub is : entry.bounds.fails ≡ Some bound
   pub enough : f ≤ bound
 
--- the memo says that the position has a win within w moves
+-- the cache says that the position has a win within w moves
 pub record KnownWin (c : Content) (p : Placement) (w : ℕ) : Type 0 where
   pub entry : Entry
   pub held : Member entry c
@@ -25,15 +25,15 @@ pub record KnownWin (c : Content) (p : Placement) (w : ℕ) : Type 0 where
   pub is : entry.bounds.wins ≡ Some bound
   pub enough : bound ≤ w
 
--- the memo decides whether there is a win within n moves
+-- the cache decides whether there is a win within n moves
 abbrev pub IsDecided : Content → Placement → ℕ → Type 0
 IsDecided c p n = KnownWin c p n ⊎ KnownFail c p n
 
--- after each legal reply the memo decides whether there is a win within n moves, unless n is 0
+-- after each legal reply the cache decides whether there is a win within n moves, unless n is 0
 abbrev pub RepliesAreDecided : Geometry → Content → Placement → ℕ → Type 0
 RepliesAreDecided g c q n = (r : Move) → Legal g q r → (n ≡ 0) ⊎ IsDecided c (play g q r) n
 
--- every fact of the memo is true
+-- every fact of the cache is true
 pub record AreTrue (g : Geometry) (c : Content) : Type 0 where
   pub fails : (p : Placement) (f : ℕ) → KnownFail c p f → Win g p f → ⊥
   pub wins : (p : Placement) (w : ℕ) → KnownWin c p w → Win g p w
