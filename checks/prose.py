@@ -18,7 +18,7 @@ DOCUMENTS = [*(TOP / name for name in ("README.md", "CONTRIBUTING.md", "CHANGELO
 GENERATED = {"DEFINITIONS.md", "CALLS.md"}
 COLUMNS, SENTENCE = 120, 35
 WRITTEN = ("crates/*/src/**/*.rt", "crates/*/specs/**/*.antt", "crates/*/proofs/**/*.antt", "checks/*.py",
-           "web/**/*.*")
+           "web/**/*.*", "docs/dw*")
 # A word, and the better one.
 WORDS = {
     r"can not": "cannot",
