@@ -453,8 +453,15 @@ def check_compare(browser):
     browser.wait("t.all('#remarks .remark').length === 2", 30)
     browser.run("t.all('#remarks .remark')[1].click()")
     browser.wait("t.at('#fen').value === 'W:W27,28:B22'", 10)
+    assert browser.run("t.at('#compared-first').hidden")
+    games = '[FEN "W:W27:B16"] 1. 27-22 * [FEN "W:W27,32:B18"] 1. 32-28 *'
+    browser.run(f"t.set('#movetext', {json.dumps(games)})")
+    browser.run("t.at('#compare').click()")
+    becomes(browser, "[t.at('#compared').dataset.line, t.at('#compared-first').hidden, "
+            "t.at('#compared-first').textContent.slice(0, 43)]",
+            ["fails in 1: 1 fail, 0 end, 0 open, 0 also", False, "Only the first of 2 games was compared. For"])
     browser.run("t.at('#tab-solve').click()")
-    print(f"{browser.name}: {len(CHECKS) + 1} printed solutions compared")
+    print(f"{browser.name}: {len(CHECKS) + 2} printed solutions compared")
 
 
 def check_mend(browser):

@@ -26,11 +26,11 @@ export function comparing(app) {
     let running = null;
     /** @type {Checked | null} */
     let checked = null;
-    let failed = '', typed = '';
+    let failed = '', typed = '', inText = 1;
     const field = control('movetext', HTMLTextAreaElement);
     const stop = control('stop-compare', HTMLButtonElement), go = control('compare', HTMLButtonElement);
 
-    /** Compares what stands in the field; a whole game brings its own position. */
+    /** Compares what stands in the field; a whole game brings its own position, and is the first of its text. */
     async function compareField() {
         const isGame = /^\s*\[/.test(field.value);
         app.returnToProblem();
@@ -40,7 +40,8 @@ export function comparing(app) {
             show();
             return;
         }
-        await compare(isGame ? field.value : `[FEN "${app.fen}"]${field.value}`, 1, isGame ? '' : field.value);
+        const text = field.value, games = isGame ? await app.rules.count(text, app.position.rows) : 1;
+        await compare(isGame ? text : `[FEN "${app.fen}"]${text}`, 1, isGame ? '' : text, games);
     }
 
     /**
@@ -48,14 +49,16 @@ export function comparing(app) {
      * @param {string | Uint8Array} games
      * @param {number} number
      * @param {string} text The movetext alone, if it was typed.
+     * @param {number} count How many games the text has that was typed.
      */
-    async function compare(games, number, text = '') {
+    async function compare(games, number, text = '', count = 1) {
         running?.abort();
         const controller = new AbortController(), { signal } = controller, { rows } = app.position;
         running = controller;
         checked = null;
         failed = '';
         typed = text;
+        inText = count;
         stop.disabled = false;
         go.disabled = true;
         show();
@@ -129,6 +132,8 @@ export function comparing(app) {
         const unread = checked?.solution_refused ?? '';
         byId('compared-fault').replaceChildren(...faultPlace(unread));
         reveal('compared-fault', Boolean(unread && typed));
+        byId('compared-first').textContent = app.say('firstOnly', inText);
+        reveal('compared-first', checked !== null && inText > 1);
         byId('remarks').replaceChildren(...(checked?.remarks ?? []).map(item));
     }
 

@@ -251,6 +251,12 @@ const TEXTS = {
         'Comparer la solution du fichier',
         'Сравнить решение из файла',
     ],
+    firstOnly: [
+        'Only the first of # games was compared. For the others, open the file in Collection.',
+        'Alleen de eerste van # partijen is vergeleken. Open voor de andere het bestand in Verzameling.',
+        'Seule la première des # parties a été comparée. Pour les autres, ouvrez le fichier dans Recueil.',
+        'Сравнена только первая из партий (всего #). Для остальных откройте файл в разделе «Сборник».',
+    ],
     openFile: ['Open a file', 'Open een bestand', 'Ouvrir un fichier', 'Открыть файл'],
     sayHolds: [
         'The solution holds, and nothing is left out: win in #.',

@@ -38,6 +38,16 @@ export class Rules {
     }
 
     /**
+     * How many problems a PDN text has.
+     * @param {string} text
+     * @param {Rows} rows
+     */
+    async count(text, rows) {
+        const { report } = await this.ask(['dw', 'show', '--pdn', ...boardOf(rows)], text);
+        return problemsIn(textOf(report)).length;
+    }
+
+    /**
      * The legal moves of positions, each with the position after it.
      * @param {string[]} fens
      * @param {Rows} rows
