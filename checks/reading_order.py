@@ -13,8 +13,8 @@ WIDTH = 120
 HEAD = [
     "These are all definitions that the contract of `run` names, directly or through others. "
     "[PROVED.md](PROVED.md#how-much-there-is-to-believe) counts them. They go from the report down to boards. Within a "
-    "file each definition comes after those that it uses, so the main one comes last. `g` is a board, `p` or `q` are "
-    "its pieces and the side to move, and `n` is a number of moves.",
+    "file each definition comes after those that it uses. `g` is a board, `p` or `q` are its pieces and the side to "
+    "move, and `n` is a number of moves.",
     "Each sentence is the comment above the definition in its file. `checks/definitions.py --write` makes this page.",
 ]
 TYPES = "Definitions and contracts also name these plain types and constants of the code."
