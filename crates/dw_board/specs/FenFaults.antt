@@ -61,7 +61,7 @@ pub data RangeNext (g : Geometry) : (before ts rest : List Token) → Placing �
       → (length ts ≡ 1 → first_is (is_sign dash) rest ≡ false)
       → RangeNext g before ts rest (record { is_king = kings; from = m; to = n }) side p
 
--- after the tokens before, the first token of those after is at fault, or the text's end if there is none
+-- the first token of `after` is at fault, or the text's end; `before` has the tokens before it
 pub data FaultAt (g : Geometry) : (before after : List Token) → FenFaultKind → Type 0 where
   no_turn : {after : List Token} → first_named side_named after ≡ None → FaultAt g [] after Turn
   no_colon : {turn : Token} {after : List Token} {mover : Side} → side_named turn.text ≡ Some mover
@@ -87,7 +87,7 @@ pub data FaultAt (g : Geometry) : (before after : List Token) → FenFaultKind �
       → ListRead g before side is p → is_sign full_stop stop.text ≡ true → is_empty after ≡ false
       → FaultAt g (before ++ stop ∷ []) after Rest
 
--- the earliest fault of a text, at the first of the tokens after; that it is too long comes before any other
+-- the earliest fault of a text, and its place; that it is too long comes before any other
 pub data IsFirstFault (g : Geometry) : List ℕ → FenFault → Type 0 where
   too_long : {text : List ℕ} → 1024 < length text → IsFirstFault g text (record { what = TooLong; place = 1025 })
   fault_at : {text : List ℕ} (before after : List Token) {what : FenFaultKind} → length text ≤ 1024

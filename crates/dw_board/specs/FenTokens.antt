@@ -62,7 +62,7 @@ with_byte byte place joins tokens =
       place = place;
     } ∷ tokens)
 
--- the tokens of bytes, the first of which has this place
+-- the tokens of bytes; the first byte has this place
 abbrev pub tokens_from : ℕ → List ℕ → List Token
 tokens_from place [] = []
 tokens_from place (byte ∷ bytes) = with_byte byte place (begins_with_digit bytes) (tokens_from (place + 1) bytes)

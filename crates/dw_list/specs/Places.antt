@@ -13,7 +13,7 @@ After lines l rest = (earlier : List (List Move)) × (lines ≡ earlier ++ l ∷
 abbrev pub Begins : Geometry → Placement → ℕ → List Move → Type 0
 Begins g p n l = (rest : List Move) × Line g p n (l ++ rest)
 
--- the place of the fault in a list that is no line: its first move with which no line begins, else one past its end
+-- the place of the fault in a list that is no line: its first move that continues no line, else one past its end
 pub data IsPlace (g : Geometry) (p : Placement) (n : ℕ) (l : List Move) : ℕ → Type 0 where
   lacks : (Line g p n l → ⊥) → (l ≡ []) ⊎ Begins g p n l → IsPlace g p n l (length l + 1)
   leaves : {place : ℕ} → 1 ≤ place → (Begins g p n (take place l) → ⊥)

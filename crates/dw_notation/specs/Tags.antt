@@ -60,7 +60,7 @@ pub data Spells : List ℕ → List ℕ → Type 0 where
   plain : {text value : List ℕ} (byte : ℕ) → is_plain byte ≡ true → Spells text value
       → Spells (byte ∷ text) (byte ∷ value)
 
--- a bracket, a name, a value in quotation marks and a bracket, with blanks between
+-- a bracket, a name, a value in quotation marks and a bracket; blanks may stand between them
 pub record IsTag (text : List ℕ) (tag : Tag) : Type 0 where
   pub first : List ℕ
   pub middle : List ℕ

@@ -24,7 +24,7 @@ pub record IsComplete (g : Geometry) (p : Placement) (most : ℕ) (lines : List 
   pub are : AreLineTexts g p lines texts
   pub is : text ≡ texts ++ codes "complete " ++ decimal (length lines) ++ codes "\n"
 
--- the last line of a list that is cut: `more after` and the token of its last line, or `more` where lines have none
+-- the end of a cut list: `more after` and the token of its last line of play, or `more` on boards without tokens
 unfoldable pub more_after : Geometry → List Move → List ℕ
 more_after g last =
     if (g.rows == 10) || (g.rows == 8) then codes "more after " ++ token_of g last ++ codes "\n" else codes "more\n"
@@ -45,7 +45,7 @@ pub record IsCut (g : Geometry) (p : Placement) (most : ℕ) (lines : List (List
 abbrev pub IsListing : Geometry → Placement → ℕ → List (List Move) → List ℕ → Type 0
 IsListing g p most lines text = IsComplete g p most lines text ⊎ IsCut g p most lines text
 
--- the lines of a position: all of them, or those after a given one, which is refused with its place if it is none
+-- the lines of a position: all, or those after a given one; if that is no line, its refusal with the place
 abbrev pub IsListedText : Geometry → Placement → ℕ → ℕ → Option (List Move) → List ℕ → Type 0
 IsListedText g p n most None text = (lines : List (List Move)) × Lines g p n lines × IsListing g p most lines text
 IsListedText g p n most (Some l) text =

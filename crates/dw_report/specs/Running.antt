@@ -50,8 +50,8 @@ pub record Counts (g : Geometry) (request : Request) (summary : Summary) (proble
   pub shown : summary.shown ≡ length (chosen request.only problems)
   pub refusals : AreRefused g request (chosen request.only problems) summary.refused
 
--- No more was read than the problem of this number needs: before the last bytes, at most as many as one read gives,
--- fewer problems had ended.
+-- no more was read than the problem of this number needs: before the last bytes, at most 2,048, fewer problems had
+-- ended
 pub record ReadsUpTo (g : Geometry) (form : Form) (number : ℕ) (read : List ℕ) : Type 0 where
   pub before : List ℕ
   pub last : List ℕ
@@ -61,7 +61,7 @@ pub record ReadsUpTo (g : Geometry) (form : Form) (number : ℕ) (read : List �
   pub are : AreProblems g form false before ended
   pub fewer : length ended < number
 
--- the source was read to its end, or up to the problem with which the run ends: the one requested, or one too many
+-- the source was read to its end, or up to the problem with which the run ends: the one requested, or the 1,000,001st
 abbrev pub IsReadThrough : Geometry → Request → List Numbered → Option (List ℕ) → List ℕ → Type 0
 IsReadThrough g request problems left read =
     IsAtEnd left ⊎ ((number : ℕ) × ((request.only ≡ Some number) ⊎ (number ≡ MAX_PROBLEMS + 1))
