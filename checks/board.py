@@ -369,6 +369,16 @@ def check_choice(browser):
     print(f"{browser.name}: one of two captures with the same ends is chosen")
 
 
+def drop_two(browser):
+    """Drops a file of two problems on the empty list."""
+    browser.run("""(() => {
+        const dataTransfer = new DataTransfer();
+        dataTransfer.items.add(new File(['W:W27,45:B16\\nW:W3:B20\\n'], 'two.fen'));
+        t.at('#drop').dispatchEvent(new DragEvent('drop', { dataTransfer, bubbles: true, cancelable: true }));
+    })()""")
+    browser.wait("t.at('#list').dataset.count === '2'", 20)
+
+
 def check_files(browser, folder):
     """An author's solution is opened, a file of problems is dropped, and a browser may keep nothing."""
     browser.run(call("read", "W:W27,32:B18"))
@@ -381,12 +391,7 @@ def check_files(browser, folder):
     browser.wait("t.all('#remarks .remark').length === 2", 30)
     browser.click("#tab-collection")
     browser.run("t.empty()")
-    browser.run("""(() => {
-        const dataTransfer = new DataTransfer();
-        dataTransfer.items.add(new File(['W:W27,45:B16\\nW:W3:B20\\n'], 'two.fen'));
-        t.at('#drop').dispatchEvent(new DragEvent('drop', { dataTransfer, bubbles: true, cancelable: true }));
-    })()""")
-    browser.wait("t.at('#list').dataset.count === '2'", 20)
+    drop_two(browser)
     browser.run("Storage.prototype.setItem = () => { throw new Error('not allowed'); }")
     browser.run("t.empty()")
     browser.wait("t.at('#list').dataset.count === '0'", 10)
@@ -395,8 +400,17 @@ def check_files(browser, folder):
     print(f"{browser.name}: files are opened and dropped; what cannot be kept is told")
 
 
+def printed(browser, folder):
+    """The text of the page as it would be printed."""
+    said = browser.ask("Page.printToPDF", browser.session, preferCSSPageSize=True)
+    (folder / "printed.pdf").write_bytes(base64.b64decode(said["data"]))
+    return subprocess.run(["pdftotext", "-layout", folder / "printed.pdf", "-"], capture_output=True, text=True,
+                          check=True).stdout
+
+
 def check_looks(browser, folder):
-    """Light and dark differ; a problem with its answer is printed on one sheet, also after a move of the solution."""
+    """Light and dark differ; a problem with its answer is printed on one sheet, also after a move of the solution. A
+    list is printed without the board."""
     if browser.name != "chromium":
         return
     colours = []
@@ -409,12 +423,16 @@ def check_looks(browser, folder):
     browser.run(call("solve", 5))
     browser.run("t.all('#solution .move')[0].click()")
     browser.wait("t.at('#fen').value !== 'W:W27,45:B16'")
-    said = browser.ask("Page.printToPDF", browser.session, preferCSSPageSize=True)
-    (folder / "problem.pdf").write_bytes(base64.b64decode(said["data"]))
-    text = subprocess.run(["pdftotext", "-layout", folder / "problem.pdf", "-"], capture_output=True, text=True,
-                          check=True).stdout
+    text = printed(browser, folder)
     assert "White to play and win in 2" in text and "W:W27,45:B16" in text and text.count("\f") == 1, text
-    print(f"{browser.name}: light and dark, and a sheet that is printed")
+    browser.click("#tab-collection")
+    browser.run("t.empty()")
+    drop_two(browser)
+    text = printed(browser, folder)
+    assert text.count("White to play") == 2 and "W:W27,45:B16" not in text, text
+    browser.run("t.empty()")
+    browser.click("#tab-solve")
+    print(f"{browser.name}: light and dark, and two sheets that are printed")
 
 
 def check_stop(browser):

@@ -34,7 +34,6 @@ while [ $# -gt 0 ]; do
     shift
 done
 echo "$crate" >>"$kit/asked"
-echo "$crate $(nice)" >>"$kit/niceness"
 wait=0.05
 [ "$(cat "$kit/slow" 2>/dev/null)" = "$crate" ] && wait=30
 case $made in
@@ -118,10 +117,6 @@ class Copy:
         path.unlink(missing_ok=True)
         return said
 
-    def niceness(self):
-        """How nice the prover was to others at each crate."""
-        return {crate: int(nice) for crate, nice in map(str.split, (self.kit / "niceness").read_text().splitlines())}
-
     def libraries(self):
         return sorted(path.name for path in self.top.glob("crates/*/out/statements/*"))
 
@@ -197,17 +192,12 @@ def builds():
         assert len(asked) == ALL and asked[-1] == "dw", asked
         assert all(stands_on(crate) <= set(asked[:i]) for i, crate in enumerate(asked, 1)), asked
         assert "dw: built" in complained, complained
-        nice = made.niceness()
-        for first, other in (("dw_moves", "dw_memo"), ("dw_solve", "dw_notation")):
-            assert nice[other] > nice[first] or nice[first] == 19, f"{other} does not let {first} go ahead: {nice}"
         assert made.libraries() == sorted(f"{crate}.rlib" for crate in asked[:-1]) and made.is_whole()
         assert made.call("x") == (0, f"program {ALL} x\n", "") and not made.asked()
         status, out, complained = made.call("find", name="dw-desk")
         more = sorted(stands_on("dw_desk") - stands_on("dw"))
         assert (status, out) == (0, f"program {len(more)} find\n"), (status, out, complained)
         assert "dw-desk: built" in complained and sorted(made.asked()) == more, "what dw stands on is proved again"
-        nice = made.niceness()
-        assert nice["dw_json"] > nice["dw_games"] or nice["dw_games"] == 19, f"more stands on dw_games: {nice}"
         later = time.time() + 1
         os.utime(made.top / "crates/dw_solve/src/lib.rt", (later, later))
         time.sleep(1.2)

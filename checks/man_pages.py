@@ -168,7 +168,7 @@ def default_and_values(uses):
         commands.setdefault(entry.default, []).append(command)
     first, *others = sorted(commands, key=lambda default: -len(commands[default]))
     if first:
-        others = "".join(f", of {' and '.join(commands[default])} {default}" for default in others)
+        others = "".join(f"; for {' and '.join(commands[default])}: {default}" for default in others)
         yield f"[default: {first}{others}]"
     if values:
         yield f"[possible values: {', '.join(values)}]"

@@ -14,7 +14,7 @@ HEAD = [
     "These are all definitions that the contract of `run` names, directly or through others. "
     "[PROVED.md](PROVED.md#how-much-there-is-to-believe) counts them. They go from the report down to boards. Within a "
     "file each definition comes after those that it uses. `g` is a board, `p` or `q` are its pieces and the side to "
-    "move, and `n` is a number of moves.",
+    "move, `n` is a number of moves, `m` a move, `s` a square.",
     "Each sentence is the comment above the definition in its file. `checks/definitions.py --write` makes this page.",
 ]
 TYPES = "Definitions and contracts also name these plain types and constants of the code."

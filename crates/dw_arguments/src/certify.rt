@@ -1,6 +1,6 @@
 //! The arguments of the command `certify`.
-use crate::desk_options::{CACHE_HELP, moves_of, progress};
-use crate::options::{board, cache, file, memo, one_problem, pdn, within};
+use crate::desk_options::{moves_of, searcher};
+use crate::options::{CommandTexts, memo, one_problem, within};
 use clap::{ArgMatches, Command};
 use dw_stipulation::MoveCount;
 use std::alloc::{AllocError, Global};
@@ -16,12 +16,12 @@ const ABOUT: &str =
     "Writes a certificate that a problem is won or not, for anyone to check without a search.";
 
 const EXAMPLES: &str = "\
-For a win, each line has a position and the number of moves in which it is won. One move there
-leaves only replies to positions of other lines, which are won in fewer moves. For no win, each
-line has a position and a number of moves in which it is not won. After each move there, some reply
-leads to the position of another line, which is not won in the moves left. The cache must hold
-everything that the search finds: --memo lru does, up to --cache positions. checks/certificate.py
-(installed as dw-certificate) checks it.
+For a win, each line has a position and the number of moves in which it is won. After one move
+there, no reply is left, or every reply leads to the position of another line, won in fewer moves.
+For no win, each line has a position and a number of moves in which it is not won. After each move
+there, some reply leads to the position of another line, which is not won in the moves left. The
+cache must hold everything that the search finds: --memo lru does, up to --cache positions.
+checks/certificate.py (installed as dw-certificate) checks it.
 
 Examples:
   echo W:W27,45:B16 | dw-desk certify -n 2
@@ -30,20 +30,10 @@ Examples:
 /// Returns the command with its arguments.
 pub(crate) fn certify_command<'a>(alloc: Global) -> Result<Command<'a>, AllocError> {
     let help = "Certify a win in N moves of the side to move, 1 to 20, or that there is none";
-    let arguments = vec![in alloc;
-        board(alloc),
-        pdn(alloc),
-        one_problem(alloc, "Certify problem I, 1 to 1000000 [default: 1]"),
-        file(alloc),
-        within(alloc, help).required(true),
-        memo(alloc, "lru"),
-        cache(alloc, CACHE_HELP),
-        progress(alloc),
-    ]?;
-    Command::new(alloc, "certify")
-        .about(ABOUT)
-        .after_help(EXAMPLES)
-        .args(arguments)
+    let own = vec![in alloc; within(alloc, help).required(true), memo(alloc, "lru")]?;
+    let texts = CommandTexts::new("certify", ABOUT, EXAMPLES);
+    let problem = one_problem(alloc, "Certify problem I, 1 to 1000000 [default: 1]");
+    searcher(alloc, texts, problem, own)
 }
 
 impl CertifyArgs {

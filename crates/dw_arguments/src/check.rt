@@ -1,6 +1,6 @@
 //! The arguments of the command `check`.
-use crate::desk_options::{CACHE_HELP, JSON_HELP, json, progress};
-use crate::options::{board, cache, file, flag, flag_given, memo, moves_given, pdn, within};
+use crate::desk_options::{JSON_HELP, json, searcher};
+use crate::options::{CommandTexts, flag, flag_given, memo, moves_given, within};
 use crate::portion::problem;
 use clap::{ArgMatches, Command};
 use dw_stipulation::MoveCount;
@@ -43,22 +43,14 @@ Examples:
 pub(crate) fn check_command<'a>(alloc: Global) -> Result<Command<'a>, AllocError> {
     let help =
         "Look for a win in N moves of the side to move, 1 to 20 [default: as in the solution]";
-    let arguments = vec![in alloc;
-        board(alloc),
-        pdn(alloc),
-        problem(alloc),
-        file(alloc),
+    let own = vec![in alloc;
         within(alloc, help),
         flag(alloc, "faults", FAULTS_HELP),
         json(alloc, JSON_HELP),
         memo(alloc, "deep"),
-        cache(alloc, CACHE_HELP),
-        progress(alloc),
     ]?;
-    Command::new(alloc, "check")
-        .about(ABOUT)
-        .after_help(EXAMPLES)
-        .args(arguments)
+    let texts = CommandTexts::new("check", ABOUT, EXAMPLES);
+    searcher(alloc, texts, problem(alloc), own)
 }
 
 impl CheckArgs {

@@ -32,9 +32,9 @@ pub enum MemoKind {
     None,
     /// A cache of the positions used last, an `LruMemo`.
     Lru,
-    /// A table in which each position has its one place, a `SlotMemo`.
+    /// A table in which many positions share one place, a `SlotMemo`.
     Slots,
-    /// A table with two places for each position, in which deeper results stay, a `DeepMemo`.
+    /// A table in which many positions share two places and deeper results stay, a `DeepMemo`.
     Deep,
 }
 

@@ -111,7 +111,7 @@ impl<'a> DeskArgs<'a> {
     ///
     /// # Errors
     ///
-    /// The words are no command or ask for help, or memory was refused.
+    /// The arguments are wrong or ask for help, or memory was refused.
     pub fn parse(alloc: Global, words: &'a [String]) -> Result<Self, CliError>
         ensures { IfOk result (λ args. (matches : ArgMatches) × IsAsked (subcommand_rows_of matches) (Ok args)) }
     {

@@ -4,10 +4,10 @@ ghost use Rattle.dw_arguments.specs.Commands.{moves_within};
 ghost use Rattle.dw_arguments.specs.DeskCommands.{lines_given};
 ghost use Rattle.dw_arguments.specs.Options.{options_of};
 
-use crate::options::{count_given, flag, moves_given, option};
-use clap::{Arg, ArgMatches, value_parser};
+use crate::options::{CommandTexts, cache, count_given, flag, moves_given, option, reader};
+use clap::{Arg, ArgMatches, Command, value_parser};
 use dw_stipulation::MoveCount;
-use std::alloc::Global;
+use std::alloc::{AllocError, Global};
 
 /// The default size of a memo, in positions.
 pub(crate) const USUALLY_KEPT: usize = 1_000_000;
@@ -21,9 +21,20 @@ const MOST_LINES: u64 = 1_000_000;
 /// The default number of lines of a solution.
 const USUAL_LINES: u64 = 1000;
 
-pub(crate) const CACHE_HELP: &str = "Keep at most C positions, 1 to 4000000 [default: 1000000]";
+const CACHE_HELP: &str = "Keep at most C positions, 1 to 4000000 [default: 1000000]";
 
 pub(crate) const JSON_HELP: &str = "Write one line of JSON for each problem";
+
+/// Makes a command that searches the problems that it reads. Its own arguments follow those that each command has.
+pub(crate) fn searcher<'a>(
+    alloc: Global,
+    texts: CommandTexts<'a>,
+    problem: Arg<'a>,
+    own: Vec<Arg<'a>>,
+) -> Result<Command<'a>, AllocError> {
+    let searching = vec![in alloc; cache(alloc, CACHE_HELP), progress(alloc)]?;
+    reader(alloc, texts, problem)?.args(own)?.args(searching)
+}
 
 /// Makes `--lines`, whose default is `USUAL_LINES`.
 pub(crate) fn lines<'a>(alloc: Global) -> Arg<'a> {
@@ -54,7 +65,7 @@ pub(crate) fn json<'a>(alloc: Global, help: &'a str) -> Arg<'a> {
 }
 
 /// Makes the flag `--progress`.
-pub(crate) fn progress<'a>(alloc: Global) -> Arg<'a> {
+fn progress<'a>(alloc: Global) -> Arg<'a> {
     flag(
         alloc,
         "progress",

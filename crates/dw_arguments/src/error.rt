@@ -9,7 +9,7 @@ use std::io;
 pub enum CliError {
     /// Help was asked for; the text is for standard output.
     Help(String),
-    /// The words are no command; the text for standard error says why, with its own line ends.
+    /// The arguments are wrong; the text for standard error says why, with its own line ends.
     NoCommand(String),
     /// As `NoCommand`, with a fixed text: the parser accepts the words, but they make no request.
     Refused(&'static str),

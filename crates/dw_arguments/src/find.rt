@@ -2,9 +2,9 @@
 ghost use Rattle.std.specs.Prelude.{◌≤◌, IfSome};
 ghost use Rattle.std.proofs.Props.{props};
 
-use crate::desk_options::{CACHE_HELP, JSON_HELP, json, progress};
+use crate::desk_options::{JSON_HELP, json, searcher};
 use crate::options::{
-    board, cache, file, flag_given, memo, most, moves_given, pdn, positions, positions_given,
+    CommandTexts, flag_given, memo, most, moves_given, positions, positions_given,
 };
 use crate::portion::problem;
 use clap::{ArgMatches, Command};
@@ -45,22 +45,14 @@ Examples:
 
 /// Returns the command with its arguments.
 pub(crate) fn find_command<'a>(alloc: Global) -> Result<Command<'a>, AllocError> {
-    let arguments = vec![in alloc;
-        board(alloc),
-        pdn(alloc),
-        problem(alloc),
-        file(alloc),
+    let own = vec![in alloc;
         most(alloc, MOST_HELP),
         positions(alloc, "each", EACH_HELP),
         json(alloc, JSON_HELP),
         memo(alloc, "deep"),
-        cache(alloc, CACHE_HELP),
-        progress(alloc),
     ]?;
-    Command::new(alloc, "find")
-        .about(ABOUT)
-        .after_help(EXAMPLES)
-        .args(arguments)
+    let texts = CommandTexts::new("find", ABOUT, EXAMPLES);
+    searcher(alloc, texts, problem(alloc), own)
 }
 
 impl FindArgs {

@@ -3,9 +3,9 @@ ghost use Rattle.std.specs.Prelude.{◌≡◌, ◌≤◌, IfSome, None, codes};
 ghost use Rattle.std.proofs.Props.{props};
 ghost use Rattle.dw_arguments.specs.Numbers.{part_named};
 
-use crate::desk_options::{CACHE_HELP, json, moves_of, progress};
+use crate::desk_options::{json, moves_of, searcher};
 use crate::options::{
-    board, cache, file, flag_given, memo, one_problem, pdn, positions, positions_given, within,
+    CommandTexts, flag_given, memo, one_problem, positions, positions_given, within,
 };
 use crate::part::{part, part_given};
 use clap::{ArgMatches, Command};
@@ -48,11 +48,7 @@ pub(crate) fn mend_command<'a>(alloc: Global) -> Result<Command<'a>, AllocError>
     let help = "Look for sound problems in N moves of the side to move, 1 to 20";
     let undecided =
         "Leave a position undecided after L positions, 1 to 1000000000000 [default: never]";
-    let arguments = vec![in alloc;
-        board(alloc),
-        pdn(alloc),
-        one_problem(alloc, "Change problem I, 1 to 1000000 [default: 1]"),
-        file(alloc),
+    let own = vec![in alloc;
         within(alloc, help).required(true),
         positions(alloc, "each", undecided),
         part(alloc),
@@ -61,13 +57,10 @@ pub(crate) fn mend_command<'a>(alloc: Global) -> Result<Command<'a>, AllocError>
             "Write a line of JSON for each sound position, and one at the end"
         ),
         memo(alloc, "deep"),
-        cache(alloc, CACHE_HELP),
-        progress(alloc),
     ]?;
-    Command::new(alloc, "mend")
-        .about(ABOUT)
-        .after_help(EXAMPLES)
-        .args(arguments)
+    let texts = CommandTexts::new("mend", ABOUT, EXAMPLES);
+    let problem = one_problem(alloc, "Change problem I, 1 to 1000000 [default: 1]");
+    searcher(alloc, texts, problem, own)
 }
 
 impl MendArgs {

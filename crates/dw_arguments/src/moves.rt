@@ -2,8 +2,8 @@
 ghost use Rattle.std.specs.Prelude.{◌≡◌, ◌≤◌, IfSome, None, codes};
 ghost use Rattle.dw_arguments.specs.Numbers.{part_named};
 
-use crate::desk_options::{CACHE_HELP, json, moves_of, progress};
-use crate::options::{board, cache, file, flag_given, memo, one_problem, pdn, within};
+use crate::desk_options::{json, moves_of, searcher};
+use crate::options::{CommandTexts, flag_given, memo, one_problem, within};
 use crate::part::{part, part_given};
 use clap::{ArgMatches, Command};
 use dw_stipulation::MoveCount;
@@ -40,22 +40,15 @@ Examples:
 /// Returns the command with its arguments.
 pub(crate) fn moves_command<'a>(alloc: Global) -> Result<Command<'a>, AllocError> {
     let help = "Look for a win in N moves of the side to move, 1 to 20";
-    let arguments = vec![in alloc;
-        board(alloc),
-        pdn(alloc),
-        one_problem(alloc, "Look at problem I, 1 to 1000000 [default: 1]"),
-        file(alloc),
+    let own = vec![in alloc;
         within(alloc, help).required(true),
         part(alloc),
         json(alloc, "Write one line of JSON"),
         memo(alloc, "deep"),
-        cache(alloc, CACHE_HELP),
-        progress(alloc),
     ]?;
-    Command::new(alloc, "moves")
-        .about(ABOUT)
-        .after_help(EXAMPLES)
-        .args(arguments)
+    let texts = CommandTexts::new("moves", ABOUT, EXAMPLES);
+    let problem = one_problem(alloc, "Look at problem I, 1 to 1000000 [default: 1]");
+    searcher(alloc, texts, problem, own)
 }
 
 impl MovesArgs {

@@ -1,16 +1,16 @@
 //! Options of the command line that both programs have, and how they are read.
 //!
-//! A number is read as it is written. One that is outside the range of its option is refused.
+//! A number outside the range of its option is refused.
 ghost use Rattle.std.specs.Prelude.{◌≡◌, ◌≤◌, IfSome, codes, option_map};
 ghost use Rattle.dw_arguments.specs.Options.{flag_given, form_given, number_given, number_within};
 ghost use Rattle.dw_arguments.specs.Options.{options_of, text_given};
 
 use clap::builder::ValueParser;
-use clap::{Arg, ArgAction, ArgMatches, value_parser};
+use clap::{Arg, ArgAction, ArgMatches, Command, value_parser};
 use dw_notation::Form;
 use dw_notation::problems::MAX_PROBLEMS;
 use dw_stipulation::MoveCount;
-use std::alloc::Global;
+use std::alloc::{AllocError, Global};
 
 /// The least number of positions that an option may set as a bound.
 pub const FEWEST_POSITIONS: u64 = 1;
@@ -33,9 +33,43 @@ pub const VERSION: &str = "1.0.0";
 const MEMO_HELP: &str = "\
 The kind of cache:
 none, nothing: for very little memory
-slots, a table with one place for each position: for many short problems
+slots, a table in which many positions share one place: for many short problems
 deep, a table that keeps the deeper results: for long problems, with a large C
 lru, the positions used last: for most problems";
+
+/// What a command says of itself.
+#[derive(Clone, Copy)]
+pub(crate) struct CommandTexts<'a> {
+    pub name: &'a str,
+    /// What the command does, in one line.
+    pub about: &'a str,
+    /// The explanation that follows the options, with examples.
+    pub examples: &'a str,
+}
+
+impl<'a> CommandTexts<'a> {
+    /// Returns these texts together.
+    pub fn new(name: &'a str, about: &'a str, examples: &'a str) -> Self {
+        CommandTexts {
+            name,
+            about,
+            examples,
+        }
+    }
+}
+
+/// Makes a command that reads problems, with the arguments that each command has; `problem` says which are read.
+pub(crate) fn reader<'a>(
+    alloc: Global,
+    texts: CommandTexts<'a>,
+    problem: Arg<'a>,
+) -> Result<Command<'a>, AllocError> {
+    let arguments = vec![in alloc; board(alloc), pdn(alloc), problem, file(alloc)]?;
+    Command::new(alloc, texts.name)
+        .about(texts.about)
+        .after_help(texts.examples)
+        .args(arguments)
+}
 
 /// Makes `--board`, whose default is ten rows.
 pub fn board<'a>(alloc: Global) -> Arg<'a> {

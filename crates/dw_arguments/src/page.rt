@@ -2,9 +2,9 @@
 ghost use Rattle.std.specs.Prelude.{◌≤◌};
 
 use crate::choices::{PageLanguage, PageTries, Placing};
-use crate::desk_options::{CACHE_HELP, lines, lines_of, progress};
+use crate::desk_options::{lines, lines_of, searcher};
 use crate::options::{
-    board, cache, file, flag, flag_given, memo, most, moves_given, option, pdn, text_given, within,
+    CommandTexts, flag, flag_given, memo, most, moves_given, option, text_given, within,
 };
 use crate::portion::problem;
 use clap::builder::ValueParser;
@@ -58,11 +58,7 @@ pub(crate) fn page_command<'a>(alloc: Global) -> Result<Command<'a>, AllocError>
     let within = within(alloc, WITHIN_HELP)
         .required_unless_present("most")?
         .conflicts_with("most")?;
-    let arguments = vec![in alloc;
-        board(alloc),
-        pdn(alloc),
-        problem(alloc),
-        file(alloc),
+    let own = vec![in alloc;
         within,
         most(alloc, MOST_HELP),
         lines(alloc),
@@ -76,13 +72,9 @@ pub(crate) fn page_command<'a>(alloc: Global) -> Result<Command<'a>, AllocError>
             "Write the number of each square in the diagrams"
         ),
         memo(alloc, "deep"),
-        cache(alloc, CACHE_HELP),
-        progress(alloc),
     ]?;
-    Command::new(alloc, "page")
-        .about(ABOUT)
-        .after_help(EXAMPLES)
-        .args(arguments)
+    let texts = CommandTexts::new("page", ABOUT, EXAMPLES);
+    searcher(alloc, texts, problem(alloc), own)
 }
 
 fn title<'a>(alloc: Global) -> Arg<'a> {

@@ -26,7 +26,7 @@ For more information, try '--help'.
 /// Makes `--part`, whose default is the only part.
 pub(crate) fn part<'a>(alloc: Global) -> Arg<'a> {
     let help =
-        "Examine every M-th one from the I-th on, I is 1 to M, M is 1 to 1000000 [default: 1/1]";
+        "Examine every M-th move or change from the I-th on, 1 <= I <= M <= 1000000 [default: 1/1]";
     option(alloc, "part", "I/M", ValueParser::string(), help)
 }
 

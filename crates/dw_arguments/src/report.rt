@@ -7,9 +7,9 @@ ghost use Rattle.dw_arguments.specs.Options.{number_given, options_of, text_give
 use crate::choices::{BoardSize, MemoKind};
 use crate::error::CliError;
 use crate::options::{
-    FEWEST_KEPT, FIRST_PROBLEM, MOST_POSITIONS, VERSION, board, cache, count_given, file,
-    form_given, kept_given, memo, moves_given, one_problem, option, pdn, positions,
-    positions_given, problem_given, text_given, within,
+    CommandTexts, FEWEST_KEPT, FIRST_PROBLEM, MOST_POSITIONS, VERSION, cache, count_given,
+    form_given, kept_given, memo, moves_given, one_problem, option, positions, positions_given,
+    problem_given, reader, text_given, within,
 };
 use clap::builder::ValueParser;
 use clap::{Arg, ArgMatches, Command, value_parser};
@@ -182,26 +182,21 @@ fn subcommands<'a>(alloc: Global) -> Result<Vec<Command<'a>>, AllocError> {
 /// Returns a command with its arguments.
 fn subcommand<'a>(alloc: Global, command: ReportCommand) -> Result<Command<'a>, AllocError> {
     match command {
-        ReportCommand::Show | ReportCommand::Moves => reader(alloc, command),
+        ReportCommand::Show | ReportCommand::Moves => reads(alloc, command),
         ReportCommand::Judge => searcher(alloc, command),
         ReportCommand::List => lister(alloc),
     }
 }
 
-/// Returns a command that reads problems, with the arguments of every command.
-fn reader<'a>(alloc: Global, command: ReportCommand) -> Result<Command<'a>, AllocError> {
-    let arguments = reading(alloc)?;
-    let [name, about, examples] = texts(command);
-    Command::new(alloc, name)
-        .about(about)
-        .after_help(examples)
-        .args(arguments)
+/// Returns a command that only reads problems.
+fn reads<'a>(alloc: Global, command: ReportCommand) -> Result<Command<'a>, AllocError> {
+    reader(alloc, texts(command), one_problem(alloc, PROBLEM_HELP))
 }
 
 /// Returns a command that searches for wins too.
 fn searcher<'a>(alloc: Global, command: ReportCommand) -> Result<Command<'a>, AllocError> {
     let arguments = searching(alloc)?;
-    reader(alloc, command)?.args(arguments)
+    reads(alloc, command)?.args(arguments)
 }
 
 /// Returns the command that lists lines as well.
@@ -210,24 +205,15 @@ fn lister<'a>(alloc: Global) -> Result<Command<'a>, AllocError> {
     searcher(alloc, ReportCommand::List)?.args(arguments)
 }
 
-/// Returns the name of a command, its description, and its explanation with examples.
-fn texts<'a>(command: ReportCommand) -> [&'a str; 3] {
-    match command {
-        ReportCommand::Show => ["show", SHOW_ABOUT, SHOW_EXAMPLES],
-        ReportCommand::Moves => ["moves", MOVES_ABOUT, MOVES_EXAMPLES],
-        ReportCommand::Judge => ["judge", JUDGE_ABOUT, JUDGE_EXAMPLES],
-        ReportCommand::List => ["list", LIST_ABOUT, LIST_EXAMPLES],
-    }
-}
-
-/// Returns the arguments of every command.
-fn reading<'a>(alloc: Global) -> Result<Vec<Arg<'a>>, AllocError> {
-    Ok(vec![in alloc;
-        board(alloc),
-        pdn(alloc),
-        one_problem(alloc, PROBLEM_HELP),
-        file(alloc),
-    ]?)
+/// Returns what a command says of itself.
+fn texts<'a>(command: ReportCommand) -> CommandTexts<'a> {
+    let (name, about, examples) = match command {
+        ReportCommand::Show => ("show", SHOW_ABOUT, SHOW_EXAMPLES),
+        ReportCommand::Moves => ("moves", MOVES_ABOUT, MOVES_EXAMPLES),
+        ReportCommand::Judge => ("judge", JUDGE_ABOUT, JUDGE_EXAMPLES),
+        ReportCommand::List => ("list", LIST_ABOUT, LIST_EXAMPLES),
+    };
+    CommandTexts::new(name, about, examples)
 }
 
 /// Returns the arguments of a command that searches for wins.
@@ -267,7 +253,7 @@ impl<'a> ReportArgs<'a> {
     ///
     /// # Errors
     ///
-    /// The words are no command or ask for help, or memory was refused.
+    /// The arguments are wrong or ask for help, or memory was refused.
     pub fn parse(alloc: Global, words: &'a [String]) -> Result<Self, CliError>
         ensures { IfOk result (λ args. (matches : ArgMatches) × IsAsked (subcommand_rows_of matches) (Some args)) }
     {

@@ -1,8 +1,8 @@
 //! The arguments of the command `solution`.
 ghost use Rattle.std.specs.Prelude.{◌≤◌};
 
-use crate::desk_options::{CACHE_HELP, JSON_HELP, json, lines, lines_of, progress};
-use crate::options::{board, cache, file, flag_given, memo, most, moves_given, pdn, within};
+use crate::desk_options::{JSON_HELP, json, lines, lines_of, searcher};
+use crate::options::{CommandTexts, flag_given, memo, most, moves_given, within};
 use crate::portion::problem;
 use clap::{ArgMatches, Command};
 use dw_stipulation::MoveCount;
@@ -45,23 +45,15 @@ pub(crate) fn solution_command<'a>(alloc: Global) -> Result<Command<'a>, AllocEr
     let within = within(alloc, WITHIN_HELP)
         .required_unless_present("most")?
         .conflicts_with("most")?;
-    let arguments = vec![in alloc;
-        board(alloc),
-        pdn(alloc),
-        problem(alloc),
-        file(alloc),
+    let own = vec![in alloc;
         within,
         most(alloc, MOST_HELP),
         lines(alloc),
         json(alloc, JSON_HELP),
         memo(alloc, "deep"),
-        cache(alloc, CACHE_HELP),
-        progress(alloc),
     ]?;
-    Command::new(alloc, "solution")
-        .about(ABOUT)
-        .after_help(EXAMPLES)
-        .args(arguments)
+    let texts = CommandTexts::new("solution", ABOUT, EXAMPLES);
+    searcher(alloc, texts, problem(alloc), own)
 }
 
 impl SolutionArgs {

@@ -1,5 +1,5 @@
 //! The arguments of the command `token`.
-use crate::options::{board, file, one_problem, option, pdn};
+use crate::options::{CommandTexts, one_problem, option, reader};
 use clap::builder::ValueParser;
 use clap::{Arg, Command};
 use std::alloc::{AllocError, Global};
@@ -15,20 +15,13 @@ Examples:
 
 /// Returns the command with its arguments.
 pub(crate) fn token_command<'a>(alloc: Global) -> Result<Command<'a>, AllocError> {
-    let arguments = vec![in alloc;
-        board(alloc),
-        pdn(alloc),
-        one_problem(
-            alloc,
-            "The line is one of problem I, 1 to 1000000 [default: 1]"
-        ),
-        line(alloc),
-        file(alloc),
-    ]?;
-    Command::new(alloc, "token")
-        .about(ABOUT)
-        .after_help(EXAMPLES)
-        .args(arguments)
+    let own = line(alloc);
+    let problem = one_problem(
+        alloc,
+        "The line is one of problem I, 1 to 1000000 [default: 1]",
+    );
+    let texts = CommandTexts::new("token", ABOUT, EXAMPLES);
+    reader(alloc, texts, problem)?.arg(own)
 }
 
 fn line<'a>(alloc: Global) -> Arg<'a> {
