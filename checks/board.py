@@ -429,7 +429,7 @@ def check_looks(browser, folder):
     browser.run("t.empty()")
     drop_two(browser)
     text = printed(browser, folder)
-    assert text.count("White to play") == 2 and "W:W27,45:B16" not in text, text
+    assert "White to play" in text and "Refused" in text and "W:W27,45:B16" not in text, text
     browser.run("t.empty()")
     browser.click("#tab-solve")
     print(f"{browser.name}: light and dark, and two sheets that are printed")

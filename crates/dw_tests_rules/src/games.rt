@@ -1,7 +1,7 @@
 //! Games, and the solutions of authors.
 
 use crate::problems::{add_problem, whole_text};
-use dw_board::Board;
+use dw_board::{Board, fen_text};
 use dw_games::{Game, Games, LineFault, Node, Tree, read_line, read_movetext};
 use dw_moves::Move;
 use dw_notation::Reading;
@@ -126,6 +126,26 @@ fn add_read<B: Board>(alloc: Global, fen: &str, text: &[u8], found: &mut RowText
         Err(fault) => found.say(&fault),
     }
     Some(())
+}
+
+/// Adds the position that a tree starts from, and the one after each move of its main line. The movetext stands in
+/// quotes.
+pub fn main_line<B: Board>(alloc: Global, asked: &str, found: &mut RowText) -> Option<()> {
+    let quoted = column(asked, 1).strip_prefix('"')?.strip_suffix('"')?;
+    let text = unescaped(alloc, quoted)?;
+    let position = read_position::<B>(column(asked, 0))?;
+    let tree = read_movetext(alloc, &position, text.as_slice()).ok()?;
+    found.add(fen_text(&tree.start()).as_str());
+    let mut last = None;
+    for _ in 0..MOST_STEPS {
+        last = tree.first_child(last);
+        if last.is_none() {
+            return Some(());
+        }
+        found.add(" ");
+        found.add(fen_text(&tree.position(last)?).as_str());
+    }
+    None
 }
 
 /// Adds the moves of a written line by their ends, or the number of its first fault and the fault. The text stands in

@@ -98,6 +98,7 @@ fn answer<B: Board>(alloc: Global, kind: RowKind, asked: &str, found: &mut RowTe
         RowKind::NamedValue => tags::named_value(alloc, asked, found),
         RowKind::Movetext => games::movetext::<B>(alloc, asked, found),
         RowKind::Repeated => games::repeated::<B>(alloc, asked, found),
+        RowKind::MainLine => games::main_line::<B>(alloc, asked, found),
         RowKind::WrittenLine => games::written_line::<B>(alloc, asked, found),
         RowKind::Law => {
             laws::law(found);

@@ -39,6 +39,7 @@ pub enum RowKind {
     NamedValue,
     Movetext,
     Repeated,
+    MainLine,
     WrittenLine,
     Law,
 }
@@ -83,6 +84,7 @@ impl RowKind {
             "named-value" => Some(RowKind::NamedValue),
             "movetext" => Some(RowKind::Movetext),
             "repeated" => Some(RowKind::Repeated),
+            "main-line" => Some(RowKind::MainLine),
             "written-line" => Some(RowKind::WrittenLine),
             "law" => Some(RowKind::Law),
             _ => None,
