@@ -19,9 +19,9 @@ const EXAMPLES: &str = "\
 For a win, each line has a position and the number of moves in which it is won. After one move
 there, no reply is left, or every reply leads to the position of another line, won in fewer moves.
 For no win, each line has a position and a number of moves in which it is not won. After each move
-there, some reply leads to the position of another line, which is not won in the moves left. The
-cache must hold everything that the search finds: --memo lru does, up to --cache positions.
-checks/certificate.py (installed as dw-certificate) checks it.
+there, a reply is left. If the number is above 1, one such reply leads to the position of another
+line, not won in the moves left. The cache must hold everything that the search finds: --memo lru
+does, up to --cache positions. checks/certificate.py (installed as dw-certificate) checks it.
 
 Examples:
   echo W:W27,45:B16 | dw-desk certify -n 2

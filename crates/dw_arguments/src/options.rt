@@ -1,4 +1,4 @@
-//! Options of the command line that both programs have, and how they are read.
+//! What the commands of both programs share: how a command is made, its options, and how they are read.
 //!
 //! A number outside the range of its option is refused.
 ghost use Rattle.std.specs.Prelude.{◌≡◌, ◌≤◌, IfSome, codes, option_map};
@@ -58,7 +58,7 @@ impl<'a> CommandTexts<'a> {
     }
 }
 
-/// Makes a command that reads problems, with the arguments that each command has; `problem` says which are read.
+/// Makes a command that reads problems, with `--board`, `--pdn`, `FILE`, and `problem` as its option `--problem`.
 pub(crate) fn reader<'a>(
     alloc: Global,
     texts: CommandTexts<'a>,
@@ -72,13 +72,13 @@ pub(crate) fn reader<'a>(
 }
 
 /// Makes `--board`, whose default is ten rows.
-pub fn board<'a>(alloc: Global) -> Arg<'a> {
+fn board<'a>(alloc: Global) -> Arg<'a> {
     let help = "The board: 10 by 10 or 8 by 8";
     option(alloc, "board", "ROWS", ["10", "8"].as_slice().into(), help).default_value("10")
 }
 
 /// Makes the flag `--pdn`.
-pub fn pdn<'a>(alloc: Global) -> Arg<'a> {
+fn pdn<'a>(alloc: Global) -> Arg<'a> {
     flag(
         alloc,
         "pdn",
@@ -116,7 +116,7 @@ pub fn problem_given(matches: &ArgMatches<'_>) -> Option<u32>
 }
 
 /// Makes `FILE`, the only argument without a name.
-pub fn file<'a>(alloc: Global) -> Arg<'a> {
+fn file<'a>(alloc: Global) -> Arg<'a> {
     Arg::new(alloc, "FILE").help("The problems [default: standard input]")
 }
 

@@ -182,21 +182,21 @@ fn subcommands<'a>(alloc: Global) -> Result<Vec<Command<'a>>, AllocError> {
 /// Returns a command with its arguments.
 fn subcommand<'a>(alloc: Global, command: ReportCommand) -> Result<Command<'a>, AllocError> {
     match command {
-        ReportCommand::Show | ReportCommand::Moves => reads(alloc, command),
+        ReportCommand::Show | ReportCommand::Moves => base_command(alloc, command),
         ReportCommand::Judge => searcher(alloc, command),
         ReportCommand::List => lister(alloc),
     }
 }
 
-/// Returns a command that only reads problems.
-fn reads<'a>(alloc: Global, command: ReportCommand) -> Result<Command<'a>, AllocError> {
+/// Returns a command with the arguments that all commands of `dw` have.
+fn base_command<'a>(alloc: Global, command: ReportCommand) -> Result<Command<'a>, AllocError> {
     reader(alloc, texts(command), one_problem(alloc, PROBLEM_HELP))
 }
 
 /// Returns a command that searches for wins too.
 fn searcher<'a>(alloc: Global, command: ReportCommand) -> Result<Command<'a>, AllocError> {
     let arguments = searching(alloc)?;
-    reads(alloc, command)?.args(arguments)
+    base_command(alloc, command)?.args(arguments)
 }
 
 /// Returns the command that lists lines as well.

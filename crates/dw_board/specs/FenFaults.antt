@@ -42,8 +42,8 @@ pub data ItemNext (g : Geometry) : (before after : List Token) → Side → Plac
   behind_comma : {before after : List Token} (c : Token) {side : Side} {i : Placing} {is : List Placing} {p : Placement}
       → ListRead g before side (i ∷ is) p → is_sign comma c.text ≡ true → ItemNext g (before ++ c ∷ []) after side p
 
--- the number of a square must follow, of kings if a K precedes it: the first of an item; or the last of a range, after
--- the first, which is given, and a dash
+-- a square number must follow: the first of an item, or the last of a range, after its first number and a dash; that
+-- first number is given, and whether a K precedes the item
 pub data NumberNext (g : Geometry) : (before after : List Token) → Option ℕ → Bool → Side → Placement → Type 0 where
   of_men : {before after : List Token} {side : Side} {p : Placement} → ItemNext g before after side p
       → first_is is_king_letter after ≡ false → NumberNext g before after None false side p

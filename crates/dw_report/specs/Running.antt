@@ -50,8 +50,8 @@ pub record Counts (g : Geometry) (request : Request) (summary : Summary) (proble
   pub shown : summary.shown ≡ length (chosen request.only problems)
   pub refusals : AreRefused g request (chosen request.only problems) summary.refused
 
--- no more was read than the problem of this number needs: fewer problems had ended before the last bytes read, of
--- which there are at most 2,048
+-- no more was read than the problem of this number needs: fewer problems than this number had ended before the last
+-- bytes read, at most 2,048
 pub record ReadsUpTo (g : Geometry) (form : Form) (number : ℕ) (read : List ℕ) : Type 0 where
   pub before : List ℕ
   pub last : List ℕ
