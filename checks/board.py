@@ -370,7 +370,7 @@ def check_choice(browser):
 
 
 def drop_two(browser):
-    """Drops a file of two problems on the empty list."""
+    """Drops a file on the empty list: one problem, and one that is refused."""
     browser.run("""(() => {
         const dataTransfer = new DataTransfer();
         dataTransfer.items.add(new File(['W:W27,45:B16\\nW:W3:B20\\n'], 'two.fen'));
