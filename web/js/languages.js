@@ -55,7 +55,7 @@ const TEXTS = {
         'Click a piece of the side to move, then the square it goes to.',
         'Klik een stuk van de partij aan zet, dan het veld waar het heen gaat.',
         'Cliquez une pièce du camp au trait, puis sa case d’arrivée.',
-        'Щёлкните шашку стороны, чей ход, затем поле, куда она идёт.',
+        'Щёлкните шашку, которой хотите пойти, затем поле, куда она пойдёт.',
     ],
     turn: ['To move', 'Aan zet', 'Trait', 'Ход'],
     white: ['White', 'Wit', 'Les blancs', 'Белые'],
