@@ -19,7 +19,7 @@ use Rattle.std.specs.Str.Parse.{ParsesBool}
 use Rattle.std.specs.declared.str.ParseBoolError.{ParseBoolError}
 use Rattle.std.proofs.lemmas.Slice.Eq.{bytes_eq-Decides}
 use Rattle.std.proofs.lemmas.Bool.{false_from_ne_true}
-use Rattle.dw_arguments.specs.Options.{is_numeral, if_within, number_within, number_given, flag_given}
+use Rattle.dw_arguments.specs.Options.{is_numeral, if_within, number_within, number_option, flag_option}
 
 ours : IsNumeralModel (λ ds. all_ascii_digits ds ≡ true) (digits_value 10)
 ours = numerals_by_value _ tells_all_ascii_digits
@@ -63,11 +63,11 @@ abbrev pub Parses : (k : ℕ) → List ℕ → Result ℕ ParseIntError → Type
 Parses k text r = ParsesUnsigned k 10 text r × ExplainsUnsignedError 10 text r × HasUnsignedDigitsIfOk text r
 
 -- what `get_one` reads, if that is in bounds, is the number that is given
-pub given_number : (k least most : ℕ) (f : Found) (name : List ℕ) (r : Option ℕ) → most < 2 ^ k
+pub option_number : (k least most : ℕ) (f : Found) (name : List ℕ) (r : Option ℕ) → most < 2 ^ k
     → (one_text f name ≡ None → r ≡ None)
     → ((text : List ℕ) → one_text f name ≡ Some text → ReadsOne (Parses k) text r)
-    → option_and_then (if_within least most) r ≡ number_given least most (rows_of f) name
-given_number k least most f name r small none value =
+    → option_and_then (if_within least most) r ≡ number_option least most (rows_of f) name
+option_number k least most f name r small none value =
     rw (← (one_text-rows f name)) (go (one_text f name) refl)
   where
     read : (text : List ℕ) (r : Option ℕ) → ReadsOne (Parses k) text r
@@ -81,11 +81,11 @@ given_number k least most f name r small none value =
     go (Some text) is = read text r (value text is)
 
 -- what `get_one` reads as a `bool` is whether the flag is given
-pub given_flag : (f : Found) (name : List ℕ) (r : Option Bool)
+pub option_flag : (f : Found) (name : List ℕ) (r : Option Bool)
     → (one_text f name ≡ None → r ≡ None)
     → ((text : List ℕ) → one_text f name ≡ Some text → ReadsOne {T = Bool} {E = ParseBoolError} ParsesBool text r)
-    → unwrap_or r false ≡ flag_given (rows_of f) name
-given_flag f name r none value =
+    → unwrap_or r false ≡ flag_option (rows_of f) name
+option_flag f name r none value =
     rw (← (one_text-rows f name)) (go (one_text f name) refl)
   where
     read : (text : List ℕ) (r : Option Bool) → ReadsOne {T = Bool} {E = ParseBoolError} ParsesBool text r

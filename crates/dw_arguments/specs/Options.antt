@@ -31,17 +31,17 @@ abbrev pub number_within : (least most : ℕ) → List ℕ → Option ℕ
 number_within least most text = option_and_then (if_within least most) (number_in text)
 
 -- the number that the option of this name says, if it is given and within these bounds
-abbrev pub number_given : (least most : ℕ) → List Row → (name : List ℕ) → Option ℕ
-number_given least most options name = option_and_then (number_within least most) (one_of name options)
+abbrev pub number_option : (least most : ℕ) → List Row → (name : List ℕ) → Option ℕ
+number_option least most options name = option_and_then (number_within least most) (one_of name options)
 
 -- the text that the option of this name says, if it is given
-abbrev pub text_given : List Row → (name : List ℕ) → Option (List ℕ)
-text_given options name = first_of name options
+abbrev pub text_option : List Row → (name : List ℕ) → Option (List ℕ)
+text_option options name = first_of name options
 
 -- whether the flag of this name is given
-abbrev pub flag_given : List Row → (name : List ℕ) → Bool
-flag_given options name = option_map_or (λ text. bytes_eq text (codes "true")) (one_of name options) false
+abbrev pub flag_option : List Row → (name : List ℕ) → Bool
+flag_option options name = option_map_or (λ text. bytes_eq text (codes "true")) (one_of name options) false
 
 -- the form of the problems in the file: tags with --pdn, else FEN texts
-abbrev pub form_given : List Row → Form
-form_given options = if flag_given options (codes "pdn") then Pdn else Fens
+abbrev pub form_option : List Row → Form
+form_option options = if flag_option options (codes "pdn") then Pdn else Fens

@@ -1,6 +1,6 @@
 //! The arguments of the command `check`.
 use crate::desk_options::{JSON_HELP, json, searcher};
-use crate::options::{CommandTexts, flag, flag_given, memo, moves_given, within};
+use crate::options::{CommandTexts, flag, flag_option, memo, moves_option, within};
 use crate::portion::problem;
 use clap::{ArgMatches, Command};
 use dw_stipulation::MoveCount;
@@ -62,9 +62,9 @@ impl CheckArgs {
         ensures { AsksCheck (options_of matches.now) result }
     {
         CheckArgs {
-            n: moves_given(matches, "n"),
-            faults: flag_given(matches, "faults"),
-            json: flag_given(matches, "json"),
+            n: moves_option(matches, "n"),
+            faults: flag_option(matches, "faults"),
+            json: flag_option(matches, "json"),
         }
     }
 }

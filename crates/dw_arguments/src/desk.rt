@@ -41,7 +41,7 @@ pub struct DeskArgs<'a> {
     pub form: Form,
     pub portion: Portion,
     pub memo: MemoKind,
-    /// The most positions that the memo keeps, `FEWEST_KEPT` to `MOST_KEPT`.
+    /// The most positions that the memo keeps, `MIN_CAPACITY` to `MAX_CAPACITY`.
     pub cache: usize,
     /// Whether the progress line was asked for.
     pub progress: bool,

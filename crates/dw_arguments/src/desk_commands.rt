@@ -1,7 +1,7 @@
 //! The commands of `dw-desk`, and the requests that they parse to.
 ghost use Rattle.std.specs.Prelude.{◌≡◌};
 ghost use Rattle.clap.specs.Words.{subcommand_rows_of};
-ghost use Rattle.dw_arguments.specs.DeskCommands.{ForPart, ForPortion, IsAsked, IsAskedBy, IsMend, IsMoves};
+ghost use Rattle.dw_arguments.specs.DeskCommands.{ForPart, ForPortion, IsParsed, IsParsedFrom, IsMend, IsMoves};
 ghost use Rattle.dw_arguments.specs.DeskCommands.{IsOneProblem, IsToken, Reads, Searches};
 ghost use Rattle.dw_arguments.specs.Options.{options_of};
 
@@ -9,12 +9,14 @@ use crate::certify::{CertifyArgs, certify_command};
 use crate::check::{CheckArgs, check_command};
 use crate::choices::{BoardSize, MemoKind};
 use crate::desk::{DeskArgs, Task};
-use crate::desk_options::USUALLY_KEPT;
+use crate::desk_options::DEFAULT_CAPACITY;
 use crate::error::CliError;
 use crate::find::{FindArgs, find_command};
 use crate::mend::{MendArgs, mend_command};
 use crate::moves::{MovesArgs, moves_command};
-use crate::options::{FEWEST_KEPT, VERSION, flag_given, form_given, kept_given, text_given};
+use crate::options::{
+    MIN_CAPACITY, VERSION, capacity_option, flag_option, form_option, text_option,
+};
 use crate::page::{PageArgs, page_command};
 use crate::part::NO_PART;
 use crate::portion::{NO_PORTION, Portion};
@@ -113,7 +115,7 @@ impl<'a> DeskArgs<'a> {
     ///
     /// The arguments are wrong or ask for help, or memory was refused.
     pub fn parse(alloc: Global, words: &'a [String]) -> Result<Self, CliError>
-        ensures { IfOk result (λ args. (matches : ArgMatches) × IsAsked (subcommand_rows_of matches) (Ok args)) }
+        ensures { IfOk result (λ args. (matches : ArgMatches) × IsParsed (subcommand_rows_of matches) (Ok args)) }
     {
         match command(alloc)?.try_get_matches_from(words) {
             Ok(matches) => match DeskArgs::requested(&matches) {
@@ -130,18 +132,18 @@ impl<'a> DeskArgs<'a> {
     ///
     /// The message for arguments that are no command, as a text that ends a line.
     pub fn requested(matches: &ArgMatches<'a>) -> Result<Self, &'static str>
-        ensures { IsAsked (subcommand_rows_of matches.now) result }
+        ensures { IsParsed (subcommand_rows_of matches.now) result }
     {
         match matches.subcommand() {
-            Some((name, matches)) => asked_by(name, matches),
+            Some((name, matches)) => from_matches(name, matches),
             None => Err(NO_COMMAND),
         }
     }
 }
 
 /// Returns the request of the command of this name.
-fn asked_by<'a>(name: &str, matches: &ArgMatches<'a>) -> Result<DeskArgs<'a>, &'static str>
-    ensures { IsAskedBy name.now (options_of matches.now) result }
+fn from_matches<'a>(name: &str, matches: &ArgMatches<'a>) -> Result<DeskArgs<'a>, &'static str>
+    ensures { IsParsedFrom name.now (options_of matches.now) result }
 {
     match name {
         "find" => for_portion(matches, Task::Find(FindArgs::new(matches))),
@@ -158,9 +160,9 @@ fn asked_by<'a>(name: &str, matches: &ArgMatches<'a>) -> Result<DeskArgs<'a>, &'
 
 /// Returns the request of a command that searches a portion of the problems.
 fn for_portion<'a>(matches: &ArgMatches<'a>, task: Task<'a>) -> Result<DeskArgs<'a>, &'static str>
-    ensures { ForPortion (options_of matches.now) (λ options asked. asked ≡ task.entry) result }
+    ensures { ForPortion (options_of matches.now) (λ options query. query ≡ task.entry) result }
 {
-    match Portion::named(text_given(matches, "problem")) {
+    match Portion::named(text_option(matches, "problem")) {
         Some(portion) => Ok(searched(matches, task, portion)),
         None => Err(NO_PORTION),
     }
@@ -180,7 +182,7 @@ fn for_moves<'a>(matches: &ArgMatches<'a>) -> Result<DeskArgs<'a>, &'static str>
     ensures { ForPart (options_of matches.now) IsMoves result }
 {
     match MovesArgs::new(matches) {
-        Some(asked) => Ok(for_one(matches, Task::Moves(asked))),
+        Some(query) => Ok(for_one(matches, Task::Moves(query))),
         None => Err(NO_PART),
     }
 }
@@ -190,7 +192,7 @@ fn for_mend<'a>(matches: &ArgMatches<'a>) -> Result<DeskArgs<'a>, &'static str>
     ensures { ForPart (options_of matches.now) IsMend result }
 {
     match MendArgs::new(matches) {
-        Some(asked) => Ok(for_one(matches, Task::Mend(asked))),
+        Some(query) => Ok(for_one(matches, Task::Mend(query))),
         None => Err(NO_PART),
     }
 }
@@ -201,7 +203,7 @@ fn for_line<'a>(matches: &ArgMatches<'a>) -> DeskArgs<'a>
     ensures one { IsOneProblem (options_of matches.now) result.portion }
     ensures line { IsToken (options_of matches.now) result.task }
 {
-    let line = text_given(matches, "line").unwrap_or("");
+    let line = text_option(matches, "line").unwrap_or("");
     read(matches, Task::Token { line }, Portion::of_one(matches))
 }
 
@@ -213,13 +215,13 @@ fn searched<'a>(matches: &ArgMatches<'a>, task: Task<'a>, portion: Portion) -> D
 {
     DeskArgs {
         task,
-        board: BoardSize::named(text_given(matches, "board")),
-        form: form_given(matches),
+        board: BoardSize::named(text_option(matches, "board")),
+        form: form_option(matches),
         portion,
-        memo: MemoKind::named(text_given(matches, "memo")),
-        cache: kept_given(matches).unwrap_or(USUALLY_KEPT),
-        progress: flag_given(matches, "progress"),
-        file: text_given(matches, "FILE"),
+        memo: MemoKind::named(text_option(matches, "memo")),
+        cache: capacity_option(matches).unwrap_or(DEFAULT_CAPACITY),
+        progress: flag_option(matches, "progress"),
+        file: text_option(matches, "FILE"),
     }
 }
 
@@ -231,12 +233,12 @@ fn read<'a>(matches: &ArgMatches<'a>, task: Task<'a>, portion: Portion) -> DeskA
 {
     DeskArgs {
         task,
-        board: BoardSize::named(text_given(matches, "board")),
-        form: form_given(matches),
+        board: BoardSize::named(text_option(matches, "board")),
+        form: form_option(matches),
         portion,
         memo: MemoKind::None,
-        cache: FEWEST_KEPT,
+        cache: MIN_CAPACITY,
         progress: false,
-        file: text_given(matches, "FILE"),
+        file: text_option(matches, "FILE"),
     }
 }

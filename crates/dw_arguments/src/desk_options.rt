@@ -1,16 +1,16 @@
 //! Arguments that several commands have.
 ghost use Rattle.std.specs.Prelude.{◌≡◌, ◌≤◌};
 ghost use Rattle.dw_arguments.specs.Commands.{moves_within};
-ghost use Rattle.dw_arguments.specs.DeskCommands.{lines_given};
+ghost use Rattle.dw_arguments.specs.DeskCommands.{lines_option};
 ghost use Rattle.dw_arguments.specs.Options.{options_of};
 
-use crate::options::{CommandTexts, cache, count_given, flag, moves_given, option, reader};
+use crate::options::{CommandTexts, cache, count_option, flag, moves_option, option, reader};
 use clap::{Arg, ArgMatches, Command, value_parser};
 use dw_stipulation::MoveCount;
 use std::alloc::{AllocError, Global};
 
 /// The default size of a memo, in positions.
-pub(crate) const USUALLY_KEPT: usize = 1_000_000;
+pub(crate) const DEFAULT_CAPACITY: usize = 1_000_000;
 
 /// The fewest lines that a solution is written with.
 const FEWEST_LINES: u64 = 1;
@@ -45,18 +45,18 @@ pub(crate) fn lines<'a>(alloc: Global) -> Arg<'a> {
 
 /// Returns the most lines to write, `FEWEST_LINES` to `MOST_LINES`: as `--lines` says, or else `USUAL_LINES`.
 pub(crate) fn lines_of(matches: &ArgMatches<'_>) -> usize
-    ensures value { result ≡ lines_given (options_of matches.now) }
+    ensures value { result ≡ lines_option (options_of matches.now) }
     ensures some { 1 ≤ result }
     ensures few { result ≤ 1_000_000 }
 {
-    count_given(matches, "lines", FEWEST_LINES, MOST_LINES).unwrap_or(USUAL_LINES) as usize
+    count_option(matches, "lines", FEWEST_LINES, MOST_LINES).unwrap_or(USUAL_LINES) as usize
 }
 
 /// Returns the number of moves of `-n`, which the parser requires.
 pub(crate) fn moves_of(matches: &ArgMatches<'_>) -> MoveCount
     ensures { result.value ≡ moves_within (options_of matches.now) }
 {
-    moves_given(matches, "n").unwrap_or(MoveCount::FEWEST)
+    moves_option(matches, "n").unwrap_or(MoveCount::FEWEST)
 }
 
 /// Makes the flag `--json`.

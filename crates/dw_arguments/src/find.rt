@@ -4,7 +4,7 @@ ghost use Rattle.std.proofs.Props.{props};
 
 use crate::desk_options::{JSON_HELP, json, searcher};
 use crate::options::{
-    CommandTexts, flag_given, memo, most, moves_given, positions, positions_given,
+    CommandTexts, flag_option, memo, most, moves_option, positions, positions_option,
 };
 use crate::portion::problem;
 use clap::{ArgMatches, Command};
@@ -64,9 +64,9 @@ impl FindArgs {
         ensures { AsksFind (options_of matches.now) result }
     {
         FindArgs {
-            most: moves_given(matches, "most").unwrap_or(MoveCount::MOST),
-            each: positions_given(matches, "each"),
-            json: flag_given(matches, "json"),
+            most: moves_option(matches, "most").unwrap_or(MoveCount::MOST),
+            each: positions_option(matches, "each"),
+            json: flag_option(matches, "json"),
         }
     }
 }

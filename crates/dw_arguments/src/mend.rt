@@ -5,9 +5,9 @@ ghost use Rattle.dw_arguments.specs.Numbers.{part_named};
 
 use crate::desk_options::{json, moves_of, searcher};
 use crate::options::{
-    CommandTexts, flag_given, memo, one_problem, positions, positions_given, within,
+    CommandTexts, flag_option, memo, one_problem, positions, positions_option, within,
 };
-use crate::part::{part, part_given};
+use crate::part::{part, part_option};
 use clap::{ArgMatches, Command};
 use dw_stipulation::MoveCount;
 use std::alloc::{AllocError, Global};
@@ -65,20 +65,20 @@ pub(crate) fn mend_command<'a>(alloc: Global) -> Result<Command<'a>, AllocError>
 
 impl MendArgs {
     ghost use Rattle.dw_arguments.specs.DeskCommands.{AsksMend};
-    ghost use Rattle.dw_arguments.specs.Options.{options_of, text_given};
+    ghost use Rattle.dw_arguments.specs.Options.{options_of, text_option};
 
     /// Returns the request of the options, or `None` if the part is not valid.
     pub(crate) fn new(matches: &ArgMatches<'_>) -> Option<Self>
-        ensures asks { IfSome result (λ asked. AsksMend (options_of matches.now) asked) }
-        ensures none { result ≡ None → part_named (text_given (options_of matches.now) (codes "part")) ≡ None }
+        ensures asks { IfSome result (λ query. AsksMend (options_of matches.now) query) }
+        ensures none { result ≡ None → part_named (text_option (options_of matches.now) (codes "part")) ≡ None }
     {
-        let (part, parts) = part_given(matches)?;
+        let (part, parts) = part_option(matches)?;
         Some(MendArgs {
             n: moves_of(matches),
-            each: positions_given(matches, "each"),
+            each: positions_option(matches, "each"),
             part,
             parts,
-            json: flag_given(matches, "json"),
+            json: flag_option(matches, "json"),
         })
     }
 }

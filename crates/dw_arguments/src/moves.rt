@@ -3,8 +3,8 @@ ghost use Rattle.std.specs.Prelude.{◌≡◌, ◌≤◌, IfSome, None, codes};
 ghost use Rattle.dw_arguments.specs.Numbers.{part_named};
 
 use crate::desk_options::{json, moves_of, searcher};
-use crate::options::{CommandTexts, flag_given, memo, one_problem, within};
-use crate::part::{part, part_given};
+use crate::options::{CommandTexts, flag_option, memo, one_problem, within};
+use crate::part::{part, part_option};
 use clap::{ArgMatches, Command};
 use dw_stipulation::MoveCount;
 use std::alloc::{AllocError, Global};
@@ -53,19 +53,19 @@ pub(crate) fn moves_command<'a>(alloc: Global) -> Result<Command<'a>, AllocError
 
 impl MovesArgs {
     ghost use Rattle.dw_arguments.specs.DeskCommands.{AsksMoves};
-    ghost use Rattle.dw_arguments.specs.Options.{options_of, text_given};
+    ghost use Rattle.dw_arguments.specs.Options.{options_of, text_option};
 
     /// Returns the request of the options, or `None` if the part is not valid.
     pub(crate) fn new(matches: &ArgMatches<'_>) -> Option<Self>
-        ensures asks { IfSome result (λ asked. AsksMoves (options_of matches.now) asked) }
-        ensures none { result ≡ None → part_named (text_given (options_of matches.now) (codes "part")) ≡ None }
+        ensures asks { IfSome result (λ query. AsksMoves (options_of matches.now) query) }
+        ensures none { result ≡ None → part_named (text_option (options_of matches.now) (codes "part")) ≡ None }
     {
-        let (part, parts) = part_given(matches)?;
+        let (part, parts) = part_option(matches)?;
         Some(MovesArgs {
             n: moves_of(matches),
             part,
             parts,
-            json: flag_given(matches, "json"),
+            json: flag_option(matches, "json"),
         })
     }
 }

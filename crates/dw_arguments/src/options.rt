@@ -2,8 +2,8 @@
 //!
 //! A number outside the range of its option is refused.
 ghost use Rattle.std.specs.Prelude.{◌≡◌, ◌≤◌, IfSome, codes, option_map};
-ghost use Rattle.dw_arguments.specs.Options.{flag_given, form_given, number_given, number_within};
-ghost use Rattle.dw_arguments.specs.Options.{options_of, text_given};
+ghost use Rattle.dw_arguments.specs.Options.{flag_option, form_option, number_option, number_within};
+ghost use Rattle.dw_arguments.specs.Options.{options_of, text_option};
 
 use clap::builder::ValueParser;
 use clap::{Arg, ArgAction, ArgMatches, Command, value_parser};
@@ -22,10 +22,10 @@ pub const MOST_POSITIONS: u64 = 1_000_000_000_000;
 pub const FIRST_PROBLEM: u32 = 1;
 
 /// The fewest positions that a memo may keep.
-pub const FEWEST_KEPT: usize = 1;
+pub const MIN_CAPACITY: usize = 1;
 
 /// The most positions that a memo may keep.
-pub const MOST_KEPT: usize = 4_000_000;
+pub const MAX_CAPACITY: usize = 4_000_000;
 
 /// The version of the programs.
 pub const VERSION: &str = "1.0.0";
@@ -87,10 +87,10 @@ fn pdn<'a>(alloc: Global) -> Arg<'a> {
 }
 
 /// Returns the form of the problems in the file: tags with `--pdn`, else FEN texts.
-pub fn form_given(matches: &ArgMatches<'_>) -> Form
-    ensures { result ≡ form_given (options_of matches.now) }
+pub fn form_option(matches: &ArgMatches<'_>) -> Form
+    ensures { result ≡ form_option (options_of matches.now) }
 {
-    if flag_given(matches, "pdn") {
+    if flag_option(matches, "pdn") {
         Form::Pdn
     } else {
         Form::Fens
@@ -104,8 +104,8 @@ pub fn one_problem<'a>(alloc: Global, help: &'a str) -> Arg<'a> {
 }
 
 /// Returns the number of the problem that `--problem` names, `FIRST_PROBLEM` to `MAX_PROBLEMS`, if it is given.
-pub fn problem_given(matches: &ArgMatches<'_>) -> Option<u32>
-    ensures value { result ≡ number_given 1 1_000_000 (options_of matches.now) (codes "problem") }
+pub fn problem_option(matches: &ArgMatches<'_>) -> Option<u32>
+    ensures value { result ≡ number_option 1 1_000_000 (options_of matches.now) (codes "problem") }
     ensures some { IfSome result (λ number. 1 ≤ number) }
     ensures few { IfSome result (λ number. number ≤ 1_000_000) }
 {
@@ -126,20 +126,22 @@ pub fn memo<'a>(alloc: Global, usual: &'a str) -> Arg<'a> {
     option(alloc, "memo", "KIND", kinds, MEMO_HELP).default_value(usual)
 }
 
-/// Makes `--cache`, `FEWEST_KEPT` to `MOST_KEPT`, with its help.
+/// Makes `--cache`, `MIN_CAPACITY` to `MAX_CAPACITY`, with its help.
 pub fn cache<'a>(alloc: Global, help: &'a str) -> Arg<'a> {
-    let numbers = value_parser!(u32).range(FEWEST_KEPT as i64..=MOST_KEPT as i64);
+    let numbers = value_parser!(u32).range(MIN_CAPACITY as i64..=MAX_CAPACITY as i64);
     option(alloc, "cache", "C", numbers, help)
 }
 
-/// Returns the most positions that the memo keeps, `FEWEST_KEPT` to `MOST_KEPT`, if `--cache` is given.
-pub fn kept_given(matches: &ArgMatches<'_>) -> Option<usize>
-    ensures value { result ≡ number_given 1 4_000_000 (options_of matches.now) (codes "cache") }
+/// Returns the most positions that the memo keeps, `MIN_CAPACITY` to `MAX_CAPACITY`, if `--cache` is given.
+pub fn capacity_option(matches: &ArgMatches<'_>) -> Option<usize>
+    ensures value { result ≡ number_option 1 4_000_000 (options_of matches.now) (codes "cache") }
     ensures some { IfSome result (λ kept. 1 ≤ kept) }
     ensures few { IfSome result (λ kept. kept ≤ 4_000_000) }
 {
     let kept = matches.get_one::<u32>("cache")? as usize;
-    (FEWEST_KEPT..=MOST_KEPT).contains(&kept).then_some(kept)
+    (MIN_CAPACITY..=MAX_CAPACITY)
+        .contains(&kept)
+        .then_some(kept)
 }
 
 /// Makes `-n`, the number of moves, with its help.
@@ -161,8 +163,8 @@ fn moves<'a>() -> ValueParser<'a> {
 }
 
 /// Returns the number of moves that the option of this name says, if it is given.
-pub fn moves_given(matches: &ArgMatches<'_>, name: &str) -> Option<MoveCount>
-    ensures { option_map (λ moves. moves.value) result ≡ number_given 1 20 (options_of matches.now) name.now }
+pub fn moves_option(matches: &ArgMatches<'_>, name: &str) -> Option<MoveCount>
+    ensures { option_map (λ moves. moves.value) result ≡ number_option 1 20 (options_of matches.now) name.now }
 {
     let moves = matches.get_one::<u8>(name)?;
     MoveCount::new(moves)
@@ -176,17 +178,17 @@ pub fn positions<'a>(alloc: Global, name: &'a str, help: &'a str) -> Arg<'a> {
 
 /// Returns the number of positions that the option of this name says, `FEWEST_POSITIONS` to `MOST_POSITIONS`, if it is
 /// given.
-pub fn positions_given(matches: &ArgMatches<'_>, name: &str) -> Option<u64>
-    ensures value { result ≡ number_given 1 1_000_000_000_000 (options_of matches.now) name.now }
+pub fn positions_option(matches: &ArgMatches<'_>, name: &str) -> Option<u64>
+    ensures value { result ≡ number_option 1 1_000_000_000_000 (options_of matches.now) name.now }
     ensures some { IfSome result (λ positions. 1 ≤ positions) }
     ensures few { IfSome result (λ positions. positions ≤ 1_000_000_000_000) }
 {
-    count_given(matches, name, FEWEST_POSITIONS, MOST_POSITIONS)
+    count_option(matches, name, FEWEST_POSITIONS, MOST_POSITIONS)
 }
 
 /// Returns the number that the option of this name says, if it is given and within these bounds.
-pub fn count_given(matches: &ArgMatches<'_>, name: &str, least: u64, most: u64) -> Option<u64>
-    ensures value { result ≡ number_given least most (options_of matches.now) name.now }
+pub fn count_option(matches: &ArgMatches<'_>, name: &str, least: u64, most: u64) -> Option<u64>
+    ensures value { result ≡ number_option least most (options_of matches.now) name.now }
     ensures some { IfSome result (λ count. least ≤ count) }
     ensures few { IfSome result (λ count. count ≤ most) }
 {
@@ -205,15 +207,15 @@ pub fn number_within(text: &str, least: u32, most: u32) -> Option<u32>
 }
 
 /// Returns the text that the option of this name says, if it is given.
-pub fn text_given<'a>(matches: &ArgMatches<'a>, name: &str) -> Option<&'a str>
-    ensures { option_map (λ text. text.now) result ≡ text_given (options_of matches.now) name.now }
+pub fn text_option<'a>(matches: &ArgMatches<'a>, name: &str) -> Option<&'a str>
+    ensures { option_map (λ text. text.now) result ≡ text_option (options_of matches.now) name.now }
 {
     matches.get_str(name)
 }
 
 /// Returns whether the flag of this name is given.
-pub fn flag_given(matches: &ArgMatches<'_>, name: &str) -> bool
-    ensures { result ≡ flag_given (options_of matches.now) name.now }
+pub fn flag_option(matches: &ArgMatches<'_>, name: &str) -> bool
+    ensures { result ≡ flag_option (options_of matches.now) name.now }
 {
     matches.get_one::<bool>(name).unwrap_or(false)
 }

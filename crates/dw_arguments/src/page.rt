@@ -4,7 +4,7 @@ ghost use Rattle.std.specs.Prelude.{◌≤◌};
 use crate::choices::{PageLanguage, PageTries, Placing};
 use crate::desk_options::{lines, lines_of, searcher};
 use crate::options::{
-    CommandTexts, flag, flag_given, memo, most, moves_given, option, text_given, within,
+    CommandTexts, flag, flag_option, memo, most, moves_option, option, text_option, within,
 };
 use crate::portion::problem;
 use clap::builder::ValueParser;
@@ -108,18 +108,18 @@ impl<'a> PageArgs<'a> {
     pub(crate) fn new(matches: &ArgMatches<'a>) -> Self
         ensures { AsksPage (options_of matches.now) result }
     {
-        let most = moves_given(matches, "most");
+        let most = moves_option(matches, "most");
         PageArgs {
-            moves: moves_given(matches, "n")
+            moves: moves_option(matches, "n")
                 .or(most)
                 .unwrap_or(MoveCount::FEWEST),
             is_least: most.is_some(),
             lines: lines_of(matches),
-            title: text_given(matches, "title").unwrap_or(USUAL_TITLE),
-            language: PageLanguage::named(text_given(matches, "lang")),
-            numbers: flag_given(matches, "numbers"),
-            solutions: Placing::named(text_given(matches, "solutions")),
-            tries: PageTries::named(text_given(matches, "tries")),
+            title: text_option(matches, "title").unwrap_or(USUAL_TITLE),
+            language: PageLanguage::named(text_option(matches, "lang")),
+            numbers: flag_option(matches, "numbers"),
+            solutions: Placing::named(text_option(matches, "solutions")),
+            tries: PageTries::named(text_option(matches, "tries")),
         }
     }
 }

@@ -5,7 +5,7 @@ ghost use Rattle.dw_arguments.specs.Numbers.{part_named};
 ghost use Rattle.dw_arguments.specs.Options.{options_of};
 ghost use Rattle.dw_arguments.specs.Options as of;
 
-use crate::options::{number_within, option, text_given};
+use crate::options::{number_within, option, text_option};
 use clap::builder::ValueParser;
 use clap::{Arg, ArgMatches};
 use std::alloc::Global;
@@ -31,13 +31,13 @@ pub(crate) fn part<'a>(alloc: Global) -> Arg<'a> {
 }
 
 /// Returns the part that `--part` names and the number of parts, or `None` if its text is not valid.
-pub(crate) fn part_given(matches: &ArgMatches<'_>) -> Option<(u32, u32)>
-    ensures value { result ≡ part_named (of.text_given (options_of matches.now) (codes "part")) }
+pub(crate) fn part_option(matches: &ArgMatches<'_>) -> Option<(u32, u32)>
+    ensures value { result ≡ part_named (of.text_option (options_of matches.now) (codes "part")) }
     ensures some { IfSome result (λ named. 1 ≤ named.0) }
     ensures among { IfSome result (λ named. named.0 ≤ named.1) }
     ensures few { IfSome result (λ named. named.1 ≤ 1_000_000) }
 {
-    part_named(text_given(matches, "part"))
+    part_named(text_option(matches, "part"))
 }
 
 /// Returns the part and the number of parts that a text `I/M` names; the only part, if there is no text.

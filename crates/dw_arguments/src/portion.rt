@@ -4,7 +4,7 @@ ghost use Rattle.dw_arguments.specs.Numbers.{problem_in};
 ghost use Rattle.std.specs.Option.{option_copied};
 ghost use Rattle.std.proofs.Props.{props};
 
-use crate::options::{FIRST_PROBLEM, number_within, option, problem_given};
+use crate::options::{FIRST_PROBLEM, number_within, option, problem_option};
 use clap::builder::ValueParser;
 use clap::{Arg, ArgMatches};
 use dw_notation::problems::MAX_PROBLEMS;
@@ -19,7 +19,7 @@ pub struct Portion {
     pub last: Option<u32>,
     /// Whether it is an error if none of them is there: always for a command on one problem, else if `--problem` is
     /// given.
-    pub is_asked: bool,
+    pub must_exist: bool,
     pub ghost some: { 1 ≤ first },
     pub ghost few: { first ≤ 1_000_000 },
     pub ghost in_order: { IfSome last (λ last. first ≤ last) } by { Prim.hlevel props },
@@ -56,11 +56,11 @@ impl Portion {
     pub(crate) fn of_one(matches: &ArgMatches<'_>) -> Self
         ensures { IsOneProblem (options_of matches.now) result }
     {
-        let number = problem_given(matches).unwrap_or(FIRST_PROBLEM);
+        let number = problem_option(matches).unwrap_or(FIRST_PROBLEM);
         Portion {
             first: number,
             last: Some(number),
-            is_asked: true,
+            must_exist: true,
         }
     }
 
@@ -69,14 +69,14 @@ impl Portion {
     pub(crate) fn named(text: Option<&str>) -> Option<Self>
         ensures numbers { option_map (λ portion. (portion.first, portion.last)) result
             ≡ portion_named (option_copied text.entry) }
-        ensures is_asked { IfSome result (λ portion. portion.is_asked ≡ is_some text.entry) }
+        ensures must_exist { IfSome result (λ portion. portion.must_exist ≡ is_some text.entry) }
     {
         match text {
             Some(text) => Portion::in_text(text),
             None => Some(Portion {
                 first: FIRST_PROBLEM,
                 last: None,
-                is_asked: false,
+                must_exist: false,
             }),
         }
     }
@@ -85,7 +85,7 @@ impl Portion {
     fn in_text(text: &str) -> Option<Self>
         ensures numbers { option_map (λ portion. (portion.first, portion.last)) result
             ≡ portion_named (Some text.now) }
-        ensures is_asked { IfSome result (λ portion. portion.is_asked ≡ true) }
+        ensures must_exist { IfSome result (λ portion. portion.must_exist ≡ true) }
     {
         let (first, last) = text.split_once('-').unwrap_or((text, text));
         let first = number_in(first)?;
@@ -96,7 +96,7 @@ impl Portion {
         Some(Portion {
             first,
             last: Some(last),
-            is_asked: true,
+            must_exist: true,
         })
     }
 }

@@ -2,14 +2,14 @@
 ghost use Rattle.std.specs.Prelude.{◌≡◌, ◌≤◌, IfSome, codes, option_map};
 ghost use Rattle.std.specs.Option.{option_or};
 ghost use Rattle.std.proofs.Props.{props};
-ghost use Rattle.dw_arguments.specs.Options.{number_given, options_of, text_given};
+ghost use Rattle.dw_arguments.specs.Options.{number_option, options_of, text_option};
 
 use crate::choices::{BoardSize, MemoKind};
 use crate::error::CliError;
 use crate::options::{
-    CommandTexts, FEWEST_KEPT, FIRST_PROBLEM, MOST_POSITIONS, VERSION, cache, count_given,
-    form_given, kept_given, memo, moves_given, one_problem, option, positions, positions_given,
-    problem_given, reader, text_given, within,
+    CommandTexts, FIRST_PROBLEM, MIN_CAPACITY, MOST_POSITIONS, VERSION, cache, capacity_option,
+    count_option, form_option, memo, moves_option, one_problem, option, positions,
+    positions_option, problem_option, reader, text_option, within,
 };
 use clap::builder::ValueParser;
 use clap::{Arg, ArgMatches, Command, value_parser};
@@ -43,7 +43,7 @@ pub struct ReportArgs<'a> {
     /// The most positions to expand, `FEWEST_POSITIONS` to `MOST_POSITIONS`.
     pub positions: u64,
     pub memo: MemoKind,
-    /// The most positions that the memo keeps, `FEWEST_KEPT` to `MOST_KEPT`.
+    /// The most positions that the memo keeps, `MIN_CAPACITY` to `MAX_CAPACITY`.
     pub cache: usize,
     /// The most lines to list, `FEWEST_LINES` to `MOST_LINES`.
     pub lines: u64,
@@ -71,7 +71,7 @@ const MOST_LINES: u64 = 1_000_000_000;
 const NO_COMMAND: &str = "dw: no command\n";
 
 /// The default size of a memo, in positions.
-const USUALLY_KEPT: usize = 100_000;
+const DEFAULT_CAPACITY: usize = 100_000;
 
 const CACHE_HELP: &str = "Keep at most C positions, 1 to 4000000 [default: 100000]";
 
@@ -246,8 +246,8 @@ impl<'a> ReportArgs<'a> {
     ghost use Rattle.clap.specs.Words.{subcommand_rows_of};
     ghost use Rattle.clap.specs.declared.parser.matches.ArgMatches.{ArgMatches};
     ghost use Rattle.std.specs.Prelude.{IfOk, Some};
-    ghost use Rattle.dw_arguments.specs.Commands.{problem_asked};
-    ghost use Rattle.dw_arguments.specs.ReportCommands.{IsAsked, IsAskedBy, Lists, Reads, Searches};
+    ghost use Rattle.dw_arguments.specs.Commands.{chosen_problem};
+    ghost use Rattle.dw_arguments.specs.ReportCommands.{IsParsed, IsParsedFrom, Lists, Reads, Searches};
 
     /// Parses the words of a command line, the program's name first.
     ///
@@ -255,7 +255,7 @@ impl<'a> ReportArgs<'a> {
     ///
     /// The arguments are wrong or ask for help, or memory was refused.
     pub fn parse(alloc: Global, words: &'a [String]) -> Result<Self, CliError>
-        ensures { IfOk result (λ args. (matches : ArgMatches) × IsAsked (subcommand_rows_of matches) (Some args)) }
+        ensures { IfOk result (λ args. (matches : ArgMatches) × IsParsed (subcommand_rows_of matches) (Some args)) }
     {
         match command(alloc)?.try_get_matches_from(words) {
             Ok(matches) => match ReportArgs::requested(&matches) {
@@ -268,17 +268,17 @@ impl<'a> ReportArgs<'a> {
 
     /// Returns the request of parsed arguments, or `None` if they have no command.
     pub fn requested(matches: &ArgMatches<'a>) -> Option<Self>
-        ensures { IsAsked (subcommand_rows_of matches.now) result }
+        ensures { IsParsed (subcommand_rows_of matches.now) result }
     {
         match matches.subcommand() {
-            Some((name, matches)) => ReportArgs::asked_by(name, matches),
+            Some((name, matches)) => ReportArgs::from_matches(name, matches),
             None => None,
         }
     }
 
     /// Returns the request of the command of this name.
-    fn asked_by(name: &str, matches: &ArgMatches<'a>) -> Option<Self>
-        ensures { IsAskedBy name.now (options_of matches.now) result }
+    fn from_matches(name: &str, matches: &ArgMatches<'a>) -> Option<Self>
+        ensures { IsParsedFrom name.now (options_of matches.now) result }
     {
         match name {
             "show" => Some(ReportArgs::read_by(matches, ReportCommand::Show)),
@@ -292,28 +292,28 @@ impl<'a> ReportArgs<'a> {
     /// Returns the request of a command that only reads problems.
     fn read_by(matches: &ArgMatches<'a>, command: ReportCommand) -> Self
         ensures command { result.command ≡ command }
-        ensures only { result.only ≡ problem_asked (options_of matches.now) }
+        ensures only { result.only ≡ chosen_problem (options_of matches.now) }
         ensures reads { Reads (options_of matches.now) result }
     {
         ReportArgs {
             command,
-            form: form_given(matches),
-            only: problem_given(matches),
-            board: BoardSize::named(text_given(matches, "board")),
+            form: form_option(matches),
+            only: problem_option(matches),
+            board: BoardSize::named(text_option(matches, "board")),
             n: MoveCount::FEWEST,
             positions: MOST_POSITIONS,
             memo: MemoKind::None,
-            cache: FEWEST_KEPT,
+            cache: MIN_CAPACITY,
             lines: FEWEST_LINES,
             after: None,
-            file: text_given(matches, "FILE"),
+            file: text_option(matches, "FILE"),
         }
     }
 
     /// Returns the request of a command that searches for wins.
     fn searched_by(matches: &ArgMatches<'a>, command: ReportCommand) -> Self
         ensures command { result.command ≡ command }
-        ensures only { result.only ≡ problem_asked (options_of matches.now) }
+        ensures only { result.only ≡ chosen_problem (options_of matches.now) }
         ensures searches { Searches (options_of matches.now) result }
     {
         let read = ReportArgs::read_by(matches, command);
@@ -322,10 +322,10 @@ impl<'a> ReportArgs<'a> {
             form: read.form,
             only: read.only,
             board: read.board,
-            n: moves_given(matches, "n").unwrap_or(MoveCount::FEWEST),
-            positions: positions_given(matches, "positions").unwrap_or(MOST_POSITIONS),
-            memo: MemoKind::named(text_given(matches, "memo")),
-            cache: kept_given(matches).unwrap_or(USUALLY_KEPT),
+            n: moves_option(matches, "n").unwrap_or(MoveCount::FEWEST),
+            positions: positions_option(matches, "positions").unwrap_or(MOST_POSITIONS),
+            memo: MemoKind::named(text_option(matches, "memo")),
+            cache: capacity_option(matches).unwrap_or(DEFAULT_CAPACITY),
             lines: read.lines,
             after: read.after,
             file: read.file,
@@ -337,32 +337,32 @@ impl<'a> ReportArgs<'a> {
         ensures command { result.command ≡ ReportCommand.List }
         ensures lists { Lists (options_of matches.now) result }
     {
-        let asked = ReportArgs::searched_by(matches, ReportCommand::List);
+        let query = ReportArgs::searched_by(matches, ReportCommand::List);
         ReportArgs {
-            command: asked.command,
-            form: asked.form,
+            command: query.command,
+            form: query.form,
             only: problem_or_first(matches),
-            board: asked.board,
-            n: asked.n,
-            positions: asked.positions,
-            memo: asked.memo,
-            cache: asked.cache,
-            lines: count_given(matches, "lines", FEWEST_LINES, MOST_LINES).unwrap_or(MOST_LINES),
-            after: text_given(matches, "after"),
-            file: asked.file,
+            board: query.board,
+            n: query.n,
+            positions: query.positions,
+            memo: query.memo,
+            cache: query.cache,
+            lines: count_option(matches, "lines", FEWEST_LINES, MOST_LINES).unwrap_or(MOST_LINES),
+            after: text_option(matches, "after"),
+            file: query.file,
         }
     }
 }
 
 /// Returns the number of the one problem to list, if any: as `--problem` says, or else the first if a token is given.
 fn problem_or_first(matches: &ArgMatches<'_>) -> Option<u32>
-    ensures value { result ≡ option_or (number_given 1 1_000_000 (options_of matches.now) (codes "problem"))
-        (option_map (λ token. 1) (text_given (options_of matches.now) (codes "after"))) }
+    ensures value { result ≡ option_or (number_option 1 1_000_000 (options_of matches.now) (codes "problem"))
+        (option_map (λ token. 1) (text_option (options_of matches.now) (codes "after"))) }
     ensures some { IfSome result (λ number. 1 ≤ number) }
     ensures few { IfSome result (λ number. number ≤ 1_000_000) }
 {
-    match (problem_given(matches), text_given(matches, "after")) {
+    match (problem_option(matches), text_option(matches, "after")) {
         (None, Some(_)) => Some(FIRST_PROBLEM),
-        (asked, _) => asked,
+        (query, _) => query,
     }
 }

@@ -2,7 +2,7 @@
 ghost use Rattle.std.specs.Prelude.{◌≤◌};
 
 use crate::desk_options::{JSON_HELP, json, lines, lines_of, searcher};
-use crate::options::{CommandTexts, flag_given, memo, most, moves_given, within};
+use crate::options::{CommandTexts, flag_option, memo, most, moves_option, within};
 use crate::portion::problem;
 use clap::{ArgMatches, Command};
 use dw_stipulation::MoveCount;
@@ -64,14 +64,14 @@ impl SolutionArgs {
     pub(crate) fn new(matches: &ArgMatches<'_>) -> Self
         ensures { AsksSolution (options_of matches.now) result }
     {
-        let most = moves_given(matches, "most");
+        let most = moves_option(matches, "most");
         SolutionArgs {
-            moves: moves_given(matches, "n")
+            moves: moves_option(matches, "n")
                 .or(most)
                 .unwrap_or(MoveCount::FEWEST),
             is_least: most.is_some(),
             lines: lines_of(matches),
-            json: flag_given(matches, "json"),
+            json: flag_option(matches, "json"),
         }
     }
 }

@@ -39,11 +39,11 @@ ending_of (Ok summary) only = done_of summary only
 
 -- an exit without a line on standard error
 abbrev pub quiet : ℕ → Exit
-quiet status = record { status = status; is_told = false }
+quiet status = record { status = status; has_message = false }
 
 -- an exit with the line of its ending on standard error
-abbrev pub told : ℕ → Exit
-told status = record { status = status; is_told = true }
+abbrev pub with_message : ℕ → Exit
+with_message status = record { status = status; has_message = true }
 
 -- The exit of each ending. The status is 0 if all was done; 1 if something was refused, is undecided or is not there; 2
 -- if the words are no command; 3 if the program was stopped, the memo was too small, or a file could not be opened,
@@ -51,14 +51,14 @@ told status = record { status = status; is_told = true }
 abbrev pub outcome_of : {T : Type 0} → Ending T → Exit
 outcome_of end.Done = quiet 0
 outcome_of end.Refused = quiet 1
-outcome_of (end.NoProblem number) = told 1
-outcome_of (end.TokenRefused fault) = told 1
-outcome_of (end.ProblemRefused fault) = told 1
-outcome_of (end.LineRefused number name place) = told 1
-outcome_of (end.NoCommand text) = told 2
-outcome_of end.TooManyPositions = told 3
-outcome_of (end.NotOpened file) = told 3
-outcome_of (end.Failed fault) = told 3
+outcome_of (end.NoProblem number) = with_message 1
+outcome_of (end.TokenRefused fault) = with_message 1
+outcome_of (end.ProblemRefused fault) = with_message 1
+outcome_of (end.LineRefused number name place) = with_message 1
+outcome_of (end.NoCommand text) = with_message 2
+outcome_of end.TooManyPositions = with_message 3
+outcome_of (end.NotOpened file) = with_message 3
+outcome_of (end.Failed fault) = with_message 3
 
 -- an ending that says that the arguments are no command, with this text
 abbrev pub SaysWhy : List ℕ → Ending (Bor (List ℕ)) → Type 0

@@ -157,7 +157,7 @@ fn number_of(fault: TokenFault) -> u8 {
 #[derive(Clone, Copy, Debug, PartialEq, Eq)]
 pub struct Exit {
     pub status: u8,
-    pub is_told: bool,
+    pub has_message: bool,
 }
 
 /// Returns the status of an ending, and whether its line is written.
@@ -174,9 +174,9 @@ pub fn outcome<T>(ending: &Ending<T>) -> Exit
         Ending::NoProblem(_)
         | Ending::TokenRefused(_)
         | Ending::ProblemRefused(_)
-        | Ending::LineRefused { .. } => told(1),
-        Ending::NoCommand(_) => told(2),
-        Ending::TooManyPositions | Ending::NotOpened(_) | Ending::Failed(_) => told(3),
+        | Ending::LineRefused { .. } => with_message(1),
+        Ending::NoCommand(_) => with_message(2),
+        Ending::TooManyPositions | Ending::NotOpened(_) | Ending::Failed(_) => with_message(3),
     }
 }
 
@@ -186,16 +186,16 @@ fn quiet(status: u8) -> Exit
 {
     Exit {
         status,
-        is_told: false,
+        has_message: false,
     }
 }
 
 /// Returns an exit with the line of its ending.
-fn told(status: u8) -> Exit
-    ensures { result ≡ of.told status }
+fn with_message(status: u8) -> Exit
+    ensures { result ≡ of.with_message status }
 {
     Exit {
         status,
-        is_told: true,
+        has_message: true,
     }
 }

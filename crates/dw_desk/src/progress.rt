@@ -18,7 +18,7 @@ pub(crate) struct Progress<'a> {
     /// The problem that is searched.
     problem: u32,
     /// The start of its search, if it is to be shown.
-    begun: Option<Instant>,
+    started: Option<Instant>,
     /// The time of the last write, if the line is visible.
     written: Option<Instant>,
 }
@@ -30,17 +30,17 @@ impl<'a> Progress<'a> {
             rt,
             is_shown,
             problem: 0,
-            begun: None,
+            started: None,
             written: None,
         }
     }
 
     /// Returns whether the line may be written now.
     fn is_due(&self) -> bool {
-        let Some(begun) = self.begun else {
+        let Some(started) = self.started else {
             return false;
         };
-        self.has_passed(&begun, PATIENCE)
+        self.has_passed(&started, PATIENCE)
             && match self.written {
                 None => true,
                 Some(written) => self.has_passed(&written, PAUSE),
@@ -79,7 +79,7 @@ impl DeskWatcher for Progress<'_> {
     /// Notes that the search for a problem begins. Without a clock its progress is not shown.
     fn begin(&mut self, problem: u32) {
         self.problem = problem;
-        self.begun = if self.is_shown {
+        self.started = if self.is_shown {
             Instant::now(self.rt).ok()
         } else {
             None
@@ -88,7 +88,7 @@ impl DeskWatcher for Progress<'_> {
 
     /// Notes that the search is over, and removes the line.
     fn end(&mut self) {
-        self.begun = None;
+        self.started = None;
         self.make_way();
     }
 }

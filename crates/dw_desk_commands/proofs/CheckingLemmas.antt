@@ -101,12 +101,12 @@ none_is f v (r ∷ said) b same is = is ∙ ne_eqb _ _ (λ none. (let ok = v.ok.
     let some = length_map_some f v.items r said same in omega (arith, ok, none, some)))
 
 -- a solution that was checked is that of its problem
-pub check_for : (g : Geometry) (asked : CheckArgs) (problem : Numbered) (movetext : List ℕ) (found : Found)
+pub check_for : (g : Geometry) (query : CheckArgs) (problem : Numbered) (movetext : List ℕ) (found : Found)
     (p : Placement) (tree : PlayedTree) (n : ℕ) (remarks : List Remark) (refused : Bool) (text : List ℕ) → found ≡ Ok p
-    → IsAnswer g p movetext (Ok tree) → IsNumberFor asked.n tree.paths n
-    → AreRemarks g tree.paths n tree.start [] remarks → IsChecked g asked problem tree.start n remarks refused text
-    → IsCheckFor g asked problem movetext found refused text
-check_for g asked problem movetext found p tree n remarks refused text is answer number are checked =
+    → IsAnswer g p movetext (Ok tree) → IsNumberFor query.n tree.paths n
+    → AreRemarks g tree.paths n tree.start [] remarks → IsChecked g query problem tree.start n remarks refused text
+    → IsCheckFor g query problem movetext found refused text
+check_for g query problem movetext found p tree n remarks refused text is answer number are checked =
     rw is (inl (
       tree.paths,
       n,
@@ -114,5 +114,5 @@ check_for g asked problem movetext found p tree n remarks refused text is answer
       answer.1,
       number,
       subst (λ z. AreRemarks g tree.paths n z [] remarks) answer.0 are,
-      subst (λ z. IsChecked g asked problem z n remarks refused text) answer.0 checked,
+      subst (λ z. IsChecked g query problem z n remarks refused text) answer.0 checked,
     ))

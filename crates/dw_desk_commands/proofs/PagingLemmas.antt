@@ -50,29 +50,29 @@ said_map [] = refl
 said_map (t ∷ read) = ap (λ z. (tag_text t).tag ∷ z) (said_map read)
 
 -- what is written of the games that were handed out, and what is to come later
-pub record SoFar (g : Geometry) (asked : PageArgs) (Old New : List NumberedGame → Type 0) (counts : Counts)
+pub record SoFar (g : Geometry) (query : PageArgs) (Old New : List NumberedGame → Type 0) (counts : Counts)
     (before after : Option (List ℕ)) (later : List ℕ) : Type 0 where
   pub shown : List Shown
   pub handed : (more : List NumberedGame) → New more → Old (map (λ s. s.game) shown ++ more)
-  pub each : All (IsShownIn g asked) shown
+  pub each : All (IsShownIn g query) shown
   pub number : length shown ≤ MAX_PROBLEMS + 1 → counts.shown ≡ length shown
   pub refused : length shown ≤ MAX_PROBLEMS + 1 → counts.refused ≡ count_by (λ s. s.is_refused) shown
   pub wrote : Appends before after
-      (head g (language_for asked.language) asked.title.now ++ flat_map (λ s. s.part) shown)
-  pub kept : later ≡ heading_of asked.solutions (language_for asked.language) ++ flat_map (λ s. s.later) shown
+      (head g (language_for query.language) query.title.now ++ flat_map (λ s. s.part) shown)
+  pub kept : later ≡ heading_of query.solutions (language_for query.language) ++ flat_map (λ s. s.later) shown
 
-pub none_yet : (g : Geometry) (asked : PageArgs) (Old : List NumberedGame → Type 0) (counts : Counts)
+pub none_yet : (g : Geometry) (query : PageArgs) (Old : List NumberedGame → Type 0) (counts : Counts)
     (before after : Option (List ℕ)) (later : List ℕ) → counts.shown ≡ 0 → counts.refused ≡ 0
-    → Appends before after (head g (language_for asked.language) asked.title.now)
-    → later ≡ heading_of asked.solutions (language_for asked.language) → SoFar g asked Old Old counts before after later
-none_yet g asked Old counts before after later shown refused wrote kept = record {
+    → Appends before after (head g (language_for query.language) query.title.now)
+    → later ≡ heading_of query.solutions (language_for query.language) → SoFar g query Old Old counts before after later
+none_yet g query Old counts before after later shown refused wrote kept = record {
   shown = [];
   handed = λ more these. these;
   each = λ k d lt. absurd (omega (arith, lt));
   number = λ few. shown;
   refused = λ few. refused;
-  wrote = subst (Appends before after) (sym (append-nil (head g (language_for asked.language) asked.title.now))) wrote;
-  kept = kept ∙ sym (append-nil (heading_of asked.solutions (language_for asked.language)));
+  wrote = subst (Appends before after) (sym (append-nil (head g (language_for query.language) query.title.now))) wrote;
+  kept = kept ∙ sym (append-nil (heading_of query.solutions (language_for query.language)));
 }
 
 -- the counts with one game more
@@ -103,27 +103,27 @@ flat_push f front xs y =
     ∙ ap (λ t. front ++ t) (sym (flat_map-append f xs (y ∷ []) ∙ ap (λ t. flat_map f xs ++ t) (append-nil (f y))))
 
 -- one more is written
-pub then_one : (g : Geometry) (asked : PageArgs) (Old Mid New : List NumberedGame → Type 0) (counts counted : Counts)
+pub then_one : (g : Geometry) (query : PageArgs) (Old Mid New : List NumberedGame → Type 0) (counts counted : Counts)
     (before after written : Option (List ℕ)) (later kept : List ℕ) (game : NumberedGame) (is_refused : Bool)
-    → SoFar g asked Old Mid counts before after later → HandsOut Mid New (Some game)
-    → ((part new : List ℕ) × IsPart g asked game.number game.said.found game.said.tags is_refused part new
+    → SoFar g query Old Mid counts before after later → HandsOut Mid New (Some game)
+    → ((part new : List ℕ) × IsPart g query game.number game.said.found game.said.tags is_refused part new
     × (kept ≡ later ++ new) × Appends after written part)
     → (counts.shown < 4294967295 → counts.refused < 4294967295
     → counted ≡ record { shown = counts.shown + 1; refused = counts.refused + cond is_refused 1 0 })
-    → SoFar g asked Old New counted before written kept
-then_one g asked Old Mid New counts counted before after written later kept game is_refused so_far handed one with =
+    → SoFar g query Old New counted before written kept
+then_one g query Old Mid New counts counted before after written later kept game is_refused so_far handed one with =
     let xs = so_far.shown in
     let this : Shown = record { game = game; is_refused = is_refused; part = one.0; later = one.1 } in
     let counts_one = counted_one xs this counts counted so_far.number so_far.refused with in
-    let front = head g (language_for asked.language) asked.title.now in
-    let heading = heading_of asked.solutions (language_for asked.language) in
+    let front = head g (language_for query.language) query.title.now in
+    let heading = heading_of query.solutions (language_for query.language) in
     record {
       shown = xs ++ this ∷ [];
       handed = λ more these. subst Old
           (sym (ap (λ t. t ++ more) (map-append (λ s. s.game) xs (this ∷ []))
           ∙ append_assoc (map (λ s. s.game) xs) (game ∷ []) more))
           (so_far.handed (game ∷ more) (handed more these));
-      each = All-push (IsShownIn g asked) xs this so_far.each one.2;
+      each = All-push (IsShownIn g query) xs this so_far.each one.2;
       number = λ few. (counts_one few).0;
       refused = λ few. (counts_one few).1;
       wrote = subst (Appends before written) (flat_push (λ s. s.part) front xs this)
@@ -132,15 +132,15 @@ then_one g asked Old Mid New counts counted before after written later kept game
     }
 
 -- no more comes, and the page ends
-pub all_written : (g : Geometry) (asked : PageArgs) (Old Mid : List NumberedGame → Type 0) (counts : Counts)
-    (before after ended : Option (List ℕ)) (later : List ℕ) → SoFar g asked Old Mid counts before after later
+pub all_written : (g : Geometry) (query : PageArgs) (Old Mid : List NumberedGame → Type 0) (counts : Counts)
+    (before after ended : Option (List ℕ)) (later : List ℕ) → SoFar g query Old Mid counts before after later
     → HandsOut Mid Mid None → Appends after ended (later ++ end)
-    → (games : List NumberedGame) × (text : List ℕ) × Old games × IsPage g asked games counts text
+    → (games : List NumberedGame) × (text : List ℕ) × Old games × IsPage g query games counts text
     × Appends before ended text
-all_written g asked Old Mid counts before after ended later so_far none wrote =
+all_written g query Old Mid counts before after ended later so_far none wrote =
     let xs = so_far.shown in
-    let front = head g (language_for asked.language) asked.title.now in
-    let heading = heading_of asked.solutions (language_for asked.language) in
+    let front = head g (language_for query.language) query.title.now in
+    let heading = heading_of query.solutions (language_for query.language) in
     let parts = flat_map (λ s. s.part) xs in
     let laters = flat_map (λ s. s.later) xs in (
       map (λ s. s.game) xs,
@@ -162,9 +162,9 @@ all_written g asked Old Mid counts before after ended later so_far none wrote =
     )
 
 -- a page of which games are counted has some
-pub not_empty : (g : Geometry) (asked : PageArgs) (games : List NumberedGame) (counts : Counts) (text : List ℕ)
-    → IsPage g asked games counts text → 1 ≤ counts.shown → games ≡ [] → ⊥
-not_empty g asked games counts text page some none =
+pub not_empty : (g : Geometry) (query : PageArgs) (games : List NumberedGame) (counts : Counts) (text : List ℕ)
+    → IsPage g query games counts text → 1 ≤ counts.shown → games ≡ [] → ⊥
+not_empty g query games counts text page some none =
     let shown = page.games_shown in
     let no_length : length shown ≡ 0 =
     sym (length-map shown (λ s. s.game)) ∙ (ap length (sym page.are) ∙ ap length none) in
@@ -172,11 +172,11 @@ not_empty g asked games counts text page some none =
     omega (arith, some, count, no_length)
 
 -- a page of no games
-pub page_of_none : (g : Geometry) (asked : PageArgs) (portion : Portion) (is_asked : Bool) (counts : Counts)
-    (text : List ℕ) → is_asked ≡ portion.is_asked
-    → ((IsPage g asked [] counts text × (is_asked ≡ false))
-    ⊎ ((is_asked ≡ true) × (counts.shown ≡ 0) × (counts.refused ≡ 0) × (text ≡ [])))
-    → IsPageOf g asked portion [] counts text
-page_of_none g asked portion is_asked counts text same (inl page) = inl (page.0, λ none. sym same ∙ page.1)
-page_of_none g asked portion is_asked counts text same (inr none) =
+pub page_of_none : (g : Geometry) (query : PageArgs) (portion : Portion) (must_exist : Bool) (counts : Counts)
+    (text : List ℕ) → must_exist ≡ portion.must_exist
+    → ((IsPage g query [] counts text × (must_exist ≡ false))
+    ⊎ ((must_exist ≡ true) × (counts.shown ≡ 0) × (counts.refused ≡ 0) × (text ≡ [])))
+    → IsPageOf g query portion [] counts text
+page_of_none g query portion must_exist counts text same (inl page) = inl (page.0, λ none. sym same ∙ page.1)
+page_of_none g query portion must_exist counts text same (inr none) =
     inr (refl, sym same ∙ none.0, none.1, none.2, none.3)

@@ -115,9 +115,9 @@ is_none (r ∷ remarks) = false
 -- counts as refused if the solution does not hold.
 abbrev pub IsChecked : Geometry → CheckArgs → Numbered → Placement → (n : ℕ) → List Remark → (refused : Bool) → List ℕ
     → Type 0
-IsChecked g asked problem p n remarks refused text = (refused ≡ not (holds (counted remarks)))
-    × MatchBool (asked.faults && is_none remarks) (text ≡ [])
-    (MatchBool asked.json (IsCheckedLine g problem.number p n remarks text) (IsCheckedText g problem p n remarks text))
+IsChecked g query problem p n remarks refused text = (refused ≡ not (holds (counted remarks)))
+    × MatchBool (query.faults && is_none remarks) (text ≡ [])
+    (MatchBool query.json (IsCheckedLine g problem.number p n remarks text) (IsCheckedText g problem p n remarks text))
 
 -- the number of moves within which a tree is checked: as many as are asked for, or else as it has, but at least 1
 abbrev pub IsNumberFor : Option MoveCount → List (List Move) → ℕ → Type 0
@@ -144,16 +144,16 @@ refused_text g json problem fault = if json then refused_row problem.number faul
 -- the solution does not hold.
 abbrev pub IsCheckFor : Geometry → CheckArgs → Numbered → (movetext : List ℕ) → Found → (refused : Bool) → List ℕ
     → Type 0
-IsCheckFor g asked problem movetext (Ok p) refused text =
+IsCheckFor g query problem movetext (Ok p) refused text =
     ((tree : List (List Move)) × (n : ℕ) × (remarks : List Remark) × IsTree g p movetext tree
-    × IsNumberFor asked.n tree n × AreRemarks g tree n p [] remarks
-    × IsChecked g asked problem p n remarks refused text)
+    × IsNumberFor query.n tree n × AreRemarks g tree n p [] remarks
+    × IsChecked g query problem p n remarks refused text)
     ⊎ ((what : MovetextFaultKind) × (place : ℕ) × IsFirstFault g p movetext what place
-    × (text ≡ fault_text g asked.json problem p what place) × (refused ≡ true))
-IsCheckFor g asked problem movetext (Err fault) refused text =
-    (text ≡ refused_text g asked.json problem fault) × (refused ≡ true)
+    × (text ≡ fault_text g query.json problem p what place) × (refused ≡ true))
+IsCheckFor g query problem movetext (Err fault) refused text =
+    (text ≡ refused_text g query.json problem fault) × (refused ≡ true)
 
 -- the output for a game
 abbrev pub IsCheckOf : Geometry → CheckArgs → NumberedGame → (refused : Bool) → List ℕ → Type 0
-IsCheckOf g asked game refused text =
-    IsCheckFor g asked (problem_of game) game.said.movetext game.said.found refused text
+IsCheckOf g query game refused text =
+    IsCheckFor g query (problem_of game) game.said.movetext game.said.found refused text

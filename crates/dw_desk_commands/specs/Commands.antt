@@ -27,26 +27,26 @@ use Rattle.dw_report.specs.declared.settings.RunFault.{RunFault}
 
 -- the form of the problems for a task: tags for `check`, which needs games, else as the arguments say
 abbrev pub form_for : Task → Form → Form
-form_for (task.Check asked) form = Pdn
+form_for (task.Check query) form = Pdn
 form_for other form = form
 
 -- The output of a command for the chosen games, and the ending of the program after it.
 abbrev pub Tells : {T : Type 0} → Geometry → Portion → Task → List NumberedGame → Ending T → List ℕ → Type 0
-Tells g portion (task.Find asked) games ending text =
-    IsReportOnAll (λ game. IsFindOf g asked.json asked.most.value asked.each (problem_of game)) portion games ending
+Tells g portion (task.Find query) games ending text =
+    IsReportOnAll (λ game. IsFindOf g query.json query.most.value query.each (problem_of game)) portion games ending
     text
-Tells g portion (task.Check asked) games ending text = IsReportOnAll (IsCheckOf g asked) portion games ending text
-Tells g portion (task.Solution asked) games ending text =
-    IsReportOnAll (IsSolutionOf g asked) portion games ending text
-Tells g portion (task.Page asked) games ending text =
-    (counts : Counts) × IsPageOf g asked portion games counts text
+Tells g portion (task.Check query) games ending text = IsReportOnAll (IsCheckOf g query) portion games ending text
+Tells g portion (task.Solution query) games ending text =
+    IsReportOnAll (IsSolutionOf g query) portion games ending text
+Tells g portion (task.Page query) games ending text =
+    (counts : Counts) × IsPageOf g query portion games counts text
     × (ending ≡ ending_after counts.shown counts.refused portion)
-Tells g portion (task.Certify asked) games ending text =
-    IsReportOnOne (λ game. IsCertifyOf g asked.n.value (problem_of game)) portion.first games ending text
-Tells g portion (task.Moves asked) games ending text =
-    IsReportOnOne (λ game. IsMovesOf g asked (problem_of game)) portion.first games ending text
-Tells g portion (task.Mend asked) games ending text =
-    (expanded : ℕ) × IsReportOnOne (λ game. IsMendOf g asked expanded (problem_of game)) portion.first games ending text
+Tells g portion (task.Certify query) games ending text =
+    IsReportOnOne (λ game. IsCertifyOf g query.n.value (problem_of game)) portion.first games ending text
+Tells g portion (task.Moves query) games ending text =
+    IsReportOnOne (λ game. IsMovesOf g query (problem_of game)) portion.first games ending text
+Tells g portion (task.Mend query) games ending text =
+    (expanded : ℕ) × IsReportOnOne (λ game. IsMendOf g query expanded (problem_of game)) portion.first games ending text
 Tells g portion (task.Token line) games ending text =
     IsReportOnOne (λ game. IsTokenFor g line.now game.said.found) portion.first games ending text
 

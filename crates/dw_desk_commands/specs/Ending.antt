@@ -14,7 +14,8 @@ done_of refused = if refused == 0 then end.Done else end.Refused
 -- the ending after a number of reported problems; those that were requested by number may be missing
 abbrev pub ending_after : {T : Type 0} → (shown refused : ℕ) → Portion → Ending T
 ending_after shown refused portion =
-    if portion.is_asked then (if shown == 0 then end.NoProblem portion.first else done_of refused) else done_of refused
+    if portion.must_exist then (if shown == 0 then end.NoProblem portion.first else done_of refused)
+    else done_of refused
 
 -- A fault has its cause: for a read or a write that stream has failed; for a stop at a limit as many positions were
 -- expanded as can be counted.

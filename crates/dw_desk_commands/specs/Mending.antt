@@ -21,27 +21,27 @@ wording_for json = if json then Row else Words
 -- The sound neighbours of the requested part are written, after a number of expansions within the bound for each. The
 -- problem counts as refused if a neighbour stays undecided.
 abbrev pub SaysMended : Geometry → MendArgs → (expanded : ℕ) → Placement → (refused : Bool) → List ℕ → Type 0
-SaysMended g asked expanded p refused text =
+SaysMended g query expanded p refused text =
     (all sound undecided : ℕ)
-    × IsMendText (wording_for asked.json) g p asked.n.value asked.part asked.parts all sound undecided text
-    × AreBounded asked.each all undecided 0 expanded × (refused ≡ not (undecided == 0))
+    × IsMendText (wording_for query.json) g p query.n.value query.part query.parts all sound undecided text
+    × AreBounded query.each all undecided 0 expanded × (refused ≡ not (undecided == 0))
 
 -- the text before the neighbours: the first line of the problem, or nothing if they are rows
 abbrev pub front : Geometry → MendArgs → Numbered → List ℕ
-front g asked problem = if asked.json then [] else first_line g problem
+front g query problem = if query.json then [] else first_line g problem
 
 -- the output for a refused problem
 abbrev pub refusal : Geometry → MendArgs → Numbered → ProblemFault → List ℕ
-refusal g asked problem fault = if asked.json then refused_row problem.number fault else first_line g problem
+refusal g query problem fault = if query.json then refused_row problem.number fault else first_line g problem
 
 -- the output for a problem, and whether it counts as refused
 abbrev pub IsMended : Geometry → MendArgs → (expanded : ℕ) → Numbered → Found → (refused : Bool) → List ℕ → Type 0
-IsMended g asked expanded problem (Ok p) refused text =
-    (further : List ℕ) × SaysMended g asked expanded p refused further × (text ≡ front g asked problem ++ further)
-IsMended g asked expanded problem (Err fault) refused text =
-    (refused ≡ true) × (text ≡ refusal g asked problem fault)
+IsMended g query expanded problem (Ok p) refused text =
+    (further : List ℕ) × SaysMended g query expanded p refused further × (text ≡ front g query problem ++ further)
+IsMended g query expanded problem (Err fault) refused text =
+    (refused ≡ true) × (text ≡ refusal g query problem fault)
 
 -- the effect of `mend` on a problem
 abbrev pub IsMendOf : {T : Type 0} → Geometry → MendArgs → (expanded : ℕ) → Numbered → Ending T → List ℕ → Type 0
-IsMendOf g asked expanded problem ending text = (refused : Bool)
-    × IsMended g asked expanded problem problem.found refused text × (ending ≡ (if refused then Refused else Done))
+IsMendOf g query expanded problem ending text = (refused : Bool)
+    × IsMended g query expanded problem problem.found refused text × (ending ≡ (if refused then Refused else Done))

@@ -27,11 +27,11 @@ IsFirstMovesLine g n i m problem (Err fault) refused text = (refused ≡ true) �
 
 -- the output for a problem
 abbrev pub IsMovesText : Geometry → MovesArgs → Numbered → (refused : Bool) → List ℕ → Type 0
-IsMovesText g asked problem refused text = MatchBool asked.json
-    (IsFirstMovesLine g asked.n.value asked.part asked.parts problem.number problem.found refused text)
-    (IsProblemText g (SaysFirstMoves g asked.n.value asked.part asked.parts) problem refused text)
+IsMovesText g query problem refused text = MatchBool query.json
+    (IsFirstMovesLine g query.n.value query.part query.parts problem.number problem.found refused text)
+    (IsProblemText g (SaysFirstMoves g query.n.value query.part query.parts) problem refused text)
 
 -- the effect of `moves` on a problem
 abbrev pub IsMovesOf : {T : Type 0} → Geometry → MovesArgs → Numbered → Ending T → List ℕ → Type 0
-IsMovesOf g asked problem ending text = (refused : Bool) × IsMovesText g asked problem refused text
+IsMovesOf g query problem ending text = (refused : Bool) × IsMovesText g query problem refused text
     × (ending ≡ (if refused then Refused else Done))

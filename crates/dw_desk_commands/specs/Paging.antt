@@ -120,34 +120,34 @@ Stands End Says behind later = (behind ≡ []) × Says true later
 Stands Nowhere Says behind later = (behind ≡ []) × (later ≡ [])
 
 -- the number of moves of a problem: the least with a win up to the given number, or that number
-abbrev pub IsAskedIn : Geometry → PageArgs → Placement → ℕ → Type 0
-IsAskedIn g asked p n = MatchBool asked.is_least (IsJudgedAt g p asked.moves.value n) (n ≡ asked.moves.value)
+abbrev pub HasMoves : Geometry → PageArgs → Placement → ℕ → Type 0
+HasMoves g query p n = MatchBool query.is_least (IsJudgedAt g p query.moves.value n) (n ≡ query.moves.value)
 
 -- a problem up to its task: its number and tags, its diagram, and the task
 abbrev pub task_part : Geometry → PageArgs → (number : ℕ) → Placement → List Tag → (n : ℕ) → List ℕ
-task_part g asked number p tags n =
-    problem g (language_for asked.language) asked.numbers number (value (codes "White") tags) (source tags) p n
+task_part g query number p tags n =
+    problem g (language_for query.language) query.numbers number (value (codes "White") tags) (source tags) p n
 
 -- The part of a page for a position, and its later part: its number, its tags, its diagram and its task, and the
 -- solution in its place.
-pub record IsPositionPart (g : Geometry) (asked : PageArgs) (number : ℕ) (p : Placement) (section part later : List ℕ)
+pub record IsPositionPart (g : Geometry) (query : PageArgs) (number : ℕ) (p : Placement) (section part later : List ℕ)
     : Type 0 where
   pub tags : List TagText
   pub are_tags : AreTags section tags
   pub n : ℕ
-  pub in_moves : IsAskedIn g asked p n
+  pub in_moves : HasMoves g query p n
   pub behind : List ℕ
-  pub solution : Stands asked.solutions (IsSolved g (language_for asked.language) asked.lines asked.tries number p n)
+  pub solution : Stands query.solutions (IsSolved g (language_for query.language) query.lines query.tries number p n)
       behind later
-  pub is : part ≡ task_part g asked number p (map (λ t. t.tag) tags) n ++ (behind ++ end_of_problem)
+  pub is : part ≡ task_part g query number p (map (λ t. t.tag) tags) n ++ (behind ++ end_of_problem)
 
 -- the part of a page for a problem, and its later part; a refused problem has the reason
 abbrev pub IsPart : Geometry → PageArgs → (number : ℕ) → Found → (section : List ℕ) → (refused : Bool)
     → (part later : List ℕ) → Type 0
-IsPart g asked number (Ok p) section is_refused part later =
-    (is_refused ≡ false) × IsPositionPart g asked number p section part later
-IsPart g asked number (Err fault) section is_refused part later =
-    (is_refused ≡ true) × (part ≡ refused (language_for asked.language) number (refusal_text fault)) × (later ≡ [])
+IsPart g query number (Ok p) section is_refused part later =
+    (is_refused ≡ false) × IsPositionPart g query number p section part later
+IsPart g query number (Err fault) section is_refused part later =
+    (is_refused ≡ true) × (part ≡ refused (language_for query.language) number (refusal_text fault)) × (later ≡ [])
 
 -- a game on a page: whether it counts as refused, its part, and its later part
 pub record Shown : Type 0 where
@@ -158,8 +158,8 @@ pub record Shown : Type 0 where
 
 -- a game is shown as the request says
 abbrev pub IsShownIn : Geometry → PageArgs → Shown → Type 0
-IsShownIn g asked s =
-    IsPart g asked s.game.number s.game.said.found s.game.said.tags s.is_refused s.part s.later
+IsShownIn g query s =
+    IsPart g query s.game.number s.game.said.found s.game.said.tags s.is_refused s.part s.later
 
 -- the heading of the solutions, if they stand at the end
 abbrev pub heading_of : Placing → Language → List ℕ
@@ -169,19 +169,19 @@ heading_of Nowhere language = []
 
 -- A page of some games: its head, the part of each game in turn, their later parts, and its end; the number of games,
 -- and how many count as refused. The numbers are stated for at most 1,000,001 games, and a text has no more.
-pub record IsPage (g : Geometry) (asked : PageArgs) (games : List NumberedGame) (counts : Counts) (text : List ℕ)
+pub record IsPage (g : Geometry) (query : PageArgs) (games : List NumberedGame) (counts : Counts) (text : List ℕ)
     : Type 0 where
   pub games_shown : List Shown
   pub are : games ≡ map (λ s. s.game) games_shown
-  pub each : All (IsShownIn g asked) games_shown
+  pub each : All (IsShownIn g query) games_shown
   pub shown : length games_shown ≤ MAX_PROBLEMS + 1 → counts.shown ≡ length games_shown
   pub refused : length games_shown ≤ MAX_PROBLEMS + 1 → counts.refused ≡ count_by (λ s. s.is_refused) games_shown
-  pub is : text ≡ head g (language_for asked.language) asked.title.now ++ (flat_map (λ s. s.part) games_shown
-      ++ (heading_of asked.solutions (language_for asked.language) ++ (flat_map (λ s. s.later) games_shown ++ end)))
+  pub is : text ≡ head g (language_for query.language) query.title.now ++ (flat_map (λ s. s.part) games_shown
+      ++ (heading_of query.solutions (language_for query.language) ++ (flat_map (λ s. s.later) games_shown ++ end)))
 
 -- The page of the chosen games. If problems were asked for by their numbers, and none of them is there, nothing is
 -- written.
 abbrev pub IsPageOf : Geometry → PageArgs → Portion → List NumberedGame → Counts → List ℕ → Type 0
-IsPageOf g asked portion games counts text =
-    (IsPage g asked games counts text × (games ≡ [] → portion.is_asked ≡ false))
-    ⊎ ((games ≡ []) × (portion.is_asked ≡ true) × (counts.shown ≡ 0) × (counts.refused ≡ 0) × (text ≡ []))
+IsPageOf g query portion games counts text =
+    (IsPage g query games counts text × (games ≡ [] → portion.must_exist ≡ false))
+    ⊎ ((games ≡ []) × (portion.must_exist ≡ true) × (counts.shown ≡ 0) × (counts.refused ≡ 0) × (text ≡ []))

@@ -71,13 +71,13 @@ AreWrittenTags g p section text =
 
 -- the number of moves: the least with a win up to the given number, or that number
 abbrev pub IsNumberOf : Geometry → SolutionArgs → Placement → ℕ → Type 0
-IsNumberOf g asked p n = MatchBool asked.is_least (IsJudgedAt g p asked.moves.value n) (n ≡ asked.moves.value)
+IsNumberOf g query p n = MatchBool query.is_least (IsJudgedAt g p query.moves.value n) (n ≡ query.moves.value)
 
 -- A position as a game: its tags, its solution, and an empty line.
 abbrev pub IsGameText : Geometry → SolutionArgs → Placement → (section text : List ℕ) → Type 0
-IsGameText g asked p section text =
-    (n : ℕ) × (tags : List ℕ) × (movetext : List ℕ) × IsNumberOf g asked p n × AreWrittenTags g p section tags
-    × IsSolution g p n asked.lines movetext
+IsGameText g query p section text =
+    (n : ℕ) × (tags : List ℕ) × (movetext : List ℕ) × IsNumberOf g query p n × AreWrittenTags g p section tags
+    × IsSolution g p n query.lines movetext
     × (text ≡ tags ++ (movetext ++ codes "\n\n"))
 
 -- a refused problem as a game, whose event has the reason
@@ -89,22 +89,22 @@ refused_game number fault =
 -- a problem as a game, with the tags of its section; and whether it counts as refused
 abbrev pub IsGameFor : Geometry → SolutionArgs → (number : ℕ) → Found → (section : List ℕ) → (refused : Bool) → List ℕ
     → Type 0
-IsGameFor g asked number (Ok p) section refused text = (refused ≡ false) × IsGameText g asked p section text
-IsGameFor g asked number (Err fault) section refused text = (refused ≡ true) × (text ≡ refused_game number fault)
+IsGameFor g query number (Ok p) section refused text = (refused ≡ false) × IsGameText g query p section text
+IsGameFor g query number (Err fault) section refused text = (refused ≡ true) × (text ≡ refused_game number fault)
 
 -- A position as a row of JSON, with the moves of its movetext.
 abbrev pub IsPositionRow : Geometry → SolutionArgs → (number : ℕ) → Placement → List ℕ → Type 0
-IsPositionRow g asked number p text =
-    (n : ℕ) × (heading : Heading) × (first : LinesFrom) × (many : ℕ) × (movetext : List ℕ) × IsNumberOf g asked p n
-    × IsMovetextOf g p n asked.lines heading first many movetext × IsSolutionRow g number heading first many text
+IsPositionRow g query number p text =
+    (n : ℕ) × (heading : Heading) × (first : LinesFrom) × (many : ℕ) × (movetext : List ℕ) × IsNumberOf g query p n
+    × IsMovetextOf g p n query.lines heading first many movetext × IsSolutionRow g number heading first many text
 
 -- a problem as a row of JSON, and whether it counts as refused
 abbrev pub IsSolutionLine : Geometry → SolutionArgs → (number : ℕ) → Found → (refused : Bool) → List ℕ → Type 0
-IsSolutionLine g asked number (Ok p) refused text = (refused ≡ false) × IsPositionRow g asked number p text
-IsSolutionLine g asked number (Err fault) refused text = (refused ≡ true) × (text ≡ refused_row number fault)
+IsSolutionLine g query number (Ok p) refused text = (refused ≡ false) × IsPositionRow g query number p text
+IsSolutionLine g query number (Err fault) refused text = (refused ≡ true) × (text ≡ refused_row number fault)
 
 -- the output for a game that was read
 abbrev pub IsSolutionOf : Geometry → SolutionArgs → NumberedGame → (refused : Bool) → List ℕ → Type 0
-IsSolutionOf g asked game refused text = MatchBool asked.json
-    (IsSolutionLine g asked game.number game.said.found refused text)
-    (IsGameFor g asked game.number game.said.found game.said.tags refused text)
+IsSolutionOf g query game refused text = MatchBool query.json
+    (IsSolutionLine g query game.number game.said.found refused text)
+    (IsGameFor g query game.number game.said.found game.said.tags refused text)

@@ -20,7 +20,7 @@ use std::alloc::{AllocError, Global};
 use std::mem::replace;
 
 impl<B: Board, E> ReportOne<B, E> for CertifyArgs {
-    ghost says = { λ asked expanded game. IsCertifyOf B.geometry asked.n.value (problem_of game) };
+    ghost says = { λ query expanded game. IsCertifyOf B.geometry query.n.value (problem_of game) };
 
     /// Writes the certificate of whether a problem is won within `n` moves, and returns how that ended. Only the first
     /// line of a refused problem is written.

@@ -16,7 +16,7 @@ ghost use Rattle.dw_desk_commands.specs.inner.Tallies.{one_more, tallied, total}
 ghost use Rattle.dw_moves.specs.Moves.{Move};
 ghost use Rattle.dw_solve.specs.Wins.{Win};
 ghost use Rattle.dw_solve.specs.declared.stop.Stop.TheVariants.{Limit};
-ghost use Rattle.dw_study.specs.RemarkText.{CanBeTold, IsRemarkText};
+ghost use Rattle.dw_study.specs.RemarkText.{HasTexts, IsRemarkText};
 ghost use Rattle.dw_study.specs.Remarks.{AreRemarks, Remark as AnyRemark};
 ghost use Rattle.dw_study.specs.Telling.{Say, remark_in};
 
@@ -37,7 +37,7 @@ use itoa::Buffer;
 use std::alloc::{AllocError, Global};
 
 impl<B: Board> ReportEach<B> for CheckArgs {
-    ghost says = { λ asked. IsCheckOf B.geometry asked };
+    ghost says = { λ query. IsCheckOf B.geometry query };
 
     /// Reports one game, and returns whether it or its solution is refused, or the solution does not hold.
     fn report<W: DeskWatcher, K: Sink>(
@@ -138,10 +138,10 @@ struct Solution<'a, B: Board> {
 
 /// Returns the number of moves within which a solution is checked: that of `-n`, or else that of the solution, but at
 /// least 1.
-fn moves_for<B: Board>(asked: Option<MoveCount>, tree: &Tree<B>) -> MoveCount
-    ensures { IsNumberFor asked tree.now.paths result.value }
+fn moves_for<B: Board>(query: Option<MoveCount>, tree: &Tree<B>) -> MoveCount
+    ensures { IsNumberFor query tree.now.paths result.value }
 {
-    match asked {
+    match query {
         Some(moves) => moves,
         None => MoveCount {
             value: turns_of(tree).max(MoveCount::FEWEST.value),
@@ -189,7 +189,7 @@ fn refused_line(alloc: Global, what: MovetextFaultKind, place: u32) -> Result<St
 /// Writes the remarks on a solution, unless it is to be left out, and returns whether it does not hold.
 fn write_solution<B: Board, K: Sink>(
     alloc: Global,
-    asked: &CheckArgs,
+    query: &CheckArgs,
     solution: &Solution<'_, B>,
     sink: &mut K,
 ) -> Result<bool, DeskFault>
@@ -197,27 +197,27 @@ fn write_solution<B: Board, K: Sink>(
     requires compared { IsCompared B.geometry solution.now }
     ensures text { IfOk result (λ refused. (text : List ℕ) × (remarks : List AnyRemark)
         × AreRemarks B.geometry solution.now.tree.now.paths solution.now.n solution.now.tree.now.start [] remarks
-        × IsChecked B.geometry asked.now (numbered solution.now.problem.now) solution.now.tree.now.start solution.now.n
+        × IsChecked B.geometry query.now (numbered solution.now.problem.now) solution.now.tree.now.start solution.now.n
         remarks refused text
         × Appends (K.taken sink.old) (K.taken sink.new) text) }
     ensures works { IfOk result (λ _. K.is_failed sink.new ≡ false) }
     ensures fails { SinkFails (K.is_failed sink.new) result }
 {
     let tally = tally_of(solution.checked.remarks.as_slice());
-    if is_left_out(asked, solution) {
+    if is_left_out(query, solution) {
         return Ok(!tally.holds());
     }
-    write_checked(alloc, asked.json, solution, tally, sink)?;
+    write_checked(alloc, query.json, solution, tally, sink)?;
     Ok(!tally.holds())
 }
 
 /// Returns whether a solution is left out: with `--faults`, if there are no remarks on it.
-fn is_left_out<B: Board>(asked: &CheckArgs, solution: &Solution<'_, B>) -> bool
+fn is_left_out<B: Board>(query: &CheckArgs, solution: &Solution<'_, B>) -> bool
     ensures { (said : List AnyRemark)
         → map (remark_in solution.now.tree.now.paths) solution.now.checked.now.remarks.items ≡ map (λ r. Some r) said
-        → result ≡ (asked.now.faults && is_none said) }
+        → result ≡ (query.now.faults && is_none said) }
 {
-    asked.faults && solution.checked.remarks.is_empty()
+    query.faults && solution.checked.remarks.is_empty()
 }
 
 /// Writes the remarks on a solution: its row, or words.
@@ -249,7 +249,7 @@ fn write_checked<B: Board, K: Sink>(
         write_all(sink, line.as_str().as_bytes())?;
         return Ok(());
     }
-    write_words(alloc, solution, tally, sink)
+    write_plain(alloc, solution, tally, sink)
 }
 
 /// Makes the row of a solution.
@@ -267,7 +267,7 @@ fn row_of<B: Board>(
         → IfOk result (λ line. IsCheckedLine B.geometry (numbered solution.now.problem.now).number
         solution.now.tree.now.start solution.now.n said (string_bytes line)) }
 {
-    dw_study::laws::remarks_can_be_told();
+    dw_study::laws::remarks_have_texts();
     let numbers = CheckNumbers {
         wins: solution.checked.wins,
         holds: tally.holds(),
@@ -291,7 +291,7 @@ fn row_of<B: Board>(
 }
 
 /// Writes the remarks on a solution in words.
-fn write_words<B: Board, K: Sink>(
+fn write_plain<B: Board, K: Sink>(
     alloc: Global,
     solution: &Solution<'_, B>,
     tally: Tally,
@@ -312,7 +312,7 @@ fn write_words<B: Board, K: Sink>(
     ensures works { OnOk result (K.is_failed sink.new ≡ false) }
     ensures fails { SinkFails (K.is_failed sink.new) result }
 {
-    dw_study::laws::remarks_can_be_told();
+    dw_study::laws::remarks_have_texts();
     write_all(sink, problem_line(solution.problem).as_str().as_bytes())?;
     let line = win_line(alloc, solution.checked.wins, solution.n)?;
     write_all(sink, line.as_str().as_bytes())?;
@@ -345,7 +345,7 @@ fn write_remarks<B: Board, K: Sink>(
 ) -> Result<(), DeskFault>
     requires { K.is_failed sink.old ≡ false }
     ensures texts { (said : List AnyRemark) → map (remark_in tree.now.paths) remarks.now ≡ map (λ r. Some r) said
-        → ((r : AnyRemark) → Member r said → CanBeTold B.geometry tree.now.start r)
+        → ((r : AnyRemark) → Member r said → HasTexts B.geometry tree.now.start r)
         → OnOk result ((told : List ℕ) × AreTexts (IsRemarkText B.geometry tree.now.start) said told
         × Appends (K.taken sink.old) (K.taken sink.new) told) }
     ensures works { OnOk result (K.is_failed sink.new ≡ false) }
@@ -366,7 +366,7 @@ fn write_remark<B: Board, K: Sink>(
 ) -> Result<(), DeskFault>
     requires { K.is_failed sink.old ≡ false }
     ensures text { (r : AnyRemark) → remark_in tree.now.paths remark.now ≡ Some r
-        → CanBeTold B.geometry tree.now.start r
+        → HasTexts B.geometry tree.now.start r
         → OnOk result ((text : List ℕ) × IsRemarkText B.geometry tree.now.start r text
         × Appends (K.taken sink.old) (K.taken sink.new) text) }
     ensures works { OnOk result (K.is_failed sink.new ≡ false) }

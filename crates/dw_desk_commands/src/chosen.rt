@@ -52,10 +52,10 @@ impl<'a, B: Board, S: Source> Chosen<'a, B, S> {
     }
 
     /// Returns whether it is an error if none of these problems is there.
-    pub(crate) fn is_asked(&self) -> bool
-        ensures { result ≡ self.now.portion.is_asked }
+    pub(crate) fn must_exist(&self) -> bool
+        ensures { result ≡ self.now.portion.must_exist }
     {
-        self.portion.is_asked
+        self.portion.must_exist
     }
 
     /// Returns the next of them, or `None` if there is no more. Reading ends after the last.

@@ -36,7 +36,7 @@ impl Counts {
     pub(crate) fn ending<T>(self, args: &DeskArgs<'_>) -> Ending<T>
         ensures { result ≡ ending_after self.shown self.refused args.now.portion }
     {
-        if self.shown == 0 && args.portion.is_asked {
+        if self.shown == 0 && args.portion.must_exist {
             Ending::NoProblem(args.portion.first)
         } else if self.refused == 0 {
             Ending::Done
@@ -241,26 +241,26 @@ fn do_with<'a, B: Board, W: DeskWatcher, S: Source, K: Sink>(
         result }
 {
     match args.task {
-        Task::Find(asked) => {
-            return Ok(report_all(&asked, desk, slices, chosen, sink)?.ending(args));
+        Task::Find(query) => {
+            return Ok(report_all(&query, desk, slices, chosen, sink)?.ending(args));
         }
-        Task::Check(asked) => {
-            return Ok(report_all(&asked, desk, slices, chosen, sink)?.ending(args));
+        Task::Check(query) => {
+            return Ok(report_all(&query, desk, slices, chosen, sink)?.ending(args));
         }
-        Task::Solution(asked) => {
-            return Ok(report_all(&asked, desk, slices, chosen, sink)?.ending(args));
+        Task::Solution(query) => {
+            return Ok(report_all(&query, desk, slices, chosen, sink)?.ending(args));
         }
-        Task::Page(asked) => {
-            return Ok(page_problems(desk, slices, chosen, &asked, sink)?.ending(args));
+        Task::Page(query) => {
+            return Ok(page_problems(desk, slices, chosen, &query, sink)?.ending(args));
         }
-        Task::Certify(asked) => {
-            return report_first::<&'a str, _, _, _, _, _>(&asked, desk, slices, chosen, sink);
+        Task::Certify(query) => {
+            return report_first::<&'a str, _, _, _, _, _>(&query, desk, slices, chosen, sink);
         }
-        Task::Moves(asked) => {
-            return report_first::<&'a str, _, _, _, _, _>(&asked, desk, slices, chosen, sink);
+        Task::Moves(query) => {
+            return report_first::<&'a str, _, _, _, _, _>(&query, desk, slices, chosen, sink);
         }
-        Task::Mend(asked) => {
-            return report_first::<&'a str, _, _, _, _, _>(&asked, desk, slices, chosen, sink);
+        Task::Mend(query) => {
+            return report_first::<&'a str, _, _, _, _, _>(&query, desk, slices, chosen, sink);
         }
         Task::Token { line } => {
             return report_first::<&'a str, _, _, _, _, _>(

@@ -24,7 +24,7 @@ use dw_study::find::find;
 use dw_study::{FindBounds, Finding, Slices, found_text};
 
 impl<B: Board> ReportEach<B> for FindArgs {
-    ghost says = { λ asked game. IsFindOf B.geometry asked.json asked.most.value asked.each (problem_of game) };
+    ghost says = { λ query game. IsFindOf B.geometry query.json query.most.value query.each (problem_of game) };
 
     fn report<W: DeskWatcher, K: Sink>(
         &self,
@@ -45,13 +45,13 @@ impl<B: Board> ReportEach<B> for FindArgs {
 fn report_in_words<B: Board, W: DeskWatcher, K: Sink>(
     desk: &mut Desk<B>,
     slices: &mut Slices<W>,
-    asked: &FindArgs,
+    query: &FindArgs,
     problem: &Problem<B>,
     sink: &mut K,
 ) -> Result<bool, DeskFault>
     requires { K.is_failed sink.old ≡ false }
     ensures text { IfOk result (λ refused. (text : List ℕ)
-        × IsProblemText B.geometry (SaysFound B.geometry asked.now.most.value asked.now.each) (numbered problem.now)
+        × IsProblemText B.geometry (SaysFound B.geometry query.now.most.value query.now.each) (numbered problem.now)
         refused text
         × Appends (K.taken sink.old) (K.taken sink.new) text) }
     ensures works { IfOk result (λ _. K.is_failed sink.new ≡ false) }
@@ -61,7 +61,7 @@ fn report_in_words<B: Board, W: DeskWatcher, K: Sink>(
     let Ok(position) = &problem.found else {
         return Ok(true);
     };
-    let finding = search(desk, slices, asked, problem.number, position)?;
+    let finding = search(desk, slices, query, problem.number, position)?;
     let text = found_text(desk.alloc, position, &finding)?;
     write_all(sink, text.as_str().as_bytes())?;
     Ok(is_undecided(&finding))
@@ -71,18 +71,18 @@ fn report_in_words<B: Board, W: DeskWatcher, K: Sink>(
 fn report_in_json<B: Board, W: DeskWatcher, K: Sink>(
     desk: &mut Desk<B>,
     slices: &mut Slices<W>,
-    asked: &FindArgs,
+    query: &FindArgs,
     problem: &Problem<B>,
     sink: &mut K,
 ) -> Result<bool, DeskFault>
     requires { K.is_failed sink.old ≡ false }
     ensures text { IfOk result (λ refused. (text : List ℕ)
-        × IsJsonOf B.geometry asked.now.most.value asked.now.each problem.now.number problem.now.found refused text
+        × IsJsonOf B.geometry query.now.most.value query.now.each problem.now.number problem.now.found refused text
         × Appends (K.taken sink.old) (K.taken sink.new) text) }
     ensures works { IfOk result (λ _. K.is_failed sink.new ≡ false) }
     ensures fails { ReportFails (K.is_failed sink.new) desk.new.solver.expanded result }
 {
-    let (line, is_refused) = json_of(desk, slices, asked, problem)?;
+    let (line, is_refused) = json_of(desk, slices, query, problem)?;
     write_all(sink, line.as_str().as_bytes())?;
     Ok(is_refused)
 }
@@ -91,17 +91,17 @@ fn report_in_json<B: Board, W: DeskWatcher, K: Sink>(
 fn json_of<B: Board, W: DeskWatcher>(
     desk: &mut Desk<B>,
     slices: &mut Slices<W>,
-    asked: &FindArgs,
+    query: &FindArgs,
     problem: &Problem<B>,
 ) -> Result<(String, bool), Stop>
-    ensures row { IfOk result (λ told. IsJsonOf B.geometry asked.now.most.value asked.now.each problem.now.number
+    ensures row { IfOk result (λ told. IsJsonOf B.geometry query.now.most.value query.now.each problem.now.number
         problem.now.found told.1 (string_bytes told.0)) }
     ensures stop { IsErrOf result Limit → desk.new.solver.expanded ≡ u64.MAX }
 {
     let number = problem.number;
     match &problem.found {
         Ok(position) => {
-            let finding = search(desk, slices, asked, number, position)?;
+            let finding = search(desk, slices, query, number, position)?;
             let line = found_line(desk.alloc, number, position, &finding)?;
             Ok((line, is_undecided(&finding)))
         }
@@ -121,22 +121,22 @@ fn is_undecided<B: Board>(finding: &Finding<B>) -> bool
 fn search<B: Board, W: DeskWatcher>(
     desk: &mut Desk<B>,
     slices: &mut Slices<W>,
-    asked: &FindArgs,
+    query: &FindArgs,
     number: u32,
     position: &Position<B>,
 ) -> Result<Finding<B>, Stop>
-    ensures found { IfOk result (λ finding. IsFound B.geometry asked.now.most.value asked.now.each position.now
+    ensures found { IfOk result (λ finding. IsFound B.geometry query.now.most.value query.now.each position.now
         (told_by finding)) }
-    ensures bounded { IfSome asked.now.each (λ _. IfOk result (IsBounded B.geometry position.now asked.now.most.value
-        slices.old.first asked.now.each desk.new.solver)) }
+    ensures bounded { IfSome query.now.each (λ _. IfOk result (IsBounded B.geometry position.now query.now.most.value
+        slices.old.first query.now.each desk.new.solver)) }
     ensures stop { IsErrOf result Limit → desk.new.solver.expanded ≡ u64.MAX }
 {
-    if asked.each.is_some() {
+    if query.each.is_some() {
         desk.renew()?;
     }
     let bounds = FindBounds {
-        most: asked.most,
-        each: asked.each,
+        most: query.most,
+        each: query.each,
     };
     desk.begin(slices, number);
     let finding = find(desk.alloc, &mut desk.solver, position, bounds, slices);

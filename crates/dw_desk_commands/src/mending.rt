@@ -24,7 +24,7 @@ use dw_study::Slices;
 use std::alloc::Global;
 
 impl<B: Board, E> ReportOne<B, E> for MendArgs {
-    ghost says = { λ asked expanded game. IsMendOf B.geometry asked expanded (problem_of game) };
+    ghost says = { λ query expanded game. IsMendOf B.geometry query expanded (problem_of game) };
 
     /// Writes the sound neighbours of a problem, each as soon as it is found, and returns how that ended. Only the
     /// first line or the row of a refused problem is written.
@@ -69,17 +69,17 @@ fn wording_for(json: bool) -> Wording
 
 /// Writes the text before the neighbours: the problem's first line, or nothing.
 fn write_front<B: Board, K: Sink>(
-    asked: &MendArgs,
+    query: &MendArgs,
     problem: &Problem<B>,
     sink: &mut K,
 ) -> Result<(), DeskFault>
     requires { K.is_failed sink.old ≡ false }
     ensures text { OnOk result (Appends (K.taken sink.old) (K.taken sink.new)
-        (front B.geometry asked.now (numbered problem.now))) }
+        (front B.geometry query.now (numbered problem.now))) }
     ensures works { OnOk result (K.is_failed sink.new ≡ false) }
     ensures fails { SinkFails (K.is_failed sink.new) result }
 {
-    if !asked.json {
+    if !query.json {
         write_all(sink, problem_line(problem).as_str().as_bytes())?;
     }
     Ok(())
@@ -88,18 +88,18 @@ fn write_front<B: Board, K: Sink>(
 /// Writes a problem that is refused: its row, or its first line.
 fn write_refusal<B: Board, K: Sink>(
     alloc: Global,
-    asked: &MendArgs,
+    query: &MendArgs,
     problem: &Problem<B>,
     fault: ProblemFault,
     sink: &mut K,
 ) -> Result<(), DeskFault>
     requires { K.is_failed sink.old ≡ false }
     ensures text { OnOk result (Appends (K.taken sink.old) (K.taken sink.new)
-        (refusal B.geometry asked.now (numbered problem.now) fault)) }
+        (refusal B.geometry query.now (numbered problem.now) fault)) }
     ensures works { OnOk result (K.is_failed sink.new ≡ false) }
     ensures fails { SinkFails (K.is_failed sink.new) result }
 {
-    if asked.json {
+    if query.json {
         let line = refused_line(alloc, problem.number, fault)?;
         write_all(sink, line.as_str().as_bytes())?;
         return Ok(());

@@ -27,8 +27,8 @@ use dw_rows::first_moves_row;
 use dw_study::Slices;
 
 impl<B: Board, E> ReportOne<B, E> for MovesArgs {
-    ghost says = { λ asked expanded game.
-        IsMovesOf B.geometry asked (problem_of game) };
+    ghost says = { λ query expanded game.
+        IsMovesOf B.geometry query (problem_of game) };
 
     /// Writes the effects of the first moves of a problem, and returns how that ended. Only the first line or the row
     /// of a refused problem is written.
@@ -42,7 +42,7 @@ impl<B: Board, E> ReportOne<B, E> for MovesArgs {
         let is_refused = if self.json {
             write_row(desk, slices, self, &game.problem, sink)?
         } else {
-            write_words(desk, slices, self, &game.problem, sink)?
+            write_plain(desk, slices, self, &game.problem, sink)?
         };
         if is_refused {
             Ok(Ending::Refused)
@@ -53,16 +53,16 @@ impl<B: Board, E> ReportOne<B, E> for MovesArgs {
 }
 
 /// Writes a problem in words: its first line, and the effects of its first moves. Returns whether it is refused.
-fn write_words<B: Board, W: DeskWatcher, K: Sink>(
+fn write_plain<B: Board, W: DeskWatcher, K: Sink>(
     desk: &mut Desk<B>,
     slices: &mut Slices<W>,
-    asked: &MovesArgs,
+    query: &MovesArgs,
     problem: &Problem<B>,
     sink: &mut K,
 ) -> Result<bool, DeskFault>
     requires { K.is_failed sink.old ≡ false }
     ensures text { IfOk result (λ refused. (text : List ℕ)
-        × IsProblemText B.geometry (SaysFirstMoves B.geometry asked.now.n.value asked.now.part asked.now.parts)
+        × IsProblemText B.geometry (SaysFirstMoves B.geometry query.now.n.value query.now.part query.now.parts)
         (numbered problem.now) refused text
         × Appends (K.taken sink.old) (K.taken sink.new) text) }
     ensures fails { ReportFails (K.is_failed sink.new) desk.new.solver.expanded result }
@@ -71,7 +71,7 @@ fn write_words<B: Board, W: DeskWatcher, K: Sink>(
     let Ok(position) = &problem.found else {
         return Ok(true);
     };
-    let found = searched(desk, slices, asked, problem.number, position)?;
+    let found = searched(desk, slices, query, problem.number, position)?;
     let text = first_moves_text(desk.alloc, &found)?;
     write_all(sink, text.as_str().as_bytes())?;
     Ok(false)
@@ -81,18 +81,18 @@ fn write_words<B: Board, W: DeskWatcher, K: Sink>(
 fn write_row<B: Board, W: DeskWatcher, K: Sink>(
     desk: &mut Desk<B>,
     slices: &mut Slices<W>,
-    asked: &MovesArgs,
+    query: &MovesArgs,
     problem: &Problem<B>,
     sink: &mut K,
 ) -> Result<bool, DeskFault>
     requires { K.is_failed sink.old ≡ false }
     ensures text { IfOk result (λ refused. (text : List ℕ)
-        × IsFirstMovesLine B.geometry asked.now.n.value asked.now.part asked.now.parts problem.now.number
+        × IsFirstMovesLine B.geometry query.now.n.value query.now.part query.now.parts problem.now.number
         problem.now.found refused text
         × Appends (K.taken sink.old) (K.taken sink.new) text) }
     ensures fails { ReportFails (K.is_failed sink.new) desk.new.solver.expanded result }
 {
-    let (line, is_refused) = row_of(desk, slices, asked, problem)?;
+    let (line, is_refused) = row_of(desk, slices, query, problem)?;
     write_all(sink, line.as_str().as_bytes())?;
     Ok(is_refused)
 }
@@ -101,18 +101,18 @@ fn write_row<B: Board, W: DeskWatcher, K: Sink>(
 fn row_of<B: Board, W: DeskWatcher>(
     desk: &mut Desk<B>,
     slices: &mut Slices<W>,
-    asked: &MovesArgs,
+    query: &MovesArgs,
     problem: &Problem<B>,
 ) -> Result<(String, bool), Stop>
-    ensures row { IfOk result (λ told. IsFirstMovesLine B.geometry asked.now.n.value asked.now.part asked.now.parts
+    ensures row { IfOk result (λ told. IsFirstMovesLine B.geometry query.now.n.value query.now.part query.now.parts
         problem.now.number problem.now.found told.1 (string_bytes told.0)) }
     ensures stop { IsErrOf result Limit → desk.new.solver.expanded ≡ u64.MAX }
 {
     let number = problem.number;
     match &problem.found {
         Ok(position) => {
-            let found = searched(desk, slices, asked, number, position)?;
-            let line = first_moves_row(desk.alloc, number, asked.n.value, &found)?;
+            let found = searched(desk, slices, query, number, position)?;
+            let line = first_moves_row(desk.alloc, number, query.n.value, &found)?;
             Ok((line, false))
         }
         Err(fault) => Ok((refused_line(desk.alloc, number, *fault)?, true)),
@@ -123,25 +123,25 @@ fn row_of<B: Board, W: DeskWatcher>(
 fn searched<B: Board, W: DeskWatcher>(
     desk: &mut Desk<B>,
     slices: &mut Slices<W>,
-    asked: &MovesArgs,
+    query: &MovesArgs,
     number: u32,
     position: &Position<B>,
 ) -> Result<FirstMoves<B>, Stop>
     ensures start { IfOk result (λ found. found.start ≡ position.now) }
-    ensures effects { IfOk result (λ found. AreFirstMoves B.geometry position.now asked.now.n.value asked.now.part
-        asked.now.parts found.effects) }
+    ensures effects { IfOk result (λ found. AreFirstMoves B.geometry position.now query.now.n.value query.now.part
+        query.now.parts found.effects) }
     ensures stop { IsErrOf result Limit → desk.new.solver.expanded ≡ u64.MAX }
 {
     let part = Part {
-        number: asked.part,
-        parts: asked.parts,
+        number: query.part,
+        parts: query.parts,
     };
     desk.begin(slices, number);
     let found = first_moves(
         desk.alloc,
         &mut desk.solver,
         position,
-        asked.n,
+        query.n,
         part,
         slices,
     );

@@ -2,7 +2,7 @@
 ghost use Rattle.std.specs.Prelude.{◌≡◌, ◌≤◌, ◌⊎◌, ◌++◌, ◌∷◌, [], ℕ, List, true, false, IfOk, OnOk, map};
 ghost use Rattle.std.specs.Prelude.{filter_map, option_map, Err, IsErrOf};
 ghost use Rattle.std.specs.Io.KnownBytes.{Appends};
-ghost use Rattle.dw_desk_commands.specs.Paging.{IsAskedIn, IsPage, IsPageOf, IsPart, IsPositionPart, IsSolved, Stands};
+ghost use Rattle.dw_desk_commands.specs.Paging.{HasMoves, IsPage, IsPageOf, IsPart, IsPositionPart, IsSolved, Stands};
 ghost use Rattle.dw_desk_commands.specs.Paging.{language_for, task_part};
 ghost use Rattle.dw_desk_commands.specs.Paging as of;
 ghost use Rattle.dw_desk_commands.specs.Finding.{is_open};
@@ -44,26 +44,26 @@ pub(crate) fn page_problems<B: Board, W: DeskWatcher, S: Source, K: Sink>(
     desk: &mut Desk<B>,
     slices: &mut Slices<W>,
     chosen: &mut Chosen<'_, B, S>,
-    asked: &PageArgs<'_>,
+    query: &PageArgs<'_>,
     sink: &mut K,
 ) -> Result<Counts, DeskFault>
     requires works { K.is_failed sink.old ≡ false }
     requires runs { Runs chosen.old.text }
     ensures report { IfOk result (λ counts. (games : List NumberedGame) × (text : List ℕ)
         × AreToCome B.geometry S.coming S.has_ended chosen.old games
-        × IsPageOf B.geometry asked.now chosen.old.portion games counts text
+        × IsPageOf B.geometry query.now chosen.old.portion games counts text
         × Appends (K.taken sink.old) (K.taken sink.new) text) }
     ensures ends { CommandFails S.is_failed (K.is_failed sink.new) desk.new.solver.expanded chosen.old chosen.new
         result }
 {
     let Some(first) = chosen.next()? else {
-        return empty_page::<B, K>(desk.alloc, asked, chosen.is_asked(), sink);
+        return empty_page::<B, K>(desk.alloc, query, chosen.must_exist(), sink);
     };
-    let mut later = begin_page::<B, K>(desk.alloc, asked, sink)?;
-    let is_refused = write_part(desk, slices, asked, &first, &mut later, sink)?;
+    let mut later = begin_page::<B, K>(desk.alloc, query, sink)?;
+    let is_refused = write_part(desk, slices, query, &first, &mut later, sink)?;
     let mut counts = Counts::default().with(is_refused);
     'games: while let Some(game) = chosen.next()? {
-        counts = counts.with(write_part(desk, slices, asked, &game, &mut later, sink)?);
+        counts = counts.with(write_part(desk, slices, query, &game, &mut later, sink)?);
     }
     end_page(desk.alloc, &mut later, sink)?;
     Ok(counts)
@@ -72,21 +72,21 @@ pub(crate) fn page_problems<B: Board, W: DeskWatcher, S: Source, K: Sink>(
 /// Writes a page of no problems, or nothing if problems were asked for by their numbers.
 fn empty_page<B: Board, K: Sink>(
     alloc: Global,
-    asked: &PageArgs<'_>,
-    is_asked: bool,
+    query: &PageArgs<'_>,
+    must_exist: bool,
     sink: &mut K,
 ) -> Result<Counts, DeskFault>
     requires { K.is_failed sink.old ≡ false }
     ensures page { IfOk result (λ counts. (text : List ℕ)
-        × ((IsPage B.geometry asked.now [] counts text × (is_asked ≡ false))
-        ⊎ ((is_asked ≡ true) × (counts.shown ≡ 0) × (counts.refused ≡ 0) × (text ≡ [])))
+        × ((IsPage B.geometry query.now [] counts text × (must_exist ≡ false))
+        ⊎ ((must_exist ≡ true) × (counts.shown ≡ 0) × (counts.refused ≡ 0) × (text ≡ [])))
         × Appends (K.taken sink.old) (K.taken sink.new) text) }
     ensures fails { SinkFails (K.is_failed sink.new) result }
 {
-    if is_asked {
+    if must_exist {
         return Ok(Counts::default());
     }
-    let mut later = begin_page::<B, K>(alloc, asked, sink)?;
+    let mut later = begin_page::<B, K>(alloc, query, sink)?;
     end_page(alloc, &mut later, sink)?;
     Ok(Counts::default())
 }
@@ -95,30 +95,30 @@ fn empty_page<B: Board, K: Sink>(
 /// there.
 fn begin_page<B: Board, K: Sink>(
     alloc: Global,
-    asked: &PageArgs<'_>,
+    query: &PageArgs<'_>,
     sink: &mut K,
 ) -> Result<Vec<u8>, DeskFault>
     requires { K.is_failed sink.old ≡ false }
     ensures head { IfOk result (λ _. Appends (K.taken sink.old) (K.taken sink.new)
-        (head B.geometry (language_for asked.now.language) asked.now.title.now)) }
+        (head B.geometry (language_for query.now.language) query.now.title.now)) }
     ensures later { IfOk result (λ later. later.items
-        ≡ of.heading_of asked.now.solutions (language_for asked.now.language)) }
+        ≡ of.heading_of query.now.solutions (language_for query.now.language)) }
     ensures works { IfOk result (λ _. K.is_failed sink.new ≡ false) }
     ensures fails { SinkFails (K.is_failed sink.new) result }
 {
     let mut head = Vec::new(alloc);
-    push_head::<B>(alloc, &mut head, &look_of(asked))?;
+    push_head::<B>(alloc, &mut head, &look_of(query))?;
     write_all(sink, head.as_slice())?;
-    Ok(heading_of(alloc, asked)?)
+    Ok(heading_of(alloc, query)?)
 }
 
 /// Makes the heading of the solutions, if they stand at the end.
-fn heading_of(alloc: Global, asked: &PageArgs<'_>) -> Result<Vec<u8>, AllocError>
-    ensures { IfOk result (λ text. text.items ≡ of.heading_of asked.now.solutions (language_for asked.now.language)) }
+fn heading_of(alloc: Global, query: &PageArgs<'_>) -> Result<Vec<u8>, AllocError>
+    ensures { IfOk result (λ text. text.items ≡ of.heading_of query.now.solutions (language_for query.now.language)) }
 {
     let mut text = Vec::new(alloc);
-    match asked.solutions {
-        Placing::End => push_solutions_heading(alloc, &mut text, &look_of(asked))?,
+    match query.solutions {
+        Placing::End => push_solutions_heading(alloc, &mut text, &look_of(query))?,
         Placing::After | Placing::None => {}
     }
     Ok(text)
@@ -139,13 +139,13 @@ fn end_page<K: Sink>(alloc: Global, later: &mut Vec<u8>, sink: &mut K) -> Result
 fn write_part<B: Board, W: DeskWatcher, K: Sink>(
     desk: &mut Desk<B>,
     slices: &mut Slices<W>,
-    asked: &PageArgs<'_>,
+    query: &PageArgs<'_>,
     game: &Game<B>,
     later: &mut Vec<u8>,
     sink: &mut K,
 ) -> Result<bool, DeskFault>
     requires { K.is_failed sink.old ≡ false }
-    ensures part { IfOk result (λ is_refused. (part new : List ℕ) × IsPart B.geometry asked.now
+    ensures part { IfOk result (λ is_refused. (part new : List ℕ) × IsPart B.geometry query.now
         (numbered_game game.now).number (numbered_game game.now).said.found (numbered_game game.now).said.tags
         is_refused part new × (later.new.items ≡ later.old.items ++ new)
         × Appends (K.taken sink.old) (K.taken sink.new) part) }
@@ -156,12 +156,12 @@ fn write_part<B: Board, W: DeskWatcher, K: Sink>(
     match &game.problem.found {
         Ok(position) => {
             let section = game.tags.as_slice();
-            let part = known_part(desk, slices, asked, number, position, section, later)?;
+            let part = known_part(desk, slices, query, number, position, section, later)?;
             write_all(sink, part.as_slice())?;
             Ok(false)
         }
         Err(fault) => {
-            let part = refused_part(desk.alloc, asked, number, *fault)?;
+            let part = refused_part(desk.alloc, query, number, *fault)?;
             write_all(sink, part.as_slice())?;
             Ok(true)
         }
@@ -171,16 +171,16 @@ fn write_part<B: Board, W: DeskWatcher, K: Sink>(
 /// Makes the part of a problem that is refused.
 fn refused_part(
     alloc: Global,
-    asked: &PageArgs<'_>,
+    query: &PageArgs<'_>,
     number: u32,
     fault: ProblemFault,
 ) -> Result<Vec<u8>, AllocError>
     ensures { IfOk result (λ part. part.items
-        ≡ refused (language_for asked.now.language) number (report.refusal_text fault)) }
+        ≡ refused (language_for query.now.language) number (report.refusal_text fault)) }
 {
     let mut part = Vec::new(alloc);
     let why = refusal_text(fault);
-    push_refused(alloc, &mut part, &look_of(asked), number, why.as_str())?;
+    push_refused(alloc, &mut part, &look_of(query), number, why.as_str())?;
     Ok(part)
 }
 
@@ -188,37 +188,37 @@ fn refused_part(
 fn known_part<B: Board, W: DeskWatcher>(
     desk: &mut Desk<B>,
     slices: &mut Slices<W>,
-    asked: &PageArgs<'_>,
+    query: &PageArgs<'_>,
     number: u32,
     position: &Position<B>,
     section: &[u8],
     later: &mut Vec<u8>,
 ) -> Result<Vec<u8>, Stop>
     ensures part { IfOk result (λ part. (new : List ℕ)
-        × IsPositionPart B.geometry asked.now number position.now section.now part.items new
+        × IsPositionPart B.geometry query.now number position.now section.now part.items new
         × (later.new.items ≡ later.old.items ++ new)) }
     ensures stop { IsErrOf result Limit → desk.new.solver.expanded ≡ u64.MAX }
 {
-    if asked.is_least {
-        match found(desk, slices, asked, number, position)? {
+    if query.is_least {
+        match found(desk, slices, query, number, position)? {
             Finding::Judged { moves, judged } => {
                 let task = Task {
                     number,
                     position,
                     moves,
                 };
-                judged_part(desk, asked, &task, &judged, section, later)
+                judged_part(desk, query, &task, &judged, section, later)
             }
             Finding::Undecided { .. } => Err(Stop::Limit),
         }
     } else {
-        let judged = judged_within(desk, slices, asked, number, position)?;
+        let judged = judged_within(desk, slices, query, number, position)?;
         let task = Task {
             number,
             position,
-            moves: asked.moves,
+            moves: query.moves,
         };
-        judged_part(desk, asked, &task, &judged, section, later)
+        judged_part(desk, query, &task, &judged, section, later)
     }
 }
 
@@ -226,17 +226,17 @@ fn known_part<B: Board, W: DeskWatcher>(
 fn found<B: Board, W: DeskWatcher>(
     desk: &mut Desk<B>,
     slices: &mut Slices<W>,
-    asked: &PageArgs<'_>,
+    query: &PageArgs<'_>,
     number: u32,
     position: &Position<B>,
 ) -> Result<Finding<B>, Stop>
-    ensures finding { IfOk result (λ finding. IsFinding B.geometry position.now asked.now.moves.value
+    ensures finding { IfOk result (λ finding. IsFinding B.geometry position.now query.now.moves.value
         (told_by finding)) }
     ensures judged { IfOk result (λ finding. is_open (told_by finding) ≡ false) }
     ensures stop { IsErrOf result Limit → desk.new.solver.expanded ≡ u64.MAX }
 {
     let bounds = FindBounds {
-        most: asked.moves,
+        most: query.moves,
         each: None,
     };
     desk.begin(slices, number);
@@ -249,17 +249,17 @@ fn found<B: Board, W: DeskWatcher>(
 fn judged_within<B: Board, W: DeskWatcher>(
     desk: &mut Desk<B>,
     slices: &mut Slices<W>,
-    asked: &PageArgs<'_>,
+    query: &PageArgs<'_>,
     number: u32,
     position: &Position<B>,
 ) -> Result<Judged<B>, Stop>
     ensures verdict { IfOk result (λ judged.
-        IsVerdict B.geometry position.now asked.now.moves.value (said_by judged.verdict)) }
-    ensures tries { IfOk result (λ judged. Tries B.geometry position.now asked.now.moves.value judged.tries.items) }
+        IsVerdict B.geometry position.now query.now.moves.value (said_by judged.verdict)) }
+    ensures tries { IfOk result (λ judged. Tries B.geometry position.now query.now.moves.value judged.tries.items) }
     ensures stop { IsErrOf result Limit → desk.new.solver.expanded ≡ u64.MAX }
 {
     desk.begin(slices, number);
-    let judged = judge_in_slices(desk.alloc, &mut desk.solver, position, asked.moves, slices);
+    let judged = judge_in_slices(desk.alloc, &mut desk.solver, position, query.moves, slices);
     slices.watcher.end();
     judged
 }
@@ -267,7 +267,7 @@ fn judged_within<B: Board, W: DeskWatcher>(
 /// Makes the part of a judged problem, with its solution if that belongs there.
 fn judged_part<B: Board>(
     desk: &mut Desk<B>,
-    asked: &PageArgs<'_>,
+    query: &PageArgs<'_>,
     task: &Task<'_, B>,
     judged: &Judged<B>,
     section: &[u8],
@@ -275,15 +275,15 @@ fn judged_part<B: Board>(
 ) -> Result<Vec<u8>, Stop>
     requires verdict { IsVerdict B.geometry task.now.position.now task.now.moves.value (said_by judged.now.verdict) }
     requires tries { Tries B.geometry task.now.position.now task.now.moves.value judged.now.tries.items }
-    requires asked { IsAskedIn B.geometry asked.now task.now.position.now task.now.moves.value }
+    requires query { HasMoves B.geometry query.now task.now.position.now task.now.moves.value }
     ensures part { IfOk result (λ part. (new : List ℕ)
-        × IsPositionPart B.geometry asked.now task.now.number task.now.position.now section.now part.items new
+        × IsPositionPart B.geometry query.now task.now.number task.now.position.now section.now part.items new
         × (later.new.items ≡ later.old.items ++ new)) }
     ensures stop { IsErrOf result Limit → desk.new.solver.expanded ≡ u64.MAX }
 {
     let mut part = Vec::new(desk.alloc);
-    push_tagged(desk, asked, task, section, &mut part)?;
-    push_placed(desk, asked, task, judged, &mut part, later)?;
+    push_tagged(desk, query, task, section, &mut part)?;
+    push_placed(desk, query, task, judged, &mut part, later)?;
     push_end_of_problem(&mut part)?;
     Ok(part)
 }
@@ -291,7 +291,7 @@ fn judged_part<B: Board>(
 /// Appends the solution of a problem where it is to stand: after its problem, or later.
 fn push_placed<B: Board>(
     desk: &mut Desk<B>,
-    asked: &PageArgs<'_>,
+    query: &PageArgs<'_>,
     task: &Task<'_, B>,
     judged: &Judged<B>,
     part: &mut Vec<u8>,
@@ -299,20 +299,20 @@ fn push_placed<B: Board>(
 ) -> Result<(), Stop>
     requires verdict { IsVerdict B.geometry task.now.position.now task.now.moves.value (said_by judged.now.verdict) }
     requires tries { Tries B.geometry task.now.position.now task.now.moves.value judged.now.tries.items }
-    ensures solution { OnOk result ((behind new : List ℕ) × Stands asked.now.solutions (IsSolved B.geometry
-        (language_for asked.now.language) asked.now.lines asked.now.tries task.now.number
+    ensures solution { OnOk result ((behind new : List ℕ) × Stands query.now.solutions (IsSolved B.geometry
+        (language_for query.now.language) query.now.lines query.now.tries task.now.number
         task.now.position.now task.now.moves.value) behind
         new
         × (part.new.items ≡ part.old.items ++ behind) × (later.new.items ≡ later.old.items ++ new)) }
     ensures stop { IsErrOf result Limit → desk.new.solver.expanded ≡ u64.MAX }
 {
-    match asked.solutions {
+    match query.solutions {
         Placing::After => {
-            push_solved(desk, asked, task, judged, false, part)?;
+            push_solved(desk, query, task, judged, false, part)?;
             Ok(())
         }
         Placing::End => {
-            push_solved(desk, asked, task, judged, true, later)?;
+            push_solved(desk, query, task, judged, true, later)?;
             Ok(())
         }
         Placing::None => Ok(()),
@@ -322,13 +322,13 @@ fn push_placed<B: Board>(
 /// Appends a problem up to its task, with the tags of its section.
 fn push_tagged<B: Board>(
     desk: &Desk<B>,
-    asked: &PageArgs<'_>,
+    query: &PageArgs<'_>,
     task: &Task<'_, B>,
     section: &[u8],
     page: &mut Vec<u8>,
 ) -> Result<(), Stop>
     ensures text { OnOk result ((tags : List TagText) × AreTags section.now tags × (page.new.items ≡ page.old.items
-        ++ task_part B.geometry asked.now task.now.number task.now.position.now (map (λ t. t.tag) tags)
+        ++ task_part B.geometry query.now task.now.number task.now.position.now (map (λ t. t.tag) tags)
         task.now.moves.value)) }
     ensures stop { result ≡ Err Limit → ⊥ }
 {
@@ -340,7 +340,7 @@ fn push_tagged<B: Board>(
         value_named(tags, b"Site"),
         value_named(tags, b"Date"),
     );
-    push_problem(desk.alloc, page, &look_of(asked), task, &heading)?;
+    push_problem(desk.alloc, page, &look_of(query), task, &heading)?;
     Ok(())
 }
 
@@ -362,7 +362,7 @@ fn heading_under<'v>(
 /// Appends the solution of a problem, apart from it or not.
 fn push_solved<B: Board>(
     desk: &mut Desk<B>,
-    asked: &PageArgs<'_>,
+    query: &PageArgs<'_>,
     task: &Task<'_, B>,
     judged: &Judged<B>,
     is_apart: bool,
@@ -370,44 +370,44 @@ fn push_solved<B: Board>(
 ) -> Result<(), Stop>
     requires verdict { IsVerdict B.geometry task.now.position.now task.now.moves.value (said_by judged.now.verdict) }
     requires tries { Tries B.geometry task.now.position.now task.now.moves.value judged.now.tries.items }
-    ensures solution { OnOk result ((text : List ℕ) × IsSolved B.geometry (language_for asked.now.language)
-        asked.now.lines asked.now.tries task.now.number task.now.position.now task.now.moves.value is_apart text
+    ensures solution { OnOk result ((text : List ℕ) × IsSolved B.geometry (language_for query.now.language)
+        query.now.lines query.now.tries task.now.number task.now.position.now task.now.moves.value is_apart text
         × (page.new.items ≡ page.old.items ++ text)) }
     ensures stop { IsErrOf result Limit → desk.new.solver.expanded ≡ u64.MAX }
 {
     let position = task.position;
-    let solved = solved_within(desk, position, task.moves, asked.lines, &judged.verdict)?;
+    let solved = solved_within(desk, position, task.moves, query.lines, &judged.verdict)?;
     let verdict = verdict_row(
         desk.alloc,
-        language_of(asked.language),
+        language_of(query.language),
         position,
         task.moves.value,
         judged,
     )?;
-    let tries = tries_shown(desk.alloc, asked.tries, position, judged)?;
+    let tries = tries_shown(desk.alloc, query.tries, position, judged)?;
     let solution = Solution {
         verdict: verdict.as_str(),
         tries: tries.as_slice(),
         first: &solved.first,
         lines: solved.movetext.lines,
     };
-    let look = look_of(asked);
+    let look = look_of(query);
     push_solution(desk.alloc, page, &look, task.number, &solution, is_apart)?;
     Ok(())
 }
 
 /// Returns the look of the requested page.
-fn look_of<'a>(asked: &PageArgs<'a>) -> Look<'a>
+fn look_of<'a>(query: &PageArgs<'a>) -> Look<'a>
     ensures { result ≡ record {
-      title = asked.now.title;
-      language = language_for asked.now.language;
-      numbers = asked.now.numbers;
+      title = query.now.title;
+      language = language_for query.now.language;
+      numbers = query.now.numbers;
     } }
 {
     Look {
-        title: asked.title,
-        language: language_of(asked.language),
-        numbers: asked.numbers,
+        title: query.title,
+        language: language_of(query.language),
+        numbers: query.numbers,
     }
 }
 

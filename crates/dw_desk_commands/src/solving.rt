@@ -32,7 +32,7 @@ use itoa::Buffer;
 use std::alloc::{AllocError, Global};
 
 impl<B: Board> ReportEach<B> for SolutionArgs {
-    ghost says = { λ asked. IsSolutionOf B.geometry asked };
+    ghost says = { λ query. IsSolutionOf B.geometry query };
 
     /// Writes a problem as a game, or as a row, and returns whether it is refused.
     fn report<W: DeskWatcher, K: Sink>(
@@ -54,13 +54,13 @@ impl<B: Board> ReportEach<B> for SolutionArgs {
 fn write_game<B: Board, W: DeskWatcher, K: Sink>(
     desk: &mut Desk<B>,
     slices: &mut Slices<W>,
-    asked: &SolutionArgs,
+    query: &SolutionArgs,
     game: &Game<B>,
     sink: &mut K,
 ) -> Result<bool, DeskFault>
     requires { K.is_failed sink.old ≡ false }
     ensures text { IfOk result (λ refused. (text : List ℕ)
-        × IsGameFor B.geometry asked.now game.now.problem.number game.now.problem.found game.now.tags.items refused text
+        × IsGameFor B.geometry query.now game.now.problem.number game.now.problem.found game.now.tags.items refused text
         × Appends (K.taken sink.old) (K.taken sink.new) text) }
     ensures works { IfOk result (λ _. K.is_failed sink.new ≡ false) }
     ensures fails { ReportFails (K.is_failed sink.new) desk.new.solver.expanded result }
@@ -68,7 +68,7 @@ fn write_game<B: Board, W: DeskWatcher, K: Sink>(
     let number = game.problem.number;
     match &game.problem.found {
         Ok(position) => {
-            let solved = searched(desk, slices, asked, number, position)?;
+            let solved = searched(desk, slices, query, number, position)?;
             write_tags(desk, position, game.tags.as_slice(), sink)?;
             write_all(sink, solved.movetext.text.as_slice())?;
             write_all(sink, b"\n\n")?;
@@ -86,18 +86,18 @@ fn write_game<B: Board, W: DeskWatcher, K: Sink>(
 fn write_row<B: Board, W: DeskWatcher, K: Sink>(
     desk: &mut Desk<B>,
     slices: &mut Slices<W>,
-    asked: &SolutionArgs,
+    query: &SolutionArgs,
     problem: &Problem<B>,
     sink: &mut K,
 ) -> Result<bool, DeskFault>
     requires { K.is_failed sink.old ≡ false }
     ensures text { IfOk result (λ refused. (text : List ℕ)
-        × IsSolutionLine B.geometry asked.now problem.now.number problem.now.found refused text
+        × IsSolutionLine B.geometry query.now problem.now.number problem.now.found refused text
         × Appends (K.taken sink.old) (K.taken sink.new) text) }
     ensures works { IfOk result (λ _. K.is_failed sink.new ≡ false) }
     ensures fails { ReportFails (K.is_failed sink.new) desk.new.solver.expanded result }
 {
-    let (line, is_refused) = row_of(desk, slices, asked, problem)?;
+    let (line, is_refused) = row_of(desk, slices, query, problem)?;
     write_all(sink, line.as_str().as_bytes())?;
     Ok(is_refused)
 }
@@ -106,17 +106,17 @@ fn write_row<B: Board, W: DeskWatcher, K: Sink>(
 fn row_of<B: Board, W: DeskWatcher>(
     desk: &mut Desk<B>,
     slices: &mut Slices<W>,
-    asked: &SolutionArgs,
+    query: &SolutionArgs,
     problem: &Problem<B>,
 ) -> Result<(String, bool), Stop>
-    ensures row { IfOk result (λ told. IsSolutionLine B.geometry asked.now problem.now.number problem.now.found told.1
+    ensures row { IfOk result (λ told. IsSolutionLine B.geometry query.now problem.now.number problem.now.found told.1
         (string_bytes told.0)) }
     ensures stop { IsErrOf result Limit → desk.new.solver.expanded ≡ u64.MAX }
 {
     let number = problem.number;
     match &problem.found {
         Ok(position) => {
-            let solved = searched(desk, slices, asked, number, position)?;
+            let solved = searched(desk, slices, query, number, position)?;
             let lines = solved.movetext.lines;
             let line = solution_row(desk.alloc, number, solved.heading, &solved.first, lines)?;
             Ok((line, false))
@@ -145,17 +145,17 @@ fn refused_game(alloc: Global, number: u32, fault: ProblemFault) -> Result<Strin
 fn searched<B: Board, W: DeskWatcher>(
     desk: &mut Desk<B>,
     slices: &mut Slices<W>,
-    asked: &SolutionArgs,
+    query: &SolutionArgs,
     number: u32,
     position: &Position<B>,
 ) -> Result<Solved<B>, Stop>
-    ensures solved { IfOk result (λ s. (n : ℕ) × IsNumberOf B.geometry asked.now position.now n
-        × IsMovetextOf B.geometry position.now n asked.now.lines s.heading s.first s.movetext.lines
+    ensures solved { IfOk result (λ s. (n : ℕ) × IsNumberOf B.geometry query.now position.now n
+        × IsMovetextOf B.geometry position.now n query.now.lines s.heading s.first s.movetext.lines
         s.movetext.text.items) }
     ensures stop { IsErrOf result Limit → desk.new.solver.expanded ≡ u64.MAX }
 {
     desk.begin(slices, number);
-    let solved = solution_of(desk, slices, asked, position);
+    let solved = solution_of(desk, slices, query, position);
     slices.watcher.end();
     solved
 }
@@ -164,33 +164,33 @@ fn searched<B: Board, W: DeskWatcher>(
 fn solution_of<B: Board, W: DeskWatcher>(
     desk: &mut Desk<B>,
     slices: &mut Slices<W>,
-    asked: &SolutionArgs,
+    query: &SolutionArgs,
     position: &Position<B>,
 ) -> Result<Solved<B>, Stop>
-    ensures solved { IfOk result (λ s. (n : ℕ) × IsNumberOf B.geometry asked.now position.now n
-        × IsMovetextOf B.geometry position.now n asked.now.lines s.heading s.first s.movetext.lines
+    ensures solved { IfOk result (λ s. (n : ℕ) × IsNumberOf B.geometry query.now position.now n
+        × IsMovetextOf B.geometry position.now n query.now.lines s.heading s.first s.movetext.lines
         s.movetext.text.items) }
     ensures stop { IsErrOf result Limit → desk.new.solver.expanded ≡ u64.MAX }
 {
-    let moves = number_for(desk, slices, asked, position)?;
+    let moves = number_for(desk, slices, query, position)?;
     let verdict = verdict_in_slices(desk.alloc, &mut desk.solver, position, moves, slices)?;
-    solved_within(desk, position, moves, asked.lines, &verdict)
+    solved_within(desk, position, moves, query.lines, &verdict)
 }
 
 /// Finds the requested number of moves.
 fn number_for<B: Board, W: DeskWatcher>(
     desk: &mut Desk<B>,
     slices: &mut Slices<W>,
-    asked: &SolutionArgs,
+    query: &SolutionArgs,
     position: &Position<B>,
 ) -> Result<MoveCount, Stop>
-    ensures number { IfOk result (λ moves. IsNumberOf B.geometry asked.now position.now moves.value) }
+    ensures number { IfOk result (λ moves. IsNumberOf B.geometry query.now position.now moves.value) }
     ensures stop { IsErrOf result Limit → desk.new.solver.expanded ≡ u64.MAX }
 {
-    if asked.is_least {
-        least_number(desk, slices, position, asked.moves)
+    if query.is_least {
+        least_number(desk, slices, position, query.moves)
     } else {
-        Ok(asked.moves)
+        Ok(query.moves)
     }
 }
 

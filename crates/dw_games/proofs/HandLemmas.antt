@@ -115,10 +115,10 @@ told_kept (Ok p) text items kept is same = sym is.bytes ∙ sym same
 told_kept (Err fault) text items kept is same = sym (take-none text) ∙ sym is.bytes ∙ sym same
 
 -- ---- what is kept of a section
-told_row : (found : Found) (seen kept tags : List ℕ) → EndsWell found seen → kept ≡ take MAX_SECTION seen
+remarks_row : (found : Found) (seen kept tags : List ℕ) → EndsWell found seen → kept ≡ take MAX_SECTION seen
     → IsTold found kept tags → tags_if_valid found (row_of seen) ≡ tags
-told_row (Ok p) seen kept tags row same is = row-of_closed seen row ∙ sym (kept_trimmed seen kept tags row same is)
-told_row (Err fault) seen kept tags row same is = sym is
+remarks_row (Ok p) seen kept tags row same is = row-of_closed seen row ∙ sym (kept_trimmed seen kept tags row same is)
+remarks_row (Err fault) seen kept tags row same is = sym is
 
 kept_said : (found : Found) (seen text tags items : List ℕ) (row kept : BoundedBuf) → EndsWell found seen
     → IsKept MAX_SECTION seen row → IsTold found row.bytes.items tags → IsKeptFor found text kept
@@ -126,7 +126,7 @@ kept_said : (found : Found) (seen text tags items : List ℕ) (row kept : Bounde
     → said_with found (row_of seen) text ≡ record { found = found; tags = tags; movetext = items }
 kept_said found seen text tags items row kept ends whole is keeps same =
     ap (λ l. record { found = found; tags = l; movetext = told found text })
-    (told_row found seen row.bytes.items tags ends whole.bytes is)
+    (remarks_row found seen row.bytes.items tags ends whole.bytes is)
     ∙ ap (λ l. record { found = found; tags = tags; movetext = l }) (told_kept found text items kept keeps same)
 
 -- ---- what is passed, and what comes behind it

@@ -7,7 +7,7 @@ use Rattle.dw_board.specs.Placement.{Placement}
 use Rattle.dw_games.specs.Faults.{IsFirstFault, IsAnswer}
 use Rattle.dw_games.specs.Faults.IsFirstFault.{too_large, at_token, at_end}
 use Rattle.dw_games.specs.Walk.{PlayedTree}
-use Rattle.dw_games.specs.GameLaws.{ToldIsEnough}
+use Rattle.dw_games.specs.GameLaws.{PrefixIsEnough}
 use Rattle.dw_games.specs.declared.fault.MovetextFault.{MovetextFault}
 use Rattle.dw_games.specs.declared.fault.MovetextFault.TheVariants.{Refused, Memory}
 use Rattle.dw_games.specs.declared.fault.MovetextFaultKind.{MovetextFaultKind}
@@ -28,8 +28,8 @@ answer_large g p text part (Ok tree) long whole is = absurd (too_long _ _ long i
 answer_large g p text part (Err (Refused what place)) long whole is = both_large g p text is long whole
 answer_large g p text part (Err Memory) long whole is = tt
 
-pub told_is_enough : ToldIsEnough
-told_is_enough g p movetext answer is = elim (cases_lt 1048577 (length movetext)) [
+pub prefix_is_enough : PrefixIsEnough
+prefix_is_enough g p movetext answer is = elim (cases_lt 1048577 (length movetext)) [
   | inr few ↦ subst (λ l. IsAnswer g p l answer) (take_all 1048577 movetext few) is
   | inl many ↦
       let part = length-take 1048577 movetext in

@@ -35,6 +35,6 @@ GamesTellSections = (g : Geometry) (bytes : List ℕ) (games : List NumberedGame
     → SaysPosition g position game.said.tags
 
 -- the kept part of a movetext is read like the whole
-abbrev pub ToldIsEnough : Type 0
-ToldIsEnough = (g : Geometry) (p : Placement) (movetext : List ℕ) (answer : Result PlayedTree MovetextFault)
+abbrev pub PrefixIsEnough : Type 0
+PrefixIsEnough = (g : Geometry) (p : Placement) (movetext : List ℕ) (answer : Result PlayedTree MovetextFault)
     → IsAnswer g p (told (Ok p) movetext) answer → IsAnswer g p movetext answer

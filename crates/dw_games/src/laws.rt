@@ -1,5 +1,5 @@
 //! Laws of the definitions, each the contract of a function that does nothing.
-ghost use Rattle.dw_games.specs.GameLaws.{GamesSayProblems, GamesTellSections, TextsHaveGames, ToldIsEnough};
+ghost use Rattle.dw_games.specs.GameLaws.{GamesSayProblems, GamesTellSections, TextsHaveGames, PrefixIsEnough};
 ghost use Rattle.dw_games.specs.Laws.{OneRow, OneAnswer, OneLine, TreesArePlayed};
 ghost use Rattle.dw_games.specs.TagRowLaws.{OneRowOfTags, SectionsHaveTheirTags};
 
@@ -54,8 +54,8 @@ pub fn sections_have_their_tags()
 }
 
 /// The kept part of a movetext is read like the whole: if it was cut, both are too large.
-pub fn told_is_enough()
-    ensures { ToldIsEnough }
+pub fn prefix_is_enough()
+    ensures { PrefixIsEnough }
 {}
 
 /// Each path of a tree that is read at a position can be played from it, and its beginnings stand in the tree too.

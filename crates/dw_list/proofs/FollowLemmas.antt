@@ -23,8 +23,8 @@ use Rattle.dw_list.specs.inner.Levels.{AreBehind, Leads, AreLevels}
 use Rattle.dw_list.specs.inner.Steps.{begun, with_ahead}
 use Rattle.dw_list.specs.declared.stack.Candidate.{Candidate}
 use Rattle.dw_list.specs.inner.Tasks.{IsCandidate, IsListed}
-use Rattle.dw_list.specs.GivenLine.{IsAlong}
-use Rattle.dw_list.specs.inner.GivenLine.{SomePassed, IsNotAhead, IsUnlisted, WentOn, GoOnWith}
+use Rattle.dw_list.specs.LineWalk.{IsAlong}
+use Rattle.dw_list.specs.inner.LineWalk.{SomePassed, IsNotAhead, IsUnlisted, WentOn, GoOnWith}
 use Rattle.dw_list.proofs.StackViewLemmas.{standing}
 use Rattle.dw_list.proofs.WayLemmas.{goes_from, next_legal, next_keeps}
 use Rattle.dw_solve.specs.inner.ListLemmas.{ascending_parts}

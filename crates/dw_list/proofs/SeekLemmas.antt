@@ -10,7 +10,7 @@ use Rattle.dw_list.specs.declared.stack.Candidate.{Candidate}
 use Rattle.dw_list.specs.inner.Tasks.{IsCandidate}
 use Rattle.dw_list.specs.LineStack.{Level, LineStack}
 use Rattle.dw_list.specs.inner.Steps.{first_ahead, with_ahead, passed_last}
-use Rattle.dw_list.specs.inner.GivenLine.{ahead_of, SomePassed, IsNotAhead}
+use Rattle.dw_list.specs.inner.LineWalk.{ahead_of, SomePassed, IsNotAhead}
 
 abbrev pub count_of : Option (List Move) → ℕ
 count_of None = 0

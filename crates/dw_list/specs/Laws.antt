@@ -32,7 +32,7 @@ pub record LineOrPlace : Type 0 where
       IsPlace g p n l j → IsPlace g p n l k → j ≡ k
 
 -- lists that were given in two turns were given one after the other; an empty turn changes nothing
-pub record GivenInTurn : Type 0 where
+pub record LinesInTurn : Type 0 where
   pub nothing : (g : Geometry) (s : LineStack) → Gives g s s []
   pub then : (g : Geometry) (a b c : LineStack) (first others : List (List Move)) → Gives g a b first
       → Gives g b c others → Gives g a c (first ++ others)

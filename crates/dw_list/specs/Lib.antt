@@ -4,7 +4,7 @@ pub mod LineStack
 pub mod StackWalk
 pub mod Listing
 pub mod Lending
-pub mod GivenLine
+pub mod LineWalk
 pub mod Faults
 pub mod Tokens
 pub mod TokenLaws

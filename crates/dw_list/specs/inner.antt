@@ -2,7 +2,7 @@
 pub mod Tasks
 pub mod Ways
 pub mod Steps
-pub mod GivenLine
+pub mod LineWalk
 pub mod StackWalk
 pub mod Levels
 pub mod LineStackCodes

@@ -1,5 +1,5 @@
 //! Laws of lines, each the contract of a function that does nothing.
-ghost use Rattle.dw_list.specs.Laws.{NoneBegins, LinesExist, LineOrPlace, GivenInTurn};
+ghost use Rattle.dw_list.specs.Laws.{NoneBegins, LinesExist, LineOrPlace, LinesInTurn};
 
 pub mod tokens;
 
@@ -28,6 +28,6 @@ pub fn line_or_place()
 
 /// Lines that a lister gives in two turns come one after another. A turn that gives none leaves the lines still to
 /// come.
-pub fn given_in_turn()
-    ensures { GivenInTurn }
+pub fn lines_in_turn()
+    ensures { LinesInTurn }
 {}

@@ -6,8 +6,8 @@
 pub mod all_lines;
 pub mod fault;
 mod frame;
-mod given_line;
 pub mod laws;
+mod line_walk;
 pub mod lister;
 mod next_moves;
 pub mod portions;

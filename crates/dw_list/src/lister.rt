@@ -6,7 +6,7 @@ ghost use Rattle.dw_solve.specs.Searching.{IsCounted};
 ghost use Rattle.dw_solve.specs.Work.{Searched};
 
 use crate::fault::AfterFault;
-use crate::given_line::{GivenLine, walk_along};
+use crate::line_walk::{LineWalk, walk_along};
 use crate::stack::Stack;
 use crate::walk::walk;
 use dw_board::{Board, Position};
@@ -28,7 +28,7 @@ impl<'a, B: Board, M: Memo<B>, G: Guide<B>> Lister<'a, B, M, G> {
     ghost use Rattle.dw_solve.specs.Lines.{Lines};
     ghost use Rattle.dw_solve.specs.Questions.{moment_of};
     ghost use Rattle.dw_list.specs.LineStack.{AreToCome};
-    ghost use Rattle.dw_list.specs.GivenLine.{IsAlong};
+    ghost use Rattle.dw_list.specs.LineWalk.{IsAlong};
     ghost use Rattle.dw_list.specs.Faults.{IsRefusal, cut_after};
     ghost use Rattle.dw_list.specs.Listing.{lender, solver_of, stack_of};
     ghost use Rattle.std.specs.Prelude.{⊤, []};
@@ -80,8 +80,8 @@ impl<'a, B: Board, M: Memo<B>, G: Guide<B>> Lister<'a, B, M, G> {
         let moves = self.stack.moves();
         match walk_along(alloc, self.solver, &position, moves, line) {
             Err(stop) => Err(AfterFault::Stopped(stop)),
-            Ok(GivenLine::Place(place)) => Err(AfterFault::NotALine(place)),
-            Ok(GivenLine::Along(stack)) => {
+            Ok(LineWalk::Place(place)) => Err(AfterFault::NotALine(place)),
+            Ok(LineWalk::Along(stack)) => {
                 self.stack = stack;
                 Ok(())
             }

@@ -224,7 +224,7 @@ fn write_found<B: Board, M: Memo<B>, G: Guide<B>, W: Watcher, K: Sink>(
     ensures sink { OnOk result (K.is_failed sink.new ≡ false) }
     ensures write { result ≡ Err because.Write → K.is_failed sink.new ≡ true }
 {
-    let found = found_of(alloc, solver, &neighbour.position, bounds, slices)?;
+    let found = find_soundness(alloc, solver, &neighbour.position, bounds, slices)?;
     if let Soundness::Sound(key) = &found {
         let line = line_of(alloc, bounds.wording, neighbour, bounds.moves.value, key)?;
         slices.watcher.make_way();
@@ -234,7 +234,7 @@ fn write_found<B: Board, M: Memo<B>, G: Guide<B>, W: Watcher, K: Sink>(
 }
 
 /// Finds the soundness of a position, and expands no more positions than the bound allows for one neighbour.
-fn found_of<B: Board, M: Memo<B>, G: Guide<B>, W: Watcher>(
+fn find_soundness<B: Board, M: Memo<B>, G: Guide<B>, W: Watcher>(
     alloc: Global,
     solver: &mut Solver<B, M, G>,
     position: &Position<B>,

@@ -9,7 +9,7 @@ use Rattle.dw_board.specs.declared.piece.Side.{Side}
 use Rattle.dw_board.specs.Geometry.{Geometry, IsBoard, OnBoard, step, back, Squares}
 use Rattle.dw_board.specs.Placement.{Placement, at, is_of, other, same_side}
 use Rattle.dw_moves.specs.Moves.{IsForward, CanCapture, In}
-use Rattle.dw_moves.specs.Replies.{given, passed, OneStep, LeadToTwo, IsOpen, IsExposed, SafeStep, HasSureReply}
+use Rattle.dw_moves.specs.Replies.{with_turn, passed, OneStep, LeadToTwo, IsOpen, IsExposed, SafeStep, HasSureReply}
 use Rattle.dw_moves.specs.inner.Glance.{AreSets, StepsFrom, StepsOn, HasTwo}
 use Rattle.dw_moves.specs.inner.Shelter.{OpenIn, ExposedIn}
 use Rattle.dw_moves.proofs.StepLemmas.{some_inj, step_is}
@@ -137,7 +137,7 @@ module _ (g : Geometry) (b : IsBoard g) (p : Placement) (men kings enemies occup
   )
 
 pub safe_steps_are : (g : Geometry) → IsBoard g → (p : Placement) (side : Side) (men kings enemies occupied : Squares)
-    → AreSets g (given p side) men kings enemies occupied → side ≡ other p.turn
+    → AreSets g (with_turn p side) men kings enemies occupied → side ≡ other p.turn
     → (own out men_left kings_left : Squares) → AreAllOf g p side own
     → ((s : ℕ) → In s out ↔ (In s own × ExposedIn g own s)) → men_left ≡ fin.difference men out
     → kings_left ≡ fin.difference kings out
@@ -145,8 +145,8 @@ pub safe_steps_are : (g : Geometry) → IsBoard g → (p : Placement) (side : Si
     → In t all ↔ ((s : ℕ) × SafeStep g p s t)
 safe_steps_are g b p side men kings enemies occupied sets side_is own out men_left kings_left own_are out_is men_is
     kings_is all are t =
-    subst (λ z. In t all ↔ ((s : ℕ) × (OneStep g (given p z) s t × (IsExposed g p z s → ⊥)))) side_is
-    (left_steps g b (given p side) men kings enemies occupied sets own out men_left kings_left own_are out_is men_is
+    subst (λ z. In t all ↔ ((s : ℕ) × (OneStep g (with_turn p z) s t × (IsExposed g p z s → ⊥)))) side_is
+    (left_steps g b (with_turn p side) men kings enemies occupied sets own out men_left kings_left own_are out_is men_is
     kings_is all are t)
 
 -- A SURE REPLY

@@ -11,7 +11,7 @@ use Rattle.dw_board.specs.Geometry.{Geometry, IsBoard, OnBoard, Squares}
 use Rattle.dw_board.specs.Placement.{Placement, at, other}
 use Rattle.dw_moves.specs.Moves.{IsForward, CanCapture, In}
 use Rattle.dw_moves.specs.inner.Glance.{AreSets, StepsFrom, StepsOn, HasTwo}
-use Rattle.dw_moves.specs.Replies.{given, passed, OneStep, TwoSteps, IsLoose}
+use Rattle.dw_moves.specs.Replies.{with_turn, passed, OneStep, TwoSteps, IsLoose}
 use Rattle.dw_moves.proofs.StepLemmas.{step_is}
 use Rattle.dw_moves.proofs.SquareSetLemmas.{in_none, in_rest}
 use Rattle.dw_moves.proofs.SlideLemmas.{is_free, is_out}
@@ -50,11 +50,11 @@ module _ {g : Geometry} (b : IsBoard g) {p : Placement} {men kings enemies occup
   step_in s t q = let h = from_step s t q in (q.dir, (s, h.0, h.1, h.2))
 
 pub all_steps : (g : Geometry) → IsBoard g → (p : Placement) (side : Side) (men kings enemies occupied : Squares)
-    → AreSets g (given p side) men kings enemies occupied → side ≡ other p.turn
+    → AreSets g (with_turn p side) men kings enemies occupied → side ≡ other p.turn
     → (all : Squares) → ((t : ℕ) → In t all ↔ ((d : Dir) × StepsOn g side men kings occupied d t)) → (t : ℕ) → In t all
     ↔ ((s : ℕ) × OneStep g (passed p) s t)
 all_steps g b p side men kings enemies occupied sets side_is all are t =
-    subst (λ z. In t all ↔ ((s : ℕ) × OneStep g (given p z) s t)) side_is (
+    subst (λ z. In t all ↔ ((s : ℕ) × OneStep g (with_turn p z) s t)) side_is (
       (λ h. let w = (are t).0 h in step_from b sets w.0 t w.1),
       (λ h. (are t).1 (step_in b sets h.0 t h.1)),
     )

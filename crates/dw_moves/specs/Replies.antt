@@ -11,12 +11,12 @@ use Rattle.dw_moves.specs.Moves.{IsForward, Stands, CanCapture, Move, Legal, pla
 use Rattle.dw_board.specs.Placement.{other}
 
 -- the same pieces, and it is this side's turn
-abbrev pub given : Placement → Side → Placement
-given p side = record { cells = p.cells; turn = side }
+abbrev pub with_turn : Placement → Side → Placement
+with_turn p side = record { cells = p.cells; turn = side }
 
 -- the same pieces, and it is the other player's turn
 abbrev pub passed : Placement → Placement
-passed p = given p (other p.turn)
+passed p = with_turn p (other p.turn)
 
 -- a quiet move to the next square
 pub record OneStep (g : Geometry) (p : Placement) (from to : ℕ) : Type 0 where

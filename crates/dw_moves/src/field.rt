@@ -4,7 +4,7 @@ ghost use Rattle.std.specs.FinSet as set;
 ghost use Rattle.dw_board.specs.Geometry.{OnBoard, step};
 ghost use Rattle.dw_board.specs.Placement.{IsPosition, Placement};
 ghost use Rattle.dw_moves.specs.Moves.{In};
-ghost use Rattle.dw_moves.specs.Replies.{given};
+ghost use Rattle.dw_moves.specs.Replies.{with_turn};
 ghost use Rattle.dw_moves.specs.inner.Glance.{AreSets, CanTakeTowards, IsOccupied, MenMeet};
 ghost use Rattle.dw_moves.specs.inner.Glance.{MenTake, KingsTake, Takes, JumpsTo};
 ghost use Rattle.dw_moves.specs.inner.Glance.{Steps, StepsOn, HasTwo};
@@ -30,13 +30,14 @@ impl<B: Board> Field<B> {
         ensures few { set.len result.enemies ≤ 20 }
         ensures position { IsPosition B.geometry position.now.cells }
     {
-        Field::given(position, position.turn())
+        Field::with_turn(position, position.turn())
     }
 
     /// Returns the sets of a position, as if it were this side's turn.
     #[inline]
-    pub(crate) fn given(position: &Position<B>, side: Side) -> Self
-        ensures { AreSets B.geometry (given position.now side) result.men result.kings result.enemies result.occupied }
+    pub(crate) fn with_turn(position: &Position<B>, side: Side) -> Self
+        ensures { AreSets B.geometry (with_turn position.now side)
+            result.men result.kings result.enemies result.occupied }
     {
         let men = position.squares(side, Kind::Man);
         let kings = position.squares(side, Kind::King);

@@ -74,7 +74,7 @@ pub fn other_steps<B: Board>(position: &Position<B>) -> Squares<B>
     ensures { (t : ℕ) → In t result ↔ ((s : ℕ) × OneStep B.geometry (passed position.now) s t) }
 {
     let side = position.turn().other();
-    Field::given(position, side).all_next_free(side)
+    Field::with_turn(position, side).all_next_free(side)
 }
 
 /// Returns whether the side to move has a legal move.

@@ -95,7 +95,7 @@ fn safe_steps<B: Board>(position: &Position<B>) -> Squares<B>
     ensures { (t : ℕ) → In t result ↔ ((s : ℕ) × SafeStep B.geometry position.now s t) }
 {
     let side = position.turn().other();
-    let field = Field::given(position, side);
+    let field = Field::with_turn(position, side);
     let exposed = exposed(position.all_of(side));
     let sheltered = Field {
         men: field.men.minus(exposed),

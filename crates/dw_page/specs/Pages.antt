@@ -9,7 +9,7 @@ use Rattle.dw_page.specs.Drawing.{drawing}
 use Rattle.dw_page.specs.Escaping.{shown_bytes, stands_for}
 use Rattle.dw_page.specs.Pictures.{pictures}
 use Rattle.dw_page.specs.SolutionMoves.{AreMovesShown}
-use Rattle.dw_page.specs.Words.{asked, moves, phrase, tag}
+use Rattle.dw_page.specs.Words.{stipulation, moves, phrase, tag}
 use Rattle.dw_page.specs.declared.page.Heading.{Heading}
 use Rattle.dw_page.specs.declared.page.TheConstants.{POLICY}
 use Rattle.dw_page.specs.declared.script.TheConstants.{SCRIPT}
@@ -75,7 +75,7 @@ values_of heading = filter_map (option_map (λ v. v.now)) heading.source
 -- the task: the side that is to play and win, and the number of moves
 unfoldable pub task : Language → Side → ℕ → List ℕ
 task language side n =
-    codes "\n<p class=\"task\">" ++ (asked language side ++ (decimal n ++ (moves language n ++ codes "</p>\n")))
+    codes "\n<p class=\"task\">" ++ (stipulation language side ++ (decimal n ++ (moves language n ++ codes "</p>\n")))
 
 -- a problem up to its task: its number and its tags, the diagram of its position, and the task
 unfoldable pub problem : Geometry → Language → (numbers : Bool) → ℕ → Option (List ℕ) → List (List ℕ) → Placement

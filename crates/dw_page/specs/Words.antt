@@ -17,15 +17,15 @@ tag French = codes "fr"
 tag Russian = codes "ru"
 
 -- the task of a side, up to the number of moves
-unfoldable pub asked : Language → Side → List ℕ
-asked English White = codes "White to play and win in "
-asked English Black = codes "Black to play and win in "
-asked Dutch White = codes "Wit aan zet en wint in "
-asked Dutch Black = codes "Zwart aan zet en wint in "
-asked French White = codes "Les blancs jouent et gagnent en "
-asked French Black = codes "Les noirs jouent et gagnent en "
-asked Russian White = utf8 (codes "Белые начинают и выигрывают в ")
-asked Russian Black = utf8 (codes "Чёрные начинают и выигрывают в ")
+unfoldable pub stipulation : Language → Side → List ℕ
+stipulation English White = codes "White to play and win in "
+stipulation English Black = codes "Black to play and win in "
+stipulation Dutch White = codes "Wit aan zet en wint in "
+stipulation Dutch Black = codes "Zwart aan zet en wint in "
+stipulation French White = codes "Les blancs jouent et gagnent en "
+stipulation French Black = codes "Les noirs jouent et gagnent en "
+stipulation Russian White = utf8 (codes "Белые начинают и выигрывают в ")
+stipulation Russian Black = utf8 (codes "Чёрные начинают и выигрывают в ")
 
 -- the Russian word for moves, in the form for their number
 unfoldable pub russian_moves : ℕ → List ℕ

@@ -4,7 +4,7 @@ ghost use Rattle.dw_page.specs.SolutionMoves.{AreMovesShown, in_page, move_shown
 
 use crate::escape::{push_all, push_text};
 use dw_board::{Board, Position, fen_text};
-use dw_solution::{FirstLines, Mark, MovetextStyle, write_words};
+use dw_solution::{FirstLines, Mark, MovetextStyle, write_styled};
 use std::alloc::{AllocError, Global};
 
 /// Appends the words of the first `lines` lines, or of all if there are fewer. Each move is an element that has the FEN
@@ -19,7 +19,7 @@ pub(crate) fn push_moves<B: Board>(
     ensures { OnOk result ((text : List ℕ) × AreMovesShown B.geometry more.now first.now lines text
         × (page.new.items ≡ page.old.items ++ text)) }
 {
-    write_words(alloc, InPage { alloc, more }, first, lines, page)
+    write_styled(alloc, InPage { alloc, more }, first, lines, page)
 }
 
 /// The words of a movetext as they stand in a page.

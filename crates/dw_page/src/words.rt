@@ -52,9 +52,9 @@ impl Language {
     }
 
     /// Returns the task, up to the number of moves.
-    #[tactic(auto, unfolding(crate::specs::Words::asked))]
+    #[tactic(auto, unfolding(crate::specs::Words::stipulation))]
     pub fn task(self, side: Side) -> &'static str
-        ensures { result.now ≡ of.asked self side }
+        ensures { result.now ≡ of.stipulation self side }
     {
         match (self, side) {
             (Language::English, Side::White) => "White to play and win in ",

@@ -21,7 +21,7 @@ use Rattle.dw_list.specs.LineStack.{LineStack, AreToCome}
 use Rattle.dw_list.specs.StackWalk.{Gives, GivesFirst, GivesNone}
 use Rattle.dw_list.specs.inner.StackWalk.{GivesNext}
 use Rattle.dw_list.specs.Tokens.{token_of}
-use Rattle.dw_list.specs.Laws.{GivenInTurn}
+use Rattle.dw_list.specs.Laws.{LinesInTurn}
 use Rattle.dw_report.specs.ListedText.{AreLineTexts, IsListing, IsListedText, more_after}
 use Rattle.dw_report.specs.inner.Rows.{has_tokens, IsRow, IsNothing}
 use Rattle.dw_report.specs.Running.{AreLinesOf, AreWholeLines, IsNoLine}
@@ -183,7 +183,7 @@ pub record RowsSoFar (g : Geometry) (p : Placement) (start now : LineStack) (cou
   pub rows : Rows g p start now count texts
   pub wrote : Appends old new texts
 
-pub no_rows : GivenInTurn → (g : Geometry) (p : Placement) (s : LineStack) (old : Option (List ℕ)) → RowsSoFar g p s s 0
+pub no_rows : LinesInTurn → (g : Geometry) (p : Placement) (s : LineStack) (old : Option (List ℕ)) → RowsSoFar g p s s 0
     old old
 no_rows turn g p s old = record {
   texts = [];
@@ -198,7 +198,7 @@ no_rows turn g p s old = record {
   wrote = Appends-nil old;
 }
 
-row_given : GivenInTurn → (g : Geometry) (p : Placement) (start a b : LineStack) (count : ℕ) (texts row : List ℕ)
+row_given : LinesInTurn → (g : Geometry) (p : Placement) (start a b : LineStack) (count : ℕ) (texts row : List ℕ)
     → Rows g p start a count texts → GivesFirst g a b → IsRow g p (reverse b.line) row
     → Rows g p start b (count + 1) (texts ++ row)
 row_given turn g p start a b count texts row h first r = record {
@@ -209,7 +209,7 @@ row_given turn g p start a b count texts row h first r = record {
   are = rows_more g p h.given (reverse b.line) texts row h.are r;
 }
 
-pub row_written : GivenInTurn → (g : Geometry) (p : Placement) (start a b : LineStack) (count : ℕ) (old mid new : Option
+pub row_written : LinesInTurn → (g : Geometry) (p : Placement) (start a b : LineStack) (count : ℕ) (old mid new : Option
     (List ℕ)) → RowsSoFar g p start a count old mid → GivesFirst g a b → Writes (IsRow g p (reverse b.line)) mid new
     → RowsSoFar g p start b (count + 1) old new
 row_written turn g p start a b count old mid new h first w = record {
@@ -219,10 +219,10 @@ row_written turn g p start a b count old mid new h first w = record {
 }
 
 -- the line that is given is a line
-pub given_line : (g : Geometry) (p : Placement) (start a b : LineStack) (count : ℕ) (texts : List ℕ)
+pub line_walk : (g : Geometry) (p : Placement) (start a b : LineStack) (count : ℕ) (texts : List ℕ)
     → Rows g p start a count texts → GivesFirst g a b → (lines : List (List Move)) → AreToCome g start lines
     → Line g start.position start.moves (reverse b.line)
-given_line g p start a b count texts h first lines all =
+line_walk g p start a b count texts h first lines all =
     let left = h.gives.first lines all in
     let to_come = (h.gives.rest left.0).0 (subst (AreToCome g start) left.1 all) in
     let one = first.first left.0 to_come in
@@ -284,7 +284,7 @@ module _ (g : Geometry) (p : Placement) (most : ℕ) (some : 1 ≤ most) (start 
       }
 
   -- a row was cut short
-  row_short : GivenInTurn → (a b : LineStack) (count : ℕ) (old mid new : Option (List ℕ)) → RowsSoFar g p start a count
+  row_short : LinesInTurn → (a b : LineStack) (count : ℕ) (old mid new : Option (List ℕ)) → RowsSoFar g p start a count
       old mid → GivesFirst g a b → count < most → WritesShort (IsRow g p (reverse b.line)) mid new
       → WritesShort (IsListing g p most lines) old new
   row_short turn a b count old mid new h first few w =
@@ -307,7 +307,7 @@ module _ (g : Geometry) (p : Placement) (most : ℕ) (some : 1 ≤ most) (start 
       }) few
 
   -- a row was not written to its end
-  pub row_ends : {X Y : Type 0} → GivenInTurn → (a b : LineStack) (count : ℕ) (old mid new : Option (List ℕ)) (r :
+  pub row_ends : {X Y : Type 0} → LinesInTurn → (a b : LineStack) (count : ℕ) (old mid new : Option (List ℕ)) (r :
       Result X TextFault)
       (s : Result Y TextFault) (fault other : TextFault) → RowsSoFar g p start a count old mid → GivesFirst g a b
       → count < most

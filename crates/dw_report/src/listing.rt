@@ -59,14 +59,14 @@ pub(crate) fn write_lines<B: Board, K: Sink, M: Memo<B>, G: Guide<B>>(
         ↔ IsNoLine B.geometry position.now settings.now.n (request_of settings.now).after) }
 {
     let mut lister = Lister::start(solver, position, settings.n);
-    let result = write_asked(alloc, sink, &mut lister, settings, position);
+    let result = write_requested(alloc, sink, &mut lister, settings, position);
     // A dropped lister would not tell how much its solver has spent.
     let _ = lister.into_solver();
     result
 }
 
 /// Writes the lines that the settings ask for, with a lister that has given none yet.
-fn write_asked<B: Board, K: Sink, M: Memo<B>, G: Guide<B>>(
+fn write_requested<B: Board, K: Sink, M: Memo<B>, G: Guide<B>>(
     alloc: Global,
     sink: &mut K,
     lister: &mut Lister<'_, B, M, G>,
@@ -160,7 +160,7 @@ fn write_listing<B: Board, K: Sink, M: Memo<B>, G: Guide<B>>(
     ensures spends { Spends (solver_of lister.old) (solver_of lister.new) result }
 {
     dw_notation::laws::lines_have_texts();
-    dw_list::laws::given_in_turn();
+    dw_list::laws::lines_in_turn();
     let mut text = LineText::new(position);
     let mut row = ArrayString::new();
     let mut last = ArrayVec::new();

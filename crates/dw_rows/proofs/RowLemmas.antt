@@ -15,7 +15,7 @@ use Rattle.dw_json.specs.inner.Composing.{both}
 use Rattle.dw_moves.specs.Moves.{Move}
 use Rattle.dw_moves.specs.inner.MemberLemmas.{mem_map}
 use Rattle.dw_rows.specs.CheckRow.{refutation_members, word_members}
-use Rattle.dw_study.specs.RemarkWords.{Words}
+use Rattle.dw_study.specs.RemarkFields.{Words}
 
 pub effect_of_one : {V : Type 0} (told : V → Move × Effect) (g : Geometry) (p start : Placement)
     (effects : List (Move × Effect)) (done : List V) (have : HaveEffects g start effects) → map told done ≡ effects

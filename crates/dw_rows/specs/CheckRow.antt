@@ -8,7 +8,7 @@ use Rattle.dw_games.specs.Faults.{name_of, number_of}
 use Rattle.dw_games.specs.declared.fault.MovetextFaultKind.{MovetextFaultKind}
 use Rattle.dw_json.specs.Rows.{AreObjects, Member, count, objects, row, texts}
 use Rattle.dw_rows.specs.declared.checked.CheckNumbers.{CheckNumbers}
-use Rattle.dw_study.specs.RemarkWords.{AreRemarkWords, Words}
+use Rattle.dw_study.specs.RemarkFields.{AreRemarkFields, Words}
 use Rattle.dw_study.specs.Remarks.{Remark, fails, also, leaves_open, ends}
 
 -- the word for a kind of remark
@@ -31,7 +31,7 @@ word_members kind words = (codes "kind", string kind) ∷ (codes "line", string 
 -- the members of a remark
 abbrev pub IsRemarkObject : Geometry → Placement → Remark → List Member → Type 0
 IsRemarkObject g p r members =
-    (words : Words) × AreRemarkWords g p r words × (members ≡ word_members (kind_word r) words)
+    (words : Words) × AreRemarkFields g p r words × (members ≡ word_members (kind_word r) words)
 
 -- the row of a position and of the remarks on its solution within n moves
 abbrev pub IsCheckedRow : Geometry → (problem : ℕ) → Placement → (n : ℕ) → CheckNumbers → List Remark → List ℕ → Type 0

@@ -6,7 +6,7 @@ ghost use Rattle.dw_json.specs.Rows.{AreObjects, Member};
 ghost use Rattle.dw_json.specs.Writing.{WritesMembers};
 ghost use Rattle.dw_rows.specs.CheckRow.{IsCheckedRow, IsRemarkObject, kind_word, refused_solution_row, word_members};
 ghost use Rattle.dw_rows.specs.inner.Remarking.{members_told};
-ghost use Rattle.dw_study.specs.RemarkText.{CanBeTold};
+ghost use Rattle.dw_study.specs.RemarkText.{HasTexts};
 ghost use Rattle.dw_study.specs.Remarks.{Remark as AnyRemark};
 ghost use Rattle.dw_study.specs.Telling.{remark_in, texts_in};
 
@@ -15,7 +15,7 @@ use dw_games::{MovetextFaultKind, Tree};
 use dw_json::{
     PutObject, begin_row, end_row, put_flag, put_number, put_objects, put_text, put_texts,
 };
-use dw_study::{Remark, RemarkWords, remark_words};
+use dw_study::{Remark, RemarkFields, remark_fields};
 use itoa::Buffer;
 use json::Writer;
 use std::alloc::{AllocError, Global};
@@ -51,12 +51,12 @@ pub fn checked_row<B: Board>(
         → IfOk result (λ made. IfSome made (λ line. IsCheckedRow B.geometry number tree.now.start moves numbers said
         (string_bytes line))) }
     ensures some { (said : List AnyRemark) → map (remark_in tree.now.paths) remarks.now ≡ map (λ r. Some r) said
-        → ((r : AnyRemark) → Has r said → CanBeTold B.geometry tree.now.start r)
+        → ((r : AnyRemark) → Has r said → HasTexts B.geometry tree.now.start r)
         → IfOk result (λ made. IsSome made) }
 {
-    match told_remarks(alloc, tree, remarks)? {
+    match remark_rows(alloc, tree, remarks)? {
         Some(told) => {
-            let line = told_row(
+            let line = remarks_row(
                 alloc,
                 number,
                 &tree.start(),
@@ -71,13 +71,13 @@ pub fn checked_row<B: Board>(
 }
 
 /// Makes the row of a solution with remarks in words.
-fn told_row<B: Board>(
+fn remarks_row<B: Board>(
     alloc: Global,
     number: u32,
     position: &Position<B>,
     moves: u8,
     numbers: CheckNumbers,
-    remarks: &[ToldRemark],
+    remarks: &[RemarkRow],
 ) -> Result<String, AllocError>
     ensures { (said : List AnyRemark)
         → AreObjects (IsRemarkObject B.geometry position.now) said (map members_told remarks.now)
@@ -93,37 +93,37 @@ fn told_row<B: Board>(
     put_number(&mut row, "end", numbers.end)?;
     put_number(&mut row, "open", numbers.open)?;
     put_number(&mut row, "also", numbers.also)?;
-    put_objects(&mut row, "remarks", remarks, &ToldRemarks {})?;
+    put_objects(&mut row, "remarks", remarks, &PutRemarks {})?;
     end_row(row)
 }
 
 /// A remark in words.
 #[derive(Drop)]
-struct ToldRemark {
+struct RemarkRow {
     kind: &'static str,
-    words: RemarkWords,
+    words: RemarkFields,
 }
 
 /// Puts the remarks on a tree in words. Returns `None` if one of them names a move that is not legal in its place, or
 /// if its place is not in the tree.
-fn told_remarks<B: Board>(
+fn remark_rows<B: Board>(
     alloc: Global,
     tree: &Tree<B>,
     remarks: &[Remark<B>],
-) -> Result<Option<Vec<ToldRemark>>, AllocError>
+) -> Result<Option<Vec<RemarkRow>>, AllocError>
     ensures told { (said : List AnyRemark) → map (remark_in tree.now.paths) remarks.now ≡ map (λ r. Some r) said
         → IfOk result (λ made. IfSome made (λ told. AreObjects (IsRemarkObject B.geometry tree.now.start) said
         (map members_told told.items))) }
     ensures some { (said : List AnyRemark) → map (remark_in tree.now.paths) remarks.now ≡ map (λ r. Some r) said
-        → ((r : AnyRemark) → Has r said → CanBeTold B.geometry tree.now.start r)
+        → ((r : AnyRemark) → Has r said → HasTexts B.geometry tree.now.start r)
         → IfOk result (λ made. IsSome made) }
 {
     let mut told = Vec::new(alloc);
     'remarks: for remark in remarks {
-        match remark_words(alloc, tree, remark)? {
+        match remark_fields(alloc, tree, remark)? {
             Some(words) => {
                 let kind = kind_of(remark);
-                told.push(ToldRemark { kind, words })?;
+                told.push(RemarkRow { kind, words })?;
             }
             None => return Ok(None),
         }
@@ -161,15 +161,15 @@ pub fn refused_solution_row<B: Board>(
 
 /// Remarks in words, as objects.
 #[derive(Clone, Copy)]
-struct ToldRemarks {}
+struct PutRemarks {}
 
-impl PutObject<ToldRemark> for ToldRemarks {
+impl PutObject<RemarkRow> for PutRemarks {
     ghost asks = { λ it one. Unit {0} };
 
     ghost says = { λ it one members. members ≡ members_told one };
 
-    fn put(&self, row: &mut Writer, item: &ToldRemark) -> Result<(), AllocError> {
-        put_words(row, item.kind, &item.words)
+    fn put(&self, row: &mut Writer, item: &RemarkRow) -> Result<(), AllocError> {
+        put_fields(row, item.kind, &item.words)
     }
 }
 
@@ -186,7 +186,7 @@ fn kind_of<B: Board>(remark: &Remark<B>) -> &'static str
 }
 
 /// Writes the members of a remark of this kind.
-fn put_words(row: &mut Writer, kind: &str, words: &RemarkWords) -> Result<(), AllocError>
+fn put_fields(row: &mut Writer, kind: &str, words: &RemarkFields) -> Result<(), AllocError>
     ensures { OnOk result (WritesMembers (word_members kind.now (texts_in words.now)) row.old row.new) }
 {
     put_text(row, "kind", kind)?;

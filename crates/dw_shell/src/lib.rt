@@ -22,13 +22,13 @@ use std::{env, io};
 ///
 /// An argument is no UTF-8, or memory was refused.
 pub fn arguments(rt: &HostRuntime, program: &str) -> Result<Vec<String>, CliError> {
-    match words_of(rt) {
+    match arguments_of(rt) {
         Ok(words) => Ok(words),
         Err(error) => Err(CliError::unreadable(rt.alloc(), program, error.kind())),
     }
 }
 
-fn words_of(rt: &HostRuntime) -> io::Result<Vec<String>> {
+fn arguments_of(rt: &HostRuntime) -> io::Result<Vec<String>> {
     Ok(env::args(rt)?.collect::<Vec<String>>(rt.alloc())?)
 }
 
@@ -48,7 +48,7 @@ pub fn end_with(rt: &HostRuntime, program: &str, ending: &Ending<&str>) -> ExitC
     ensures { exit_status result ≡ (outcome_of ending.now).status }
 {
     let exit = outcome(ending);
-    if exit.is_told {
+    if exit.has_message {
         let message = Message { program, ending };
         let _ = eprint!(rt; "{message}");
     }

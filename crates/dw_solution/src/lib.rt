@@ -3,7 +3,7 @@
 //!
 //! Everything is generic over the board. The tree and its text take memory.
 //!
-//! Begin with `first_lines`, which makes the tree. `movetext::movetext` writes it, `write_words` does so in any style,
+//! Begin with `first_lines`, which makes the tree. `movetext::movetext` writes it, `write_styled` does so in any style,
 //! and `placed_moves` lists its moves.
 #![tactic(auto)]
 
@@ -26,4 +26,4 @@ pub use listed::FirstLines;
 pub use movetext::{MAX_WRITTEN, SolutionText};
 pub use placed::{PlacedMove, placed_moves};
 pub use style::{Mark, MovetextStyle};
-pub use writer::write_words;
+pub use writer::write_styled;

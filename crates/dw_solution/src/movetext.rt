@@ -8,7 +8,7 @@ use crate::fill::fill;
 use crate::heading::Heading;
 use crate::listed::FirstLines;
 use crate::style::InMovetext;
-use crate::writer::write_words;
+use crate::writer::write_styled;
 use dw_board::Board;
 use itoa::Buffer;
 use std::alloc::{AllocError, Global};
@@ -88,7 +88,7 @@ impl<B: Board> Draft<'_, B> {
         dw_moves::laws::play_stays();
         self.first.position().keeps_its_rules();
         let mut text = self.comment()?;
-        write_words(self.alloc, InMovetext, self.first, lines, &mut text)?;
+        write_styled(self.alloc, InMovetext, self.first, lines, &mut text)?;
         fill(text.as_mut_slice());
         Ok(text)
     }

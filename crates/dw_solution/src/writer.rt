@@ -23,7 +23,7 @@ use std::alloc::{AllocError, Global};
 
 /// Appends the words of the first `lines` lines, or of all if there are fewer: those of their tree, the comment that
 /// there are more lines, if there are, and the result. Each word has a gap before it.
-pub fn write_words<B: Board, S: MovetextStyle<B>>(
+pub fn write_styled<B: Board, S: MovetextStyle<B>>(
     alloc: Global,
     style: S,
     first: &FirstLines<B>,

@@ -8,7 +8,7 @@ use Rattle.dw_moves.specs.Moves.{Move}
 use Rattle.dw_report.specs.inner.JoinedLemmas.{joined_3, joined_5, joined_7, joined_9}
 use Rattle.dw_study.specs.Remarks.{Remark, fails, also, leaves_open, ends}
 use Rattle.dw_study.specs.RemarkText.{behind_blank, IsRemarkText}
-use Rattle.dw_study.specs.RemarkWords.{AreRemarkWords, Words}
+use Rattle.dw_study.specs.RemarkFields.{AreRemarkFields, Words}
 
 -- a remark is told only if its beginning is
 pub told : (o : Option (List Move)) (f : List Move → Remark) (r : Remark) → option_map f o ≡ Some r
@@ -22,7 +22,7 @@ told (Some b) f r e = (b, refl, ap inside e) where
 -- the text of a remark, given its parts
 module _ (g : Geometry) (p : Placement) (b : List Move) (words : Words) (begun digits moved text : List ℕ)
     (blank : begun ≡ behind_blank words.line) (number : digits ≡ decimal words.turn) where
-  pub fails_made : (m r : Move) (reply : List ℕ) → AreRemarkWords g p (fails b m r) words
+  pub fails_made : (m r : Move) (reply : List ℕ) → AreRemarkFields g p (fails b m r) words
       → moved ≡ join_by (λ t. t) (codes ", ") words.moves
       → ((answer : List ℕ) → words.refutation ≡ Some answer → reply ≡ answer)
       → text ≡ codes "fails" ++ (begun ++ (codes " " ++ (digits ++ (codes ". " ++ (moved ++ (codes " refuted by "
@@ -42,7 +42,7 @@ module _ (g : Geometry) (p : Placement) (b : List Move) (words : Words) (begun d
             ++ codes " refuted by " ++ second i ++ codes "\n")),
       )
 
-  pub also_made : (keys : List Move) → AreRemarkWords g p (also b keys) words
+  pub also_made : (keys : List Move) → AreRemarkFields g p (also b keys) words
       → moved ≡ join_by (λ t. t) (codes " / ") words.moves
       → text ≡ codes "also" ++ (begun ++ (codes " " ++ (digits ++ (codes ". " ++ (moved ++ (codes "\n" ++ []))))))
       → IsRemarkText g p (also b keys) text
@@ -56,7 +56,7 @@ module _ (g : Geometry) (p : Placement) (b : List Move) (words : Words) (begun d
             ∙ (λ i. codes "also" ++ blank i ++ codes " " ++ here i ++ codes ". " ++ moved ++ codes "\n")),
       )
 
-  pub open_made : (replies : List Move) → AreRemarkWords g p (leaves_open b replies) words
+  pub open_made : (replies : List Move) → AreRemarkFields g p (leaves_open b replies) words
       → moved ≡ join_by (λ t. t) (codes ", ") words.moves
       → text ≡ codes "open" ++ (begun ++ (codes ": " ++ (moved ++ (codes "\n" ++ []))))
       → IsRemarkText g p (leaves_open b replies) text
@@ -69,7 +69,7 @@ module _ (g : Geometry) (p : Placement) (b : List Move) (words : Words) (begun d
         ∙ (λ i. codes "open" ++ blank i ++ codes ": " ++ moved ++ codes "\n")),
   )
 
-  pub ends_made : AreRemarkWords g p (ends b) words → text ≡ codes "ends" ++ (begun ++ (codes "\n" ++ []))
+  pub ends_made : AreRemarkFields g p (ends b) words → text ≡ codes "ends" ++ (begun ++ (codes "\n" ++ []))
       → IsRemarkText g p (ends b) text
   ends_made (written, are, none, turn) e = (
     words.line,

@@ -5,7 +5,7 @@ use Rattle.dw_board.specs.Placement.{Placement}
 use Rattle.std.proofs.Common.{Some}
 use Rattle.dw_moves.specs.Moves.{Move, play}
 use Rattle.dw_notation.specs.Text.{IsLineText, IsMoveText}
-use Rattle.dw_study.specs.RemarkWords.{AreRemarkWords, Words}
+use Rattle.dw_study.specs.RemarkFields.{AreRemarkFields, Words}
 use Rattle.dw_study.specs.Remarks.{fails}
 use Rattle.dw_report.specs.JudgedText.{next_number}
 use Rattle.dw_verdict.specs.Verdict.{reach}
@@ -14,7 +14,7 @@ use Rattle.dw_verdict.specs.Verdict.{reach}
 pub fails_said : (g : Geometry) (p q then : Placement) (b : List Move) (m r : Move) (line move reply : List ℕ)
     (words : Words) → IsLineText g p b line → words.line ≡ line → q ≡ reach g p b → then ≡ play g q m
     → IsMoveText g q m move → IsMoveText g then r reply → words.moves ≡ move ∷ [] → words.refutation ≡ Some reply
-    → words.turn ≡ next_number b → AreRemarkWords g p (fails b m r) words
+    → words.turn ≡ next_number b → AreRemarkFields g p (fails b m r) words
 fails_said g p q then b m r line move reply words written same there played is answers moves refutes turn = (
   move,
   reply,

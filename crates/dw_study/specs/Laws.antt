@@ -8,7 +8,7 @@ use Rattle.dw_moves.specs.Moves.{Move}
 use Rattle.dw_games.specs.Movetext.{IsTree}
 use Rattle.dw_verdict.specs.Verdict.{Verdict}
 use Rattle.dw_study.specs.Finding.{judged, undecided, IsFinding}
-use Rattle.dw_study.specs.RemarkText.{CanBeTold}
+use Rattle.dw_study.specs.RemarkText.{HasTexts}
 use Rattle.dw_study.specs.Remarks.{Remark, fails, also, leaves_open, ends, AreRemarks}
 
 -- each position has exactly one judged finding, and an undecided one has a lower number of moves
@@ -28,9 +28,9 @@ OneListOfRemarks = (g : Geometry) (p : Placement) (text : List ℕ) (tree : List
     → remarks ≡ others
 
 -- each remark has a text
-abbrev pub RemarksCanBeTold : Type 0
-RemarksCanBeTold = (g : Geometry) (p : Placement) (tree : List (List Move)) (n : ℕ) (remarks : List Remark)
-    → AreRemarks g tree n p [] remarks → (r : Remark) → Member r remarks → CanBeTold g p r
+abbrev pub RemarksHaveTexts : Type 0
+RemarksHaveTexts = (g : Geometry) (p : Placement) (tree : List (List Move)) (n : ℕ) (remarks : List Remark)
+    → AreRemarks g tree n p [] remarks → (r : Remark) → Member r remarks → HasTexts g p r
 
 -- a remark is about a fault: a move fails, or a path ends too soon
 abbrev pub IsFault : Remark → Type 0

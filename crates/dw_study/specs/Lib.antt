@@ -3,7 +3,7 @@ pub mod Remarks
 pub mod Telling
 pub mod FoundText
 pub mod RemarkText
-pub mod RemarkWords
+pub mod RemarkFields
 pub mod Turns
 pub mod Slices
 pub mod Laws

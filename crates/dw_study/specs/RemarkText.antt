@@ -15,11 +15,11 @@ behind_blank [] = []
 behind_blank (byte ∷ line) = codes " " ++ byte ∷ line
 
 -- a remark can be written: its moves are legal where they are played
-abbrev pub CanBeTold : Geometry → Placement → Remark → Type 0
-CanBeTold g p (fails b m r) = Legal g (reach g p b) m × Legal g (play g (reach g p b) m) r
-CanBeTold g p (also b keys) = (m : Move) → Member m keys → Legal g (reach g p b) m
-CanBeTold g p (leaves_open b replies) = (m : Move) → Member m replies → Legal g (reach g p b) m
-CanBeTold g p (ends b) = Unit {0}
+abbrev pub HasTexts : Geometry → Placement → Remark → Type 0
+HasTexts g p (fails b m r) = Legal g (reach g p b) m × Legal g (play g (reach g p b) m) r
+HasTexts g p (also b keys) = (m : Move) → Member m keys → Legal g (reach g p b) m
+HasTexts g p (leaves_open b replies) = (m : Move) → Member m replies → Legal g (reach g p b) m
+HasTexts g p (ends b) = Unit {0}
 
 -- the text of a remark: the beginning, and the moves that are wrong or missing after it
 abbrev pub IsRemarkText : Geometry → Placement → Remark → List ℕ → Type 0

@@ -14,8 +14,8 @@ use Rattle.dw_games.specs.Walk.{place_of, beginning_at}
 use Rattle.dw_study.specs.Finding.{Finding, judged, undecided}
 use Rattle.dw_study.specs.Slices.{SearchedInSlices}
 use Rattle.std.specs.String.{string_bytes}
-use Rattle.dw_study.specs.RemarkWords.{Words}
-use Rattle.dw_study.specs.declared.worded.RemarkWords.{RemarkWords}
+use Rattle.dw_study.specs.RemarkFields.{Words}
+use Rattle.dw_study.specs.declared.worded.RemarkFields.{RemarkFields}
 use Rattle.dw_study.specs.Remarks.{Remark, fails, also, leaves_open, ends}
 use Rattle.dw_study.specs.declared.finding.Finding as findings
 use Rattle.dw_study.specs.declared.finding.Finding.TheVariants.{Judged, Undecided}
@@ -78,7 +78,7 @@ abbrev pub Say : {B : Type 0} → List (List Move) → List (remarks.Remark B) �
 Say tree items Holds = (said : List Remark) × (map (remark_in tree) items ≡ map (λ r. Some r) said) × Holds said
 
 -- the value of the words of a remark
-abbrev pub texts_in : RemarkWords → Words
+abbrev pub texts_in : RemarkFields → Words
 texts_in words = record {
   line = string_bytes words.line;
   turn = words.turn;

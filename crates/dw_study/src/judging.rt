@@ -19,12 +19,12 @@ use dw_verdict::{Judged, Verdict};
 use std::alloc::Global;
 
 /// The question for the verdict alone.
-struct VerdictAsked;
+struct VerdictSearch;
 
 /// The question for the verdict and the tries.
-struct AllAsked;
+struct JudgedSearch;
 
-impl<B: Board> Question<B, Verdict<B>> for VerdictAsked {
+impl<B: Board> Question<B, Verdict<B>> for VerdictSearch {
     ghost is_answer = { λ p n verdict. IsVerdict B.geometry p n (said_by verdict) };
 
     ghost least = { 1 };
@@ -44,7 +44,7 @@ impl<B: Board> Question<B, Verdict<B>> for VerdictAsked {
     }
 }
 
-impl<B: Board> Question<B, Judged<B>> for AllAsked {
+impl<B: Board> Question<B, Judged<B>> for JudgedSearch {
     ghost is_answer = { λ p n judged. IsVerdict B.geometry p n (said_by judged.verdict)
         × Tries B.geometry p n judged.tries.items };
 
@@ -106,7 +106,7 @@ pub fn judge_resuming<B: Board, M: Memo<B>, G: Guide<B>, W: Watcher>(
     ensures right { AreTrue B.geometry (M.content solver.new.memo) }
     ensures map { IsMap (M.content solver.new.memo) }
 {
-    ask_resuming(alloc, solver, position, moves.value, slices, &AllAsked)
+    ask_resuming(alloc, solver, position, moves.value, slices, &JudgedSearch)
 }
 
 /// Returns the verdict as `judge_in_slices` does, without the tries.
@@ -146,5 +146,5 @@ pub fn verdict_resuming<B: Board, M: Memo<B>, G: Guide<B>, W: Watcher>(
     ensures right { AreTrue B.geometry (M.content solver.new.memo) }
     ensures map { IsMap (M.content solver.new.memo) }
 {
-    ask_resuming(alloc, solver, position, moves.value, slices, &VerdictAsked)
+    ask_resuming(alloc, solver, position, moves.value, slices, &VerdictSearch)
 }

@@ -1,5 +1,5 @@
 //! Laws of findings and of remarks, each the contract of a function that does nothing.
-ghost use Rattle.dw_study.specs.Laws.{OneFinding, OneListOfRemarks, RemarksCanBeTold, SolutionsHold};
+ghost use Rattle.dw_study.specs.Laws.{OneFinding, OneListOfRemarks, RemarksHaveTexts, SolutionsHold};
 
 /// Each position has exactly one judged finding, and an undecided one has a lower number of moves.
 pub fn one_finding()
@@ -19,8 +19,8 @@ pub fn one_list_of_remarks()
 }
 
 /// Each remark has a text: its moves are legal after the beginning that it is on.
-pub fn remarks_can_be_told()
-    ensures { RemarksCanBeTold }
+pub fn remarks_have_texts()
+    ensures { RemarksHaveTexts }
 {}
 
 /// No move of a solution fails and no path ends too soon exactly if each complete path is a line. There is no remark at

@@ -32,4 +32,4 @@ pub use sliced::{wins_in_slices, wins_resuming};
 pub use slices::{Slices, Unwatched, Watcher};
 pub use text::found_text;
 pub use turns::turns_of;
-pub use worded::{RemarkWords, remark_words};
+pub use worded::{RemarkFields, remark_fields};

@@ -7,7 +7,7 @@ ghost use Rattle.dw_solve.specs.Questions.{Asked, moment_of};
 ghost use Rattle.dw_solve.specs.Work.{Moment};
 ghost use Rattle.dw_solve.specs.declared.stop.Stop.{Stop};
 ghost use Rattle.dw_study.specs.Slices.{IsWatched, SearchedSome, Went};
-ghost use Rattle.dw_study.specs.inner.Slicing.{AddsUp, AskedUntil};
+ghost use Rattle.dw_study.specs.inner.Slicing.{AddsUp, SearchedUntil};
 
 use crate::limits::{lower, raise};
 use crate::slices::{Slices, Watcher, is_cut};
@@ -104,7 +104,7 @@ fn ask_until<B: Board, M: Memo<B>, G: Guide<B>, A: Drop, Q: Question<B, A>>(
     ensures answer { IfOk result (Q.is_answer position.now moves) }
     ensures says { Q.says position.now moves (moment_of M.content M.dropped solver.old)
         (moment_of M.content M.dropped solver.new) result }
-    ensures asked { AskedUntil B.geometry M.content M.dropped moves until solver.old solver.new result }
+    ensures asked { SearchedUntil B.geometry M.content M.dropped moves until solver.old solver.new result }
 {
     let limit = lower(solver, until);
     let answer = question.ask(alloc, solver, position, moves);

@@ -2,12 +2,12 @@
 ghost use Rattle.std.specs.Prelude.{◌≡◌, Some, List, IfOk, IfSome, IsSome};
 ghost use Rattle.std.specs.String.{string_bytes};
 ghost use Rattle.dw_moves.specs.Moves as of;
-ghost use Rattle.dw_study.specs.RemarkText.{IsRemarkText, CanBeTold, behind_blank};
-ghost use Rattle.dw_study.specs.RemarkWords.{AreRemarkWords};
+ghost use Rattle.dw_study.specs.RemarkText.{IsRemarkText, HasTexts, behind_blank};
+ghost use Rattle.dw_study.specs.RemarkFields.{AreRemarkFields};
 ghost use Rattle.dw_study.specs.Telling.{remark_in, texts_in};
 
 use crate::remark::Remark;
-use crate::worded::{RemarkWords, remark_words};
+use crate::worded::{RemarkFields, remark_fields};
 use dw_board::Board;
 use dw_games::Tree;
 use itoa::Buffer;
@@ -22,10 +22,10 @@ pub fn remark_text<B: Board>(
 ) -> Result<Option<String>, AllocError>
     ensures text { (r : _) → remark_in tree.now.paths remark.now ≡ Some r
         → IfOk result (λ made. IfSome made (λ text. IsRemarkText B.geometry tree.now.start r (string_bytes text))) }
-    ensures some { (r : _) → remark_in tree.now.paths remark.now ≡ Some r → CanBeTold B.geometry tree.now.start r
+    ensures some { (r : _) → remark_in tree.now.paths remark.now ≡ Some r → HasTexts B.geometry tree.now.start r
         → IfOk result (λ made. IsSome made) }
 {
-    match remark_words(alloc, tree, remark)? {
+    match remark_fields(alloc, tree, remark)? {
         Some(words) => {
             let text = text_of(alloc, remark, &words)?;
             Ok(Some(text))
@@ -38,10 +38,10 @@ pub fn remark_text<B: Board>(
 fn text_of<B: Board>(
     alloc: Global,
     remark: &Remark<B>,
-    words: &RemarkWords,
+    words: &RemarkFields,
 ) -> Result<String, AllocError>
     ensures { (tree : List (List of.Move)) (p : _) (r : _) → remark_in tree remark.now ≡ Some r
-        → AreRemarkWords B.geometry p r (texts_in words.now)
+        → AreRemarkFields B.geometry p r (texts_in words.now)
         → IfOk result (λ text. IsRemarkText B.geometry p r (string_bytes text)) }
 {
     let begun = with_blank(alloc, words.line.as_str())?;
@@ -79,7 +79,7 @@ fn text_of<B: Board>(
 }
 
 /// Returns the text of the reply that refutes, or nothing, if there is none.
-fn refutation(words: &RemarkWords) -> &str
+fn refutation(words: &RemarkFields) -> &str
     ensures { (reply : _) → (texts_in words.now).refutation ≡ Some reply → result.now ≡ reply }
 {
     match &words.refutation {

@@ -17,9 +17,9 @@ use dw_solve::{Guide, Solver, Stop};
 use std::alloc::Global;
 
 /// The question whether there is a win.
-struct WinAsked;
+struct WinSearch;
 
-impl<B: Board> Question<B, bool> for WinAsked {
+impl<B: Board> Question<B, bool> for WinSearch {
     ghost is_answer = { λ p n yes. IsTrue yes ↔ Win B.geometry p n };
 
     ghost least = { 0 };
@@ -94,5 +94,5 @@ pub fn wins_resuming<B: Board, M: Memo<B>, G: Guide<B>, W: Watcher>(
     ensures says { LostNothing M.content M.dropped solver.old solver.new
         → IfOk result (SaysWin (M.content solver.new.memo) position.now moves) }
 {
-    ask_resuming(alloc, solver, position, moves, slices, &WinAsked)
+    ask_resuming(alloc, solver, position, moves, slices, &WinSearch)
 }

@@ -3,8 +3,8 @@ ghost use Rattle.std.specs.Prelude.{◌≡◌, ◌↔◌, [], Some, true, List, 
 ghost use Rattle.dw_board.specs.Lists.{Member};
 ghost use Rattle.dw_moves.specs.Moves.{Legal};
 ghost use Rattle.dw_moves.specs.Moves as of;
-ghost use Rattle.dw_study.specs.RemarkText.{CanBeTold};
-ghost use Rattle.dw_study.specs.RemarkWords.{AreRemarkWords, AreWordsFor};
+ghost use Rattle.dw_study.specs.RemarkText.{HasTexts};
+ghost use Rattle.dw_study.specs.RemarkFields.{AreRemarkFields, AreFieldsFor};
 ghost use Rattle.dw_study.specs.Remarks.{fails, also};
 ghost use Rattle.dw_study.specs.Telling.{remark_in, texts_in};
 ghost use Rattle.dw_study.specs.inner.Beginnings.{IsBegun};
@@ -21,7 +21,7 @@ use std::alloc::{AllocError, Global};
 
 /// The texts of a remark.
 #[derive(Drop)]
-pub struct RemarkWords {
+pub struct RemarkFields {
     /// The beginning that it is on, as a line; empty, if that has no move.
     pub line: String,
     /// The number of the attacker's turn that follows the beginning, from 1 on.
@@ -34,48 +34,48 @@ pub struct RemarkWords {
 
 /// Returns the parts of the text of a remark that `check` made on a tree. It is `None` if the tree has no such node, or
 /// if a move of the remark is not legal there.
-pub fn remark_words<B: Board>(
+pub fn remark_fields<B: Board>(
     alloc: Global,
     tree: &Tree<B>,
     remark: &Remark<B>,
-) -> Result<Option<RemarkWords>, AllocError>
+) -> Result<Option<RemarkFields>, AllocError>
     ensures words { (r : _) → remark_in tree.now.paths remark.now ≡ Some r
-        → IfOk result (λ made. IfSome made (λ words. AreRemarkWords B.geometry tree.now.start r (texts_in words))) }
-    ensures some { (r : _) → remark_in tree.now.paths remark.now ≡ Some r → CanBeTold B.geometry tree.now.start r
+        → IfOk result (λ made. IfSome made (λ words. AreRemarkFields B.geometry tree.now.start r (texts_in words))) }
+    ensures some { (r : _) → remark_in tree.now.paths remark.now ≡ Some r → HasTexts B.geometry tree.now.start r
         → IfOk result (λ made. IsSome made) }
 {
     match remark {
         Remark::Fails { at, mv, reply } => match beginning_of(alloc, tree, *at)? {
-            Some(beginning) => fails_words(alloc, &beginning, mv, reply),
+            Some(beginning) => failure_fields(alloc, &beginning, mv, reply),
             None => Ok(None),
         },
         Remark::Also { at, keys } => match beginning_of(alloc, tree, *at)? {
-            Some(beginning) => words_for(alloc, &beginning, keys.as_slice()),
+            Some(beginning) => moves_fields(alloc, &beginning, keys.as_slice()),
             None => Ok(None),
         },
         Remark::Open { at, replies } => match beginning_of(alloc, tree, *at)? {
-            Some(beginning) => words_for(alloc, &beginning, replies.as_slice()),
+            Some(beginning) => moves_fields(alloc, &beginning, replies.as_slice()),
             None => Ok(None),
         },
         Remark::Ends { at } => match beginning_of(alloc, tree, *at)? {
-            Some(beginning) => end_words(alloc, &beginning),
+            Some(beginning) => end_fields(alloc, &beginning),
             None => Ok(None),
         },
     }
 }
 
 /// Returns the texts of a move that fails.
-fn fails_words<B: Board>(
+fn failure_fields<B: Board>(
     alloc: Global,
     beginning: &Beginning<B>,
     mv: &Move<B>,
     reply: &Move<B>,
-) -> Result<Option<RemarkWords>, AllocError>
+) -> Result<Option<RemarkFields>, AllocError>
     ensures words { (p : _) (b : List of.Move) → IsBegun B.geometry p b beginning.now
-        → IfOk result (λ made. IfSome made (λ words. AreRemarkWords B.geometry p (fails b mv.now reply.now)
+        → IfOk result (λ made. IfSome made (λ words. AreRemarkFields B.geometry p (fails b mv.now reply.now)
         (texts_in words))) }
     ensures some { (p : _) (b : List of.Move) → IsBegun B.geometry p b beginning.now
-        → CanBeTold B.geometry p (fails b mv.now reply.now) → IfOk result (λ made. IsSome made) }
+        → HasTexts B.geometry p (fails b mv.now reply.now) → IfOk result (λ made. IsSome made) }
 {
     if !is_legal(&beginning.position, mv) {
         return Ok(None);
@@ -88,7 +88,7 @@ fn fails_words<B: Board>(
     let second = text_in(alloc, &after, reply)?;
     let mut moves = Vec::new(alloc);
     moves.push(String::from_str(alloc, first.as_str())?)?;
-    Ok(Some(RemarkWords {
+    Ok(Some(RemarkFields {
         line: String::from_str(alloc, beginning.line.as_str())?,
         turn: beginning.turn(),
         moves,
@@ -97,20 +97,20 @@ fn fails_words<B: Board>(
 }
 
 /// Returns the texts of moves that are missing.
-fn words_for<B: Board>(
+fn moves_fields<B: Board>(
     alloc: Global,
     beginning: &Beginning<B>,
     moves: &[Move<B>],
-) -> Result<Option<RemarkWords>, AllocError>
+) -> Result<Option<RemarkFields>, AllocError>
     ensures words { (p : _) (b : List of.Move) → IsBegun B.geometry p b beginning.now
-        → IfOk result (λ made. IfSome made (λ words. AreWordsFor B.geometry p b moves.now (texts_in words))) }
+        → IfOk result (λ made. IfSome made (λ words. AreFieldsFor B.geometry p b moves.now (texts_in words))) }
     ensures some { (p : _) (b : List of.Move) → IsBegun B.geometry p b beginning.now
-        → CanBeTold B.geometry p (also b moves.now) → IfOk result (λ made. IsSome made) }
+        → HasTexts B.geometry p (also b moves.now) → IfOk result (λ made. IsSome made) }
 {
     if !are_legal(&beginning.position, moves) {
         return Ok(None);
     }
-    Ok(Some(RemarkWords {
+    Ok(Some(RemarkFields {
         line: String::from_str(alloc, beginning.line.as_str())?,
         turn: beginning.turn(),
         moves: each_move_text(alloc, &beginning.position, moves)?,
@@ -119,15 +119,15 @@ fn words_for<B: Board>(
 }
 
 /// Returns the texts of an end.
-fn end_words<B: Board>(
+fn end_fields<B: Board>(
     alloc: Global,
     beginning: &Beginning<B>,
-) -> Result<Option<RemarkWords>, AllocError>
+) -> Result<Option<RemarkFields>, AllocError>
     ensures words { (p : _) (b : List of.Move) → IsBegun B.geometry p b beginning.now
-        → IfOk result (λ made. IfSome made (λ words. AreWordsFor B.geometry p b [] (texts_in words))) }
+        → IfOk result (λ made. IfSome made (λ words. AreFieldsFor B.geometry p b [] (texts_in words))) }
     ensures some { IfOk result (λ made. IsSome made) }
 {
-    Ok(Some(RemarkWords {
+    Ok(Some(RemarkFields {
         line: String::from_str(alloc, beginning.line.as_str())?,
         turn: beginning.turn(),
         moves: Vec::new(alloc),

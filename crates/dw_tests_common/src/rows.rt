@@ -11,7 +11,7 @@ use std::io::{BufRead, BufReader};
 /// A question, in columns with a `|` between them, and the right answer.
 #[derive(Drop)]
 pub struct Row {
-    pub asked: String,
+    pub query: String,
     pub wanted: String,
 }
 
@@ -61,10 +61,10 @@ fn add_row(alloc: Global, rows: &mut Vec<Row>, text: &str) -> Result<(), AllocEr
             return row.wanted.push('\n');
         }
     }
-    let (asked, wanted) = text.split_once(" = ").unwrap_or((text, ""));
-    let asked = String::from_str(alloc, asked)?;
+    let (query, wanted) = text.split_once(" = ").unwrap_or((text, ""));
+    let query = String::from_str(alloc, query)?;
     let wanted = String::from_str(alloc, wanted)?;
-    rows.push(Row { asked, wanted })?;
+    rows.push(Row { query, wanted })?;
     Ok(())
 }
 

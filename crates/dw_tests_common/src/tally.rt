@@ -49,7 +49,7 @@ impl RowText {
 pub struct Tally {
     /// The answer to the present row.
     pub found: RowText,
-    asked: u32,
+    query: u32,
     right: u32,
     wrong: String,
 }
@@ -58,7 +58,7 @@ impl Tally {
     pub fn new(alloc: Global) -> Result<Tally, AllocError> {
         Ok(Tally {
             found: RowText::new(alloc)?,
-            asked: 0,
+            query: 0,
             right: 0,
             wrong: String::new(alloc),
         })
@@ -67,13 +67,13 @@ impl Tally {
     /// Ends a row: it is right if it could be asked, and its answer is whole and the wanted one.
     pub fn end(&mut self, row: &Row, answered: Option<()>) {
         let is_whole = answered.is_some() && !self.found.is_cut;
-        self.asked = self.asked.wrapping_add(1);
+        self.query = self.query.wrapping_add(1);
         if is_whole && self.found.as_str() == row.wanted.as_str() {
             self.right = self.right.wrapping_add(1);
         } else {
-            let (asked, found) = (row.asked.as_str(), self.found.text.as_str());
+            let (query, found) = (row.query.as_str(), self.found.text.as_str());
             let end = if is_whole { "" } else { " and no more" };
-            let _ = write!(self.wrong, "wrong: {asked}\n  found: {found}{end}\n");
+            let _ = write!(self.wrong, "wrong: {query}\n  found: {found}{end}\n");
         }
         self.found.text.clear();
         self.found.is_cut = false;
@@ -88,11 +88,11 @@ impl Tally {
 
     /// Writes the answer of each wrong row, and whether all rows were right. A section without rows is not.
     pub fn report(&self, rt: &impl Print, head: &str) -> io::Result<()> {
-        let (wrong, right, asked) = (self.wrong.as_str(), self.right, self.asked);
-        if asked > 0 && right == asked {
+        let (wrong, right, query) = (self.wrong.as_str(), self.right, self.query);
+        if query > 0 && right == query {
             println!(rt; "{wrong}{head}: all right")
         } else {
-            println!(rt; "{wrong}{head}: {right} of {asked} right")
+            println!(rt; "{wrong}{head}: {right} of {query} right")
         }
     }
 }

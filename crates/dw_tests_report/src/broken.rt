@@ -1,7 +1,7 @@
 //! Each read and each write failing in turn.
 ghost use Rattle.std.specs.Prelude.{◌≤◌};
 
-use crate::asked::{AMPLE, Asked};
+use crate::query::{AMPLE, Query};
 use crate::runs::{Ran, ran_with};
 use dw_board::Board;
 use dw_report::{RunFault, Settings};
@@ -41,12 +41,12 @@ fn lines_in(ended: &str, bytes: usize) -> Option<usize> {
 /// the whole texts of the problems that ended before, and with the whole report if that read is not needed.
 fn fails_at_reads<B: Board>(
     alloc: Global,
-    asked: &Asked<'_>,
+    query: &Query<'_>,
     text: &[u8],
     whole: &Ran,
     step: usize,
 ) -> Option<()> {
-    let settings = asked.settings::<B>(AMPLE)?;
+    let settings = query.settings::<B>(AMPLE)?;
     let mut ended = false;
     for reads in 0..200_u16 {
         let reader = Chopped::new(text, step, u64::from(reads) + 1, 0);
@@ -58,7 +58,7 @@ fn fails_at_reads<B: Board>(
             Narrow::new(alloc, 4096, 0),
         )?;
         ended = ended || ran.answer.is_ok();
-        let lines = lines_in(asked.column(5), step.saturating_mul(usize::from(reads)))?;
+        let lines = lines_in(query.column(5), step.saturating_mul(usize::from(reads)))?;
         let wanted = if ended {
             whole.written.as_slice()
         } else {
@@ -73,16 +73,16 @@ fn fails_at_reads<B: Board>(
 }
 
 /// Adds the report and the answer, if each read fails as it should.
-pub fn reads<B: Board>(alloc: Global, asked: &Asked<'_>, found: &mut RowText) -> Option<()> {
-    let text = unescaped(alloc, asked.column(0))?;
-    let settings = asked.settings::<B>(AMPLE)?;
+pub fn reads<B: Board>(alloc: Global, query: &Query<'_>, found: &mut RowText) -> Option<()> {
+    let text = unescaped(alloc, query.column(0))?;
+    let settings = query.settings::<B>(AMPLE)?;
     let (reader, writer) = (
         Chopped::new(text.as_slice(), 9, 0, 0),
         Narrow::new(alloc, 9, 0),
     );
     let whole = ran_with(alloc, &settings, "none", reader, writer)?;
     for step in [1, 2, 7, 10] {
-        fails_at_reads::<B>(alloc, asked, text.as_slice(), &whole, step)?;
+        fails_at_reads::<B>(alloc, query, text.as_slice(), &whole, step)?;
     }
     whole.say(found)
 }
@@ -157,9 +157,9 @@ fn fails_at_once<B: Board>(alloc: Global, settings: &Settings<B>, text: &[u8]) -
 }
 
 /// Adds the report and the answer, if each write fails as it should, and a sink that takes nothing.
-pub fn writes<B: Board>(alloc: Global, asked: &Asked<'_>, found: &mut RowText) -> Option<()> {
-    let text = unescaped(alloc, asked.column(0))?;
-    let settings = asked.settings::<B>(AMPLE)?;
+pub fn writes<B: Board>(alloc: Global, query: &Query<'_>, found: &mut RowText) -> Option<()> {
+    let text = unescaped(alloc, query.column(0))?;
+    let settings = query.settings::<B>(AMPLE)?;
     let whole = narrowed(alloc, &settings, text.as_slice(), 4096, 0)?;
     for step in [1, 5] {
         fails_at_writes(alloc, &settings, text.as_slice(), &whole, step)?;

@@ -1,7 +1,7 @@
 //! Verdicts and tries of worked problems.
 ghost use Rattle.std.specs.Prelude.{◌≤◌, IfSome};
 
-use crate::asked::{AMPLE, Asked};
+use crate::query::{AMPLE, Query};
 use crate::runs::new_memo;
 use dw_board::{Board, Position};
 use dw_memo::{AnyMemo, LruMemo, NoMemo};
@@ -77,17 +77,17 @@ fn add_answer<B: Board>(
 }
 
 /// Returns the position of a row, and within how many moves a win is looked for.
-fn question<B: Board>(asked: &Asked<'_>) -> Option<(Position<B>, u8)>
+fn question<B: Board>(query: &Query<'_>) -> Option<(Position<B>, u8)>
     ensures some { IfSome result (λ read. 1 ≤ read.1) }
     ensures few { IfSome result (λ read. read.1 ≤ 20) }
 {
-    let position = read_position(asked.column(0))?;
-    Some((position, asked.moves()?))
+    let position = read_position(query.column(0))?;
+    Some((position, query.moves()?))
 }
 
 /// Adds the verdict on a position, without a memo.
-pub fn judged<B: Board>(alloc: Global, asked: &Asked<'_>, found: &mut RowText) -> Option<()> {
-    let (position, moves) = question::<B>(asked)?;
+pub fn judged<B: Board>(alloc: Global, query: &Query<'_>, found: &mut RowText) -> Option<()> {
+    let (position, moves) = question::<B>(query)?;
     let memo = AnyMemo::None(NoMemo::new());
     let mut solver = Solver::<B, AnyMemo<B>, ByTrial>::new(memo, ByTrial, AMPLE);
     if add_answer(alloc, &mut solver, &position, moves, found)? {
@@ -98,8 +98,8 @@ pub fn judged<B: Board>(alloc: Global, asked: &Asked<'_>, found: &mut RowText) -
 }
 
 /// Adds the verdict under limits that rise by one, with a memo: the solver is asked again until it has an answer.
-pub fn stopped<B: Board>(alloc: Global, asked: &Asked<'_>, found: &mut RowText) -> Option<()> {
-    let (position, moves) = question::<B>(asked)?;
+pub fn stopped<B: Board>(alloc: Global, query: &Query<'_>, found: &mut RowText) -> Option<()> {
+    let (position, moves) = question::<B>(query)?;
     let memo = AnyMemo::Lru(LruMemo::new(alloc, 1_000).ok()?);
     let mut solver = Solver::<B, AnyMemo<B>, ByTrial>::new(memo, ByTrial, 1);
     add_at_last(alloc, &mut solver, &position, moves, found)
@@ -107,9 +107,9 @@ pub fn stopped<B: Board>(alloc: Global, asked: &Asked<'_>, found: &mut RowText) 
 
 /// Adds the verdict with the memo of the head. If memory is refused, it is asked for again (`checks/refused_search.py`
 /// refuses memory).
-pub fn refused<B: Board>(alloc: Global, asked: &Asked<'_>, found: &mut RowText) -> Option<()> {
-    let (position, moves) = question::<B>(asked)?;
-    let name = word(asked.head, 4);
+pub fn refused<B: Board>(alloc: Global, query: &Query<'_>, found: &mut RowText) -> Option<()> {
+    let (position, moves) = question::<B>(query)?;
+    let name = word(query.head, 4);
     let memo = match new_memo(alloc, name) {
         Some(memo) => memo,
         None => new_memo(alloc, name)?,

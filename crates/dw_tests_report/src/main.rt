@@ -5,20 +5,20 @@
 //! turn.
 #![tactic(auto)]
 
-mod asked;
 mod broken;
 mod judged;
 mod movetexts;
 mod plain;
+mod query;
 mod reports;
 mod row_kind;
 mod runs;
 
-use asked::Asked;
 use dw_board::{Board, Eight, Ten};
 use dw_tests_common::rows::{Section, input_sections, word};
 use dw_tests_common::six::Six;
 use dw_tests_common::tally::{RowText, Tally};
+use query::Query;
 use row_kind::RowKind;
 use std::alloc::{AllocError, Global};
 use std::io;
@@ -43,12 +43,12 @@ fn ask_section(alloc: Global, section: &Section) -> Result<Tally, AllocError> {
 /// Asks all rows of a section, on its board.
 fn ask_rows(alloc: Global, kind: Option<RowKind>, section: &Section, tally: &mut Tally) {
     for row in section.rows.as_slice() {
-        let asked = Asked::new(section, row);
+        let query = Query::new(section, row);
         let found = &mut tally.found;
-        let answered = match (kind, word(asked.head, 1)) {
-            (Some(kind), "10") => answer::<Ten>(alloc, kind, &asked, found),
-            (Some(kind), "8") => answer::<Eight>(alloc, kind, &asked, found),
-            (Some(kind), "6") => answer::<Six>(alloc, kind, &asked, found),
+        let answered = match (kind, word(query.head, 1)) {
+            (Some(kind), "10") => answer::<Ten>(alloc, kind, &query, found),
+            (Some(kind), "8") => answer::<Eight>(alloc, kind, &query, found),
+            (Some(kind), "6") => answer::<Six>(alloc, kind, &query, found),
             _ => None,
         };
         tally.end(row, answered);
@@ -59,21 +59,21 @@ fn ask_rows(alloc: Global, kind: Option<RowKind>, section: &Section, tally: &mut
 fn answer<B: Board>(
     alloc: Global,
     kind: RowKind,
-    asked: &Asked<'_>,
+    query: &Query<'_>,
     found: &mut RowText,
 ) -> Option<()> {
     match kind {
-        RowKind::Judge => judged::judged::<B>(alloc, asked, found),
-        RowKind::Stopped => judged::stopped::<B>(alloc, asked, found),
-        RowKind::Refused => judged::refused::<B>(alloc, asked, found),
-        RowKind::Run => reports::whole::<B>(alloc, asked, found),
-        RowKind::Limits => reports::limits::<B>(alloc, asked, found),
-        RowKind::Reads => broken::reads::<B>(alloc, asked, found),
-        RowKind::Writes => broken::writes::<B>(alloc, asked, found),
-        RowKind::Changed => reports::changed::<B>(alloc, asked, found),
-        RowKind::Many => plain::many::<B>(alloc, asked, found),
-        RowKind::Chosen => plain::chosen::<B>(asked, found),
-        RowKind::Movetext => movetexts::written::<B>(alloc, asked, found),
+        RowKind::Judge => judged::judged::<B>(alloc, query, found),
+        RowKind::Stopped => judged::stopped::<B>(alloc, query, found),
+        RowKind::Refused => judged::refused::<B>(alloc, query, found),
+        RowKind::Run => reports::whole::<B>(alloc, query, found),
+        RowKind::Limits => reports::limits::<B>(alloc, query, found),
+        RowKind::Reads => broken::reads::<B>(alloc, query, found),
+        RowKind::Writes => broken::writes::<B>(alloc, query, found),
+        RowKind::Changed => reports::changed::<B>(alloc, query, found),
+        RowKind::Many => plain::many::<B>(alloc, query, found),
+        RowKind::Chosen => plain::chosen::<B>(query, found),
+        RowKind::Movetext => movetexts::written::<B>(alloc, query, found),
         RowKind::Law => {
             plain::law(found);
             Some(())

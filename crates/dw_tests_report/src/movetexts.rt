@@ -1,6 +1,6 @@
 //! Movetexts of worked solutions.
 
-use crate::asked::{AMPLE, Asked};
+use crate::query::{AMPLE, Query};
 use dw_board::{Board, Position};
 use dw_memo::NoMemo;
 use dw_solution::movetext::movetext;
@@ -23,11 +23,11 @@ fn kind_named(name: &str) -> Option<VerdictKind> {
 }
 
 /// Adds the movetext of a row, `POSITION | NUMBER OF MOVES | MOST LINES | VERDICT`, with a line feed after it.
-pub fn written<B: Board>(alloc: Global, asked: &Asked<'_>, found: &mut RowText) -> Option<()> {
-    let position: Position<B> = read_position(asked.column(0))?;
-    let moves = MoveCount::new(asked.moves()?)?;
-    let most = asked.column(2).parse::<usize>().ok()?;
-    let kind = kind_named(asked.column(3))?;
+pub fn written<B: Board>(alloc: Global, query: &Query<'_>, found: &mut RowText) -> Option<()> {
+    let position: Position<B> = read_position(query.column(0))?;
+    let moves = MoveCount::new(query.moves()?)?;
+    let most = query.column(2).parse::<usize>().ok()?;
+    let kind = kind_named(query.column(3))?;
     let mut solver = Solver::new(NoMemo::new(), ByTrial, AMPLE);
     let first = first_lines(alloc, &mut solver, &position, moves, most).ok()?;
     let moves = moves.value;

@@ -1,6 +1,6 @@
 //! A run over too many problems; which problems are chosen; the laws.
 
-use crate::asked::{AMPLE, Asked};
+use crate::query::{AMPLE, Query};
 use crate::runs::Ran;
 use dw_board::Board;
 use dw_memo::{AnyMemo, NoMemo};
@@ -13,9 +13,9 @@ use dw_tests_common::tally::RowText;
 use std::alloc::Global;
 
 /// Adds the report on a text of many lines, each of one letter that names no position.
-pub fn many<B: Board>(alloc: Global, asked: &Asked<'_>, found: &mut RowText) -> Option<()> {
-    let lines = asked.column(0).parse::<u32>().ok()?;
-    let settings = asked.settings::<B>(AMPLE)?;
+pub fn many<B: Board>(alloc: Global, query: &Query<'_>, found: &mut RowText) -> Option<()> {
+    let lines = query.column(0).parse::<u32>().ok()?;
+    let settings = query.settings::<B>(AMPLE)?;
     let mut source = Reading::new(Repeated::new(b"a\n", lines));
     let mut sink = Writing::new(Narrow::new(alloc, 4096, 0));
     let memo = AnyMemo::None(NoMemo::new());
@@ -25,9 +25,9 @@ pub fn many<B: Board>(alloc: Global, asked: &Asked<'_>, found: &mut RowText) -> 
 }
 
 /// Adds whether the problem of a number is reported, and whether it is the one that was asked for.
-pub fn chosen<B: Board>(asked: &Asked<'_>, found: &mut RowText) -> Option<()> {
-    let settings = asked.settings::<B>(AMPLE)?;
-    let number = asked.column(0).parse::<u32>().ok()?;
+pub fn chosen<B: Board>(query: &Query<'_>, found: &mut RowText) -> Option<()> {
+    let settings = query.settings::<B>(AMPLE)?;
+    let number = query.column(0).parse::<u32>().ok()?;
     found.add(if settings.chooses(number) {
         "reported"
     } else {

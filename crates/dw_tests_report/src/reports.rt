@@ -1,7 +1,7 @@
 //! Worked reports: in pieces of any size, with each memo, under each limit, and of texts that are changed.
 ghost use Rattle.std.specs.Prelude.{◌≤◌};
 
-use crate::asked::{AMPLE, Asked};
+use crate::query::{AMPLE, Query};
 use crate::runs::{Ran, ran_with};
 use dw_board::Board;
 use dw_report::{RunFault, Settings, Stop};
@@ -51,12 +51,12 @@ fn same_with<B: Board>(
 }
 
 /// Adds the report and the answer, which are the same with each memo and in pieces of any size.
-pub fn whole<B: Board>(alloc: Global, asked: &Asked<'_>, found: &mut RowText) -> Option<()> {
-    let text = unescaped(alloc, asked.column(0))?;
-    let settings = asked.settings::<B>(AMPLE)?;
+pub fn whole<B: Board>(alloc: Global, query: &Query<'_>, found: &mut RowText) -> Option<()> {
+    let text = unescaped(alloc, query.column(0))?;
+    let settings = query.settings::<B>(AMPLE)?;
     let first = in_pieces(alloc, &settings, "none", text.as_slice(), 4096)?;
     first.say(found)?;
-    for memo in word(asked.head, 4).split(',') {
+    for memo in word(query.head, 4).split(',') {
         same_with(alloc, &settings, memo, text.as_slice(), &first)?;
     }
     Some(())
@@ -78,20 +78,20 @@ fn is_stopped(ran: &Ran, whole: &[u8], limit: u64, most: usize) -> bool {
 }
 
 /// Returns a run with no memo, under this limit of expansions.
-fn limited<B: Board>(alloc: Global, asked: &Asked<'_>, text: &[u8], limit: u64) -> Option<Ran> {
-    let settings = asked.settings::<B>(limit)?;
+fn limited<B: Board>(alloc: Global, query: &Query<'_>, text: &[u8], limit: u64) -> Option<Ran> {
+    let settings = query.settings::<B>(limit)?;
     in_pieces(alloc, &settings, "none", text, 4096)
 }
 
 /// Adds the report and the answer, if runs under the limits from 1 to 199 are stopped as they should be, and from some
 /// limit on are all whole.
-pub fn limits<B: Board>(alloc: Global, asked: &Asked<'_>, found: &mut RowText) -> Option<()> {
-    let text = unescaped(alloc, asked.column(0))?;
-    let whole = limited::<B>(alloc, asked, text.as_slice(), AMPLE)?;
+pub fn limits<B: Board>(alloc: Global, query: &Query<'_>, found: &mut RowText) -> Option<()> {
+    let text = unescaped(alloc, query.column(0))?;
+    let whole = limited::<B>(alloc, query, text.as_slice(), AMPLE)?;
     let mut ended = false;
     let mut most = 0;
     for limit in 1..200 {
-        let ran = limited::<B>(alloc, asked, text.as_slice(), limit)?;
+        let ran = limited::<B>(alloc, query, text.as_slice(), limit)?;
         ended = ended || ran.answer.is_ok();
         let is_right = if ended {
             ran.is_same(&whole)
@@ -144,9 +144,9 @@ fn reported_with<B: Board>(
 }
 
 /// Adds how many texts have a report, if each byte of a text is changed in turn to each mark of the form.
-pub fn changed<B: Board>(alloc: Global, asked: &Asked<'_>, found: &mut RowText) -> Option<()> {
-    let mut text = unescaped(alloc, asked.column(0))?;
-    let settings = asked.settings::<B>(AMPLE)?;
+pub fn changed<B: Board>(alloc: Global, query: &Query<'_>, found: &mut RowText) -> Option<()> {
+    let mut text = unescaped(alloc, query.column(0))?;
+    let settings = query.settings::<B>(AMPLE)?;
     let mut count = 0_u32;
     for place in 0..text.len() {
         for mark in [b'[', b']', b'{', b'}', b'"', b'\\'] {

@@ -21,8 +21,8 @@ const SHOWN: usize = 100;
 
 /// Adds the games of a text: the problem of each, and its movetext. Whatever the pieces in which the text is read, it
 /// has the same games.
-pub fn games<B: Board>(alloc: Global, asked: &str, found: &mut RowText) -> Option<()> {
-    let text = whole_text(alloc, asked)?;
+pub fn games<B: Board>(alloc: Global, query: &str, found: &mut RowText) -> Option<()> {
+    let text = whole_text(alloc, query)?;
     add_games::<B, _>(alloc, text.as_slice(), found)?;
     for step in [1, 2, 3, 7, 1000, 4096] {
         let mut chopped = RowText::new(alloc).ok()?;
@@ -40,11 +40,11 @@ pub fn games<B: Board>(alloc: Global, asked: &str, found: &mut RowText) -> Optio
 
 /// Adds the games of a text that is read in pieces. A row has the text, the bytes of each read, the number of the read
 /// that fails, and that of the read that gives nothing, which is the end.
-pub fn broken<B: Board>(alloc: Global, asked: &str, found: &mut RowText) -> Option<()> {
-    let text = unescaped(alloc, column(asked, 0))?;
-    let step = column(asked, 1).parse::<usize>().ok()?;
-    let fails_at = column(asked, 2).parse::<u64>().ok()?;
-    let pauses_at = column(asked, 3).parse::<u64>().ok()?;
+pub fn broken<B: Board>(alloc: Global, query: &str, found: &mut RowText) -> Option<()> {
+    let text = unescaped(alloc, column(query, 0))?;
+    let step = column(query, 1).parse::<usize>().ok()?;
+    let fails_at = column(query, 2).parse::<u64>().ok()?;
+    let pauses_at = column(query, 3).parse::<u64>().ok()?;
     let reader = Chopped::new(text.as_slice(), step, fails_at, pauses_at);
     add_games::<B, _>(alloc, reader, found)
 }
@@ -99,24 +99,24 @@ fn add_game<B: Board>(game: &Game<B>, found: &mut RowText) {
 const MOST_STEPS: usize = 1_000;
 
 /// Adds the tree of a movetext, or its first fault. The text stands in quotes.
-pub fn movetext<B: Board>(alloc: Global, asked: &str, found: &mut RowText) -> Option<()> {
-    let text = column(asked, 1).strip_prefix('"')?.strip_suffix('"')?;
+pub fn movetext<B: Board>(alloc: Global, query: &str, found: &mut RowText) -> Option<()> {
+    let text = column(query, 1).strip_prefix('"')?.strip_suffix('"')?;
     add_read::<B>(
         alloc,
-        column(asked, 0),
+        column(query, 0),
         unescaped(alloc, text)?.as_slice(),
         found,
     )
 }
 
 /// Adds the tree of a movetext that repeats a text, or its first fault.
-pub fn repeated<B: Board>(alloc: Global, asked: &str, found: &mut RowText) -> Option<()> {
-    let part = column(asked, 1).strip_prefix('"')?.strip_suffix('"')?;
+pub fn repeated<B: Board>(alloc: Global, query: &str, found: &mut RowText) -> Option<()> {
+    let part = column(query, 1).strip_prefix('"')?.strip_suffix('"')?;
     let mut text = Vec::<u8>::new(alloc);
-    for _ in 0..column(asked, 2).parse::<u32>().ok()? {
+    for _ in 0..column(query, 2).parse::<u32>().ok()? {
         text.extend_from_slice(part.as_bytes()).ok()?;
     }
-    add_read::<B>(alloc, column(asked, 0), text.as_slice(), found)
+    add_read::<B>(alloc, column(query, 0), text.as_slice(), found)
 }
 
 /// Adds the tree of a movetext at a position, or its first fault.
@@ -130,10 +130,10 @@ fn add_read<B: Board>(alloc: Global, fen: &str, text: &[u8], found: &mut RowText
 
 /// Adds the position that a tree starts from, and the one after each move of its main line. The movetext stands in
 /// quotes.
-pub fn main_line<B: Board>(alloc: Global, asked: &str, found: &mut RowText) -> Option<()> {
-    let quoted = column(asked, 1).strip_prefix('"')?.strip_suffix('"')?;
+pub fn main_line<B: Board>(alloc: Global, query: &str, found: &mut RowText) -> Option<()> {
+    let quoted = column(query, 1).strip_prefix('"')?.strip_suffix('"')?;
     let text = unescaped(alloc, quoted)?;
-    let position = read_position::<B>(column(asked, 0))?;
+    let position = read_position::<B>(column(query, 0))?;
     let tree = read_movetext(alloc, &position, text.as_slice()).ok()?;
     found.add(fen_text(&tree.start()).as_str());
     let mut last = None;
@@ -150,10 +150,10 @@ pub fn main_line<B: Board>(alloc: Global, asked: &str, found: &mut RowText) -> O
 
 /// Adds the moves of a written line by their ends, or the number of its first fault and the fault. The text stands in
 /// quotes.
-pub fn written_line<B: Board>(alloc: Global, asked: &str, found: &mut RowText) -> Option<()> {
-    let quoted = column(asked, 1).strip_prefix('"')?.strip_suffix('"')?;
+pub fn written_line<B: Board>(alloc: Global, query: &str, found: &mut RowText) -> Option<()> {
+    let quoted = column(query, 1).strip_prefix('"')?.strip_suffix('"')?;
     let text = unescaped(alloc, quoted)?;
-    let position = read_position::<B>(column(asked, 0))?;
+    let position = read_position::<B>(column(query, 0))?;
     match read_line(alloc, &position, text.as_slice()) {
         Ok(line) => {
             for mv in line.as_slice() {

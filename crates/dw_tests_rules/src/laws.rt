@@ -44,6 +44,6 @@ pub fn law(found: &mut RowText) {
     games::games_say_problems();
     games::games_tell_sections();
     games::texts_have_games();
-    games::told_is_enough();
+    games::prefix_is_enough();
     found.add("called");
 }

@@ -14,9 +14,9 @@ use dw_tests_common::texts::{add_step, read_legal, read_position};
 use std::alloc::Global;
 
 /// Adds the position after the move that a text names, or why there is none. The text stands in quotes.
-pub fn named<B: Board>(alloc: Global, asked: &str, found: &mut RowText) -> Option<()> {
-    let position = read_position::<B>(column(asked, 0))?;
-    let text = column(asked, 1).strip_prefix('"')?.strip_suffix('"')?;
+pub fn named<B: Board>(alloc: Global, query: &str, found: &mut RowText) -> Option<()> {
+    let position = read_position::<B>(column(query, 0))?;
+    let text = column(query, 1).strip_prefix('"')?.strip_suffix('"')?;
     match read_move(alloc, &position, text.as_bytes()) {
         Ok(step) if is_legal(&position, &step) => {
             found.add(fen_text(&play(&position, &step)).as_str());
@@ -28,11 +28,11 @@ pub fn named<B: Board>(alloc: Global, asked: &str, found: &mut RowText) -> Optio
 }
 
 /// Adds the move that a text names. If memory is refused, it is read again, but only if it may take memory at all.
-pub fn refused<B: Board>(alloc: Global, asked: &str, found: &mut RowText) -> Option<()> {
-    let position = read_position::<B>(column(asked, 0))?;
-    let text = column(asked, 1).as_bytes();
+pub fn refused<B: Board>(alloc: Global, query: &str, found: &mut RowText) -> Option<()> {
+    let position = read_position::<B>(column(query, 0))?;
+    let text = column(query, 1).as_bytes();
     let mut answer = read_move(alloc, &position, text);
-    if answer == Err(MoveFault::Memory) && column(asked, 2) == "takes memory" {
+    if answer == Err(MoveFault::Memory) && column(query, 2) == "takes memory" {
         answer = read_move(alloc, &position, text);
     }
     match answer {
@@ -43,12 +43,12 @@ pub fn refused<B: Board>(alloc: Global, asked: &str, found: &mut RowText) -> Opt
 }
 
 /// Adds the texts of all moves in order.
-pub fn texts<B: Board>(alloc: Global, asked: &str, found: &mut RowText) -> Option<()> {
-    if asked == "refused memory" {
+pub fn texts<B: Board>(alloc: Global, query: &str, found: &mut RowText) -> Option<()> {
+    if query == "refused memory" {
         found.say(&MoveFault::Memory);
         return Some(());
     }
-    let list = listed(alloc, &read_position::<B>(asked)?).ok()?;
+    let list = listed(alloc, &read_position::<B>(query)?).ok()?;
     for place in 0..list.len() {
         found.add(move_text(list.as_slice(), place).as_str());
         found.add(" ");
@@ -58,9 +58,9 @@ pub fn texts<B: Board>(alloc: Global, asked: &str, found: &mut RowText) -> Optio
 }
 
 /// Adds the text of a line of three moves, of one or of none, whose moves are given by their texts.
-pub fn line<B: Board>(alloc: Global, asked: &str, found: &mut RowText) -> Option<()> {
-    let position = read_position::<B>(column(asked, 0))?;
-    let words = column(asked, 1);
+pub fn line<B: Board>(alloc: Global, query: &str, found: &mut RowText) -> Option<()> {
+    let position = read_position::<B>(column(query, 0))?;
+    let words = column(query, 1);
     if words.contains(' ') {
         return three::<B>(alloc, &position, words, found);
     }

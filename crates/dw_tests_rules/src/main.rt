@@ -47,12 +47,12 @@ fn ask_section(alloc: Global, section: &Section) -> Result<Tally, AllocError> {
 fn ask_rows(alloc: Global, section: &Section, board: &str, tally: &mut Tally) {
     let kind = RowKind::named(word(section.head.as_str(), 0));
     for row in section.rows.as_slice() {
-        let asked = row.asked.as_str();
+        let query = row.query.as_str();
         let found = &mut tally.found;
         let answered = match (kind, board) {
-            (Some(kind), "10") => answer::<Ten>(alloc, kind, asked, found),
-            (Some(kind), "8") => answer::<Eight>(alloc, kind, asked, found),
-            (Some(kind), "6") => answer::<Six>(alloc, kind, asked, found),
+            (Some(kind), "10") => answer::<Ten>(alloc, kind, query, found),
+            (Some(kind), "8") => answer::<Eight>(alloc, kind, query, found),
+            (Some(kind), "6") => answer::<Six>(alloc, kind, query, found),
             _ => None,
         };
         tally.end(row, answered);
@@ -60,46 +60,46 @@ fn ask_rows(alloc: Global, section: &Section, board: &str, tally: &mut Tally) {
 }
 
 /// Writes what is found for a row.
-fn answer<B: Board>(alloc: Global, kind: RowKind, asked: &str, found: &mut RowText) -> Option<()> {
+fn answer<B: Board>(alloc: Global, kind: RowKind, query: &str, found: &mut RowText) -> Option<()> {
     match kind {
-        RowKind::Square => squares::square::<B>(asked, found),
-        RowKind::Set => squares::set::<B>(asked, found),
-        RowKind::Sets => squares::sets::<B>(asked, found),
-        RowKind::One => squares::one::<B>(asked, found),
-        RowKind::SameSets => squares::same::<B>(asked, found),
-        RowKind::Step => squares::one_step::<B>(asked, found),
-        RowKind::Put => positions::put::<B>(asked, found),
-        RowKind::Pieces => positions::pieces::<B>(asked, found),
-        RowKind::Clear => positions::clear::<B>(asked, found),
-        RowKind::Turn => positions::turn::<B>(asked, found),
-        RowKind::Drawn => positions::drawn::<B>(asked, found),
-        RowKind::Fen => positions::fen::<B>(alloc, asked, found),
-        RowKind::Glance => moves::glance::<B>(asked, found),
-        RowKind::Count => moves::count::<B>(alloc, asked, found),
-        RowKind::Play => moves::played::<B>(alloc, asked, found),
-        RowKind::Same => moves::same::<B>(asked, found),
-        RowKind::Path => moves::path::<B>(alloc, asked, found),
-        RowKind::List => moves::list::<B>(alloc, asked, found),
-        RowKind::Again => moves::again::<B>(alloc, asked, found),
-        RowKind::Named => lines::named::<B>(alloc, asked, found),
-        RowKind::Refused => lines::refused::<B>(alloc, asked, found),
-        RowKind::Texts => lines::texts::<B>(alloc, asked, found),
-        RowKind::Line => lines::line::<B>(alloc, asked, found),
-        RowKind::Fens => problems::pieces::<B>(alloc, Form::Fens, asked, found),
-        RowKind::Pdn => problems::pieces::<B>(alloc, Form::Pdn, asked, found),
-        RowKind::BrokenFens => problems::broken::<B>(alloc, Form::Fens, asked, found),
-        RowKind::BrokenPdn => problems::broken::<B>(alloc, Form::Pdn, asked, found),
-        RowKind::Many => problems::many::<B>(asked, found),
-        RowKind::Write => streams::write(alloc, asked, found),
-        RowKind::Games => games::games::<B>(alloc, asked, found),
-        RowKind::BrokenGames => games::broken::<B>(alloc, asked, found),
-        RowKind::GameTags => tags::of_games::<B>(alloc, asked, found),
-        RowKind::Tags => tags::of_text(alloc, asked, found),
-        RowKind::NamedValue => tags::named_value(alloc, asked, found),
-        RowKind::Movetext => games::movetext::<B>(alloc, asked, found),
-        RowKind::Repeated => games::repeated::<B>(alloc, asked, found),
-        RowKind::MainLine => games::main_line::<B>(alloc, asked, found),
-        RowKind::WrittenLine => games::written_line::<B>(alloc, asked, found),
+        RowKind::Square => squares::square::<B>(query, found),
+        RowKind::Set => squares::set::<B>(query, found),
+        RowKind::Sets => squares::sets::<B>(query, found),
+        RowKind::One => squares::one::<B>(query, found),
+        RowKind::SameSets => squares::same::<B>(query, found),
+        RowKind::Step => squares::one_step::<B>(query, found),
+        RowKind::Put => positions::put::<B>(query, found),
+        RowKind::Pieces => positions::pieces::<B>(query, found),
+        RowKind::Clear => positions::clear::<B>(query, found),
+        RowKind::Turn => positions::turn::<B>(query, found),
+        RowKind::Drawn => positions::drawn::<B>(query, found),
+        RowKind::Fen => positions::fen::<B>(alloc, query, found),
+        RowKind::Glance => moves::glance::<B>(query, found),
+        RowKind::Count => moves::count::<B>(alloc, query, found),
+        RowKind::Play => moves::played::<B>(alloc, query, found),
+        RowKind::Same => moves::same::<B>(query, found),
+        RowKind::Path => moves::path::<B>(alloc, query, found),
+        RowKind::List => moves::list::<B>(alloc, query, found),
+        RowKind::Again => moves::again::<B>(alloc, query, found),
+        RowKind::Named => lines::named::<B>(alloc, query, found),
+        RowKind::Refused => lines::refused::<B>(alloc, query, found),
+        RowKind::Texts => lines::texts::<B>(alloc, query, found),
+        RowKind::Line => lines::line::<B>(alloc, query, found),
+        RowKind::Fens => problems::pieces::<B>(alloc, Form::Fens, query, found),
+        RowKind::Pdn => problems::pieces::<B>(alloc, Form::Pdn, query, found),
+        RowKind::BrokenFens => problems::broken::<B>(alloc, Form::Fens, query, found),
+        RowKind::BrokenPdn => problems::broken::<B>(alloc, Form::Pdn, query, found),
+        RowKind::Many => problems::many::<B>(query, found),
+        RowKind::Write => streams::write(alloc, query, found),
+        RowKind::Games => games::games::<B>(alloc, query, found),
+        RowKind::BrokenGames => games::broken::<B>(alloc, query, found),
+        RowKind::GameTags => tags::of_games::<B>(alloc, query, found),
+        RowKind::Tags => tags::of_text(alloc, query, found),
+        RowKind::NamedValue => tags::named_value(alloc, query, found),
+        RowKind::Movetext => games::movetext::<B>(alloc, query, found),
+        RowKind::Repeated => games::repeated::<B>(alloc, query, found),
+        RowKind::MainLine => games::main_line::<B>(alloc, query, found),
+        RowKind::WrittenLine => games::written_line::<B>(alloc, query, found),
         RowKind::Law => {
             laws::law(found);
             Some(())

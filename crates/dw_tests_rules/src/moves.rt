@@ -17,8 +17,8 @@ use std::alloc::Global;
 
 /// Adds the squares to which pieces of the other side could go one square, and whether it is seen at a glance that it
 /// has a reply to every move.
-pub fn glance<B: Board>(asked: &str, found: &mut RowText) -> Option<()> {
-    let position = read_position::<B>(asked)?;
+pub fn glance<B: Board>(query: &str, found: &mut RowText) -> Option<()> {
+    let position = read_position::<B>(query)?;
     add_set(other_steps(&position), found);
     found.add(", sure ");
     found.say(&has_sure_reply(&position));
@@ -27,8 +27,8 @@ pub fn glance<B: Board>(asked: &str, found: &mut RowText) -> Option<()> {
 
 /// Adds how many pieces each move takes, whether any does, and where those end; how many quiet moves there are, also if
 /// one must capture, and if nothing can be taken; how many legal moves, and whether there is any.
-pub fn count<B: Board>(alloc: Global, asked: &str, found: &mut RowText) -> Option<()> {
-    let position = read_position::<B>(asked)?;
+pub fn count<B: Board>(alloc: Global, query: &str, found: &mut RowText) -> Option<()> {
+    let position = read_position::<B>(query)?;
     found.add("takes ");
     found.say(&best(&position));
     found.add(" ");
@@ -50,9 +50,9 @@ pub fn count<B: Board>(alloc: Global, asked: &str, found: &mut RowText) -> Optio
 }
 
 /// Adds the position after a move, if it is legal; just then it is in the list of legal moves.
-pub fn played<B: Board>(alloc: Global, asked: &str, found: &mut RowText) -> Option<()> {
-    let position = read_position::<B>(column(asked, 0))?;
-    let step = step_of(column(asked, 1))?;
+pub fn played<B: Board>(alloc: Global, query: &str, found: &mut RowText) -> Option<()> {
+    let position = read_position::<B>(column(query, 0))?;
+    let step = step_of(column(query, 1))?;
     let is_listed = legal(alloc, &position).ok()?.contains(&step);
     if is_legal(&position, &step) {
         found.add(fen_text(&play(&position, &step)).as_str());
@@ -68,12 +68,12 @@ pub fn played<B: Board>(alloc: Global, asked: &str, found: &mut RowText) -> Opti
 }
 
 /// Adds whether two moves are the same, asked in two ways; the first may be the default.
-pub fn same<B: Board>(asked: &str, found: &mut RowText) -> Option<()> {
-    let left = match column(asked, 0) {
+pub fn same<B: Board>(query: &str, found: &mut RowText) -> Option<()> {
+    let left = match column(query, 0) {
         "default" => Move::<B>::default(),
         text => step_of(text)?,
     };
-    let right = step_of(column(asked, 1))?;
+    let right = step_of(column(query, 1))?;
     found.say(&same_move(&left, &right));
     found.add(" ");
     found.say(&(left == right));
@@ -92,9 +92,9 @@ fn squares_of<B: Board>(alloc: Global, text: &str) -> Option<Vec<Square<B>>> {
 }
 
 /// Adds the squares that the move along a path takes.
-pub fn path<B: Board>(alloc: Global, asked: &str, found: &mut RowText) -> Option<()> {
-    let position = read_position::<B>(column(asked, 0))?;
-    let squares = squares_of(alloc, column(asked, 1))?;
+pub fn path<B: Board>(alloc: Global, query: &str, found: &mut RowText) -> Option<()> {
+    let position = read_position::<B>(column(query, 0))?;
+    let squares = squares_of(alloc, column(query, 1))?;
     match follow(&position, squares.as_slice()) {
         Some(step) => add_set(step.taken, found),
         None => found.add("no path"),
@@ -116,8 +116,8 @@ fn add_list<B: Board>(list: &[Listed<B>], found: &mut RowText) {
 }
 
 /// Adds the number of moves of a position, and all of them in order.
-pub fn list<B: Board>(alloc: Global, asked: &str, found: &mut RowText) -> Option<()> {
-    let list = listed(alloc, &read_position::<B>(asked)?).ok()?;
+pub fn list<B: Board>(alloc: Global, query: &str, found: &mut RowText) -> Option<()> {
+    let list = listed(alloc, &read_position::<B>(query)?).ok()?;
     found.say(&list.len());
     found.add(" moves\n");
     add_list(list.as_slice(), found);
@@ -138,9 +138,9 @@ fn fill<B: Board>(
 }
 
 /// Fills lists with the moves of one position and then of another, and adds whether that took more memory.
-pub fn again<B: Board>(alloc: Global, asked: &str, found: &mut RowText) -> Option<()> {
-    let first = read_position::<B>(column(asked, 0))?;
-    let second = read_position::<B>(column(asked, 1))?;
+pub fn again<B: Board>(alloc: Global, query: &str, found: &mut RowText) -> Option<()> {
+    let first = read_position::<B>(column(query, 0))?;
+    let second = read_position::<B>(column(query, 1))?;
     let (mut moves, mut list) = (Vec::new(alloc), Vec::new(alloc));
     fill(&first, &mut moves, &mut list, found)?;
     let (room, listed_room) = (moves.capacity(), list.capacity());

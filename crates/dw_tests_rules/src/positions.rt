@@ -42,10 +42,10 @@ fn placed<B: Board>(text: &str) -> Option<Position<B>> {
 }
 
 /// Adds the position after a piece was put, or why it is refused; a refusal changes nothing.
-pub fn put<B: Board>(asked: &str, found: &mut RowText) -> Option<()> {
-    let start = placed::<B>(column(asked, 0))?;
-    let piece = piece_of(word(column(asked, 1), 0))?;
-    let square = square_of(word(column(asked, 1), 1))?;
+pub fn put<B: Board>(query: &str, found: &mut RowText) -> Option<()> {
+    let start = placed::<B>(column(query, 0))?;
+    let piece = piece_of(word(column(query, 1), 0))?;
+    let square = square_of(word(column(query, 1), 1))?;
     let mut position = start;
     match position.put(square, piece) {
         Ok(()) => found.add(fen_text(&position).as_str()),
@@ -56,8 +56,8 @@ pub fn put<B: Board>(asked: &str, found: &mut RowText) -> Option<()> {
 }
 
 /// Adds where the pieces stand, and how many there are.
-pub fn pieces<B: Board>(asked: &str, found: &mut RowText) -> Option<()> {
-    let position = placed::<B>(asked)?;
+pub fn pieces<B: Board>(query: &str, found: &mut RowText) -> Option<()> {
+    let position = placed::<B>(query)?;
     for side in [Side::White, Side::Black] {
         found.say(&position.count(side));
         found.add(" pieces, men ");
@@ -70,9 +70,9 @@ pub fn pieces<B: Board>(asked: &str, found: &mut RowText) -> Option<()> {
 }
 
 /// Adds what stood on a square that is cleared, and the position after it.
-pub fn clear<B: Board>(asked: &str, found: &mut RowText) -> Option<()> {
-    let mut position = placed::<B>(column(asked, 0))?;
-    let square = square_of(column(asked, 1))?;
+pub fn clear<B: Board>(query: &str, found: &mut RowText) -> Option<()> {
+    let mut position = placed::<B>(column(query, 0))?;
+    let square = square_of(column(query, 1))?;
     let stood = position.at(square);
     if position.clear(square) != stood || position.at(square).is_some() {
         return None;
@@ -85,10 +85,10 @@ pub fn clear<B: Board>(asked: &str, found: &mut RowText) -> Option<()> {
 
 /// Adds the position when it is that side's turn, how the one before compares with it, whether they are the same, and
 /// whose turn it is not.
-pub fn turn<B: Board>(asked: &str, found: &mut RowText) -> Option<()> {
-    let before = placed::<B>(column(asked, 0))?;
+pub fn turn<B: Board>(query: &str, found: &mut RowText) -> Option<()> {
+    let before = placed::<B>(column(query, 0))?;
     let mut position = before;
-    position.set_turn(side_of(column(asked, 1))?);
+    position.set_turn(side_of(column(query, 1))?);
     found.add(fen_text(&position).as_str());
     found.add(" ");
     found.show(&before.cmp(&position));
@@ -100,8 +100,8 @@ pub fn turn<B: Board>(asked: &str, found: &mut RowText) -> Option<()> {
 }
 
 /// Adds the written FEN and the diagram.
-pub fn drawn<B: Board>(asked: &str, found: &mut RowText) -> Option<()> {
-    let position = placed::<B>(asked)?;
+pub fn drawn<B: Board>(query: &str, found: &mut RowText) -> Option<()> {
+    let position = placed::<B>(query)?;
     found.add(fen_text(&position).as_str());
     found.add("\n");
     found.add(diagram(&position).as_str());
@@ -109,9 +109,9 @@ pub fn drawn<B: Board>(asked: &str, found: &mut RowText) -> Option<()> {
 }
 
 /// Adds the written FEN of what is read, or the fault. A second column tells how many blanks follow the text.
-pub fn fen<B: Board>(alloc: Global, asked: &str, found: &mut RowText) -> Option<()> {
-    let mut text = unescaped(alloc, column(asked, 0))?;
-    for _ in 0..column(asked, 1).parse::<u16>().unwrap_or(0) {
+pub fn fen<B: Board>(alloc: Global, query: &str, found: &mut RowText) -> Option<()> {
+    let mut text = unescaped(alloc, column(query, 0))?;
+    for _ in 0..column(query, 1).parse::<u16>().unwrap_or(0) {
         text.push(b' ').ok()?;
     }
     match read_fen::<B>(text.as_slice()) {

@@ -51,20 +51,20 @@ fn add_said<B: Board, R: io::Read + Drop>(
 }
 
 /// Returns a text: a front, and if there are more columns a byte, how many times it follows, and a back.
-pub fn whole_text(alloc: Global, asked: &str) -> Option<Vec<u8>> {
-    let mut text = unescaped(alloc, column(asked, 0))?;
-    let repeated = unescaped(alloc, column(asked, 1))?;
-    for _ in 0..column(asked, 2).parse::<u32>().unwrap_or(0) {
+pub fn whole_text(alloc: Global, query: &str) -> Option<Vec<u8>> {
+    let mut text = unescaped(alloc, column(query, 0))?;
+    let repeated = unescaped(alloc, column(query, 1))?;
+    for _ in 0..column(query, 2).parse::<u32>().unwrap_or(0) {
         text.extend_from_slice(repeated.as_slice()).ok()?;
     }
-    let back = unescaped(alloc, column(asked, 3))?;
+    let back = unescaped(alloc, column(query, 3))?;
     text.extend_from_slice(back.as_slice()).ok()?;
     Some(text)
 }
 
 /// Adds the problems of a text, which are the same for all pieces in which it is read.
-pub fn pieces<B: Board>(alloc: Global, form: Form, asked: &str, found: &mut RowText) -> Option<()> {
-    let text = whole_text(alloc, asked)?;
+pub fn pieces<B: Board>(alloc: Global, form: Form, query: &str, found: &mut RowText) -> Option<()> {
+    let text = whole_text(alloc, query)?;
     add_said::<B, _>(text.as_slice(), form, found)?;
     for step in [1, 2, 3, 7, 1000, 4096, 9000] {
         let mut chopped = RowText::new(alloc).ok()?;
@@ -82,19 +82,19 @@ pub fn pieces<B: Board>(alloc: Global, form: Form, asked: &str, found: &mut RowT
 
 /// Adds the problems of a text that is read in pieces. A row has the text, the bytes of each read, the number of the
 /// read that fails, and that of the read that gives nothing. That is the end, since the reader is not asked again.
-pub fn broken<B: Board>(alloc: Global, form: Form, asked: &str, found: &mut RowText) -> Option<()> {
-    let text = unescaped(alloc, column(asked, 0))?;
-    let step = column(asked, 1).parse::<usize>().ok()?;
-    let fails_at = column(asked, 2).parse::<u64>().ok()?;
-    let pauses_at = column(asked, 3).parse::<u64>().ok()?;
+pub fn broken<B: Board>(alloc: Global, form: Form, query: &str, found: &mut RowText) -> Option<()> {
+    let text = unescaped(alloc, column(query, 0))?;
+    let step = column(query, 1).parse::<usize>().ok()?;
+    let fails_at = column(query, 2).parse::<u64>().ok()?;
+    let pauses_at = column(query, 3).parse::<u64>().ok()?;
     let reader = Chopped::new(text.as_slice(), step, fails_at, pauses_at);
     add_said::<B, _>(reader, form, found)
 }
 
 /// Reads a text of many lines, each of one letter that names no position. It has a problem a line, numbered from 1, up
 /// to one that says that there are too many, and then it ends. Adds the refusal of that one.
-pub fn many<B: Board>(asked: &str, found: &mut RowText) -> Option<()> {
-    let lines = asked.parse::<u32>().ok()?;
+pub fn many<B: Board>(query: &str, found: &mut RowText) -> Option<()> {
+    let lines = query.parse::<u32>().ok()?;
     let mut source = Reading::new(Repeated::new(b"a\n", lines));
     if source.failed() {
         return None;

@@ -24,8 +24,8 @@ fn add_square<B: Board>(square: Option<Square<B>>, found: &mut RowText) {
 }
 
 /// Adds the square of a number, or the square that stands for none.
-pub fn square<B: Board>(asked: &str, found: &mut RowText) -> Option<()> {
-    let square = match asked {
+pub fn square<B: Board>(query: &str, found: &mut RowText) -> Option<()> {
+    let square = match query {
         "default" => Some(Square::<B>::default()),
         number => Square::new(number.parse::<u8>().ok()?),
     };
@@ -34,8 +34,8 @@ pub fn square<B: Board>(asked: &str, found: &mut RowText) -> Option<()> {
 }
 
 /// Adds the padded word of a set, how many squares it has, and the first of them.
-pub fn set<B: Board>(asked: &str, found: &mut RowText) -> Option<()> {
-    let squares = match asked {
+pub fn set<B: Board>(query: &str, found: &mut RowText) -> Option<()> {
+    let squares = match query {
         "default" => Squares::<B>::default(),
         numbers => set_of(numbers)?,
     };
@@ -68,9 +68,9 @@ fn moved<B: Board>(squares: Squares<B>, how: &str, direction: Dir) -> Option<Squ
 }
 
 /// Adds two sets joined, or a set shifted one step, or slid over an empty board.
-pub fn sets<B: Board>(asked: &str, found: &mut RowText) -> Option<()> {
-    let left = set_of::<B>(column(asked, 0))?;
-    let (how, right) = (column(asked, 1), column(asked, 2));
+pub fn sets<B: Board>(query: &str, found: &mut RowText) -> Option<()> {
+    let left = set_of::<B>(column(query, 0))?;
+    let (how, right) = (column(query, 1), column(query, 2));
     let squares = match how {
         "or" | "and" | "minus" => joined(left, how, set_of(right)?)?,
         _ => moved(left, how, direction(right)?)?,
@@ -80,9 +80,9 @@ pub fn sets<B: Board>(asked: &str, found: &mut RowText) -> Option<()> {
 }
 
 /// Adds a set with and without a square, and whether it has it.
-pub fn one<B: Board>(asked: &str, found: &mut RowText) -> Option<()> {
-    let squares = set_of::<B>(column(asked, 0))?;
-    let square = square_of(column(asked, 1))?;
+pub fn one<B: Board>(query: &str, found: &mut RowText) -> Option<()> {
+    let squares = set_of::<B>(column(query, 0))?;
+    let square = square_of(column(query, 1))?;
     add_set(squares.with(square), found);
     found.add(", ");
     add_set(squares.without(square), found);
@@ -92,9 +92,9 @@ pub fn one<B: Board>(asked: &str, found: &mut RowText) -> Option<()> {
 }
 
 /// Adds whether two sets are the same, asked in two ways.
-pub fn same<B: Board>(asked: &str, found: &mut RowText) -> Option<()> {
-    let left = set_of::<B>(column(asked, 0))?;
-    let right = set_of::<B>(column(asked, 1))?;
+pub fn same<B: Board>(query: &str, found: &mut RowText) -> Option<()> {
+    let left = set_of::<B>(column(query, 0))?;
+    let right = set_of::<B>(column(query, 1))?;
     found.say(&laws::same_squares(left, right));
     found.add(" ");
     found.say(&(left == right));
@@ -102,9 +102,9 @@ pub fn same<B: Board>(asked: &str, found: &mut RowText) -> Option<()> {
 }
 
 /// Adds the square one step further, and whether the direction leads down and to the right.
-pub fn one_step<B: Board>(asked: &str, found: &mut RowText) -> Option<()> {
-    let from = square_of::<B>(word(asked, 0))?;
-    let direction = direction(word(asked, 1))?;
+pub fn one_step<B: Board>(query: &str, found: &mut RowText) -> Option<()> {
+    let from = square_of::<B>(word(query, 0))?;
+    let direction = direction(word(query, 1))?;
     add_square(step(from, direction), found);
     found.add(", down ");
     found.say(&direction.is_down());

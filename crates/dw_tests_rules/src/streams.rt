@@ -16,9 +16,9 @@ fn said(answer: Result<(), WriteFault>) -> &'static str {
 
 /// Adds the answers of a sink to nothing, to `hello` and to `you`, whether it has failed, and the bytes that it took. A
 /// row has the number of bytes that a write takes, and that of the write that fails.
-pub fn write(alloc: Global, asked: &str, found: &mut RowText) -> Option<()> {
-    let step = word(asked, 0).parse::<usize>().ok()?;
-    let fails_at = word(asked, 1).parse::<u64>().ok()?;
+pub fn write(alloc: Global, query: &str, found: &mut RowText) -> Option<()> {
+    let step = word(query, 0).parse::<usize>().ok()?;
+    let fails_at = word(query, 1).parse::<u64>().ok()?;
     let mut sink = Writing::new(Narrow::new(alloc, step, fails_at));
     found.add(said(write_all(&mut sink, b"")));
     found.add(said(write_all(&mut sink, b"hello")));

@@ -16,8 +16,8 @@ const MOST_GAMES: u32 = 8;
 const SHOWN: usize = 100;
 
 /// Adds the games of a text: of each all bytes of its tags in angles, or how many they are, and then each of its tags.
-pub fn of_games<B: Board>(alloc: Global, asked: &str, found: &mut RowText) -> Option<()> {
-    let text = whole_text(alloc, asked)?;
+pub fn of_games<B: Board>(alloc: Global, query: &str, found: &mut RowText) -> Option<()> {
+    let text = whole_text(alloc, query)?;
     let mut source = Reading::new(text.as_slice());
     let mut games: Games<'_, B, Reading<&[u8]>> = Games::new(alloc, &mut source);
     for _ in 0..MOST_GAMES {
@@ -40,18 +40,18 @@ pub fn of_games<B: Board>(alloc: Global, asked: &str, found: &mut RowText) -> Op
 }
 
 /// Adds the tags of a text, which stands in angles.
-pub fn of_text(alloc: Global, asked: &str, found: &mut RowText) -> Option<()> {
-    let text = asked.strip_prefix('<')?.strip_suffix('>')?;
+pub fn of_text(alloc: Global, query: &str, found: &mut RowText) -> Option<()> {
+    let text = query.strip_prefix('<')?.strip_suffix('>')?;
     add_tags(alloc, unescaped(alloc, text)?.as_slice(), found)?;
     found.add("end");
     Some(())
 }
 
 /// Adds the value of the first tag of a name in a text.
-pub fn named_value(alloc: Global, asked: &str, found: &mut RowText) -> Option<()> {
-    let text = unescaped(alloc, column(asked, 1))?;
+pub fn named_value(alloc: Global, query: &str, found: &mut RowText) -> Option<()> {
+    let text = unescaped(alloc, column(query, 1))?;
     let tags = read_tags(alloc, text.as_slice()).ok()?;
-    match value_named(tags.as_slice(), column(asked, 0).as_bytes()) {
+    match value_named(tags.as_slice(), column(query, 0).as_bytes()) {
         Some(value) => add_bytes(value, found),
         None => {
             found.add("none");

@@ -17,7 +17,7 @@ pub fn law(found: &mut RowText) {
     lines::none_begins();
     lines::lines_exist();
     lines::line_or_place();
-    lines::given_in_turn();
+    lines::lines_in_turn();
     tokens::written_is_token();
     tokens::one_line();
     tokens::tokens_have_no_fault();

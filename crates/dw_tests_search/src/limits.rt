@@ -34,10 +34,10 @@ pub fn limited<B: Board, M: Memo<B>, G: Guide<B>>(
     alloc: Global,
     whole: &mut Solver<B, M, G>,
     other: &mut Solver<B, M, G>,
-    asked: &str,
+    query: &str,
     found: &mut RowText,
 ) -> Option<()> {
-    let (position, moves) = question::<B>(asked)?;
+    let (position, moves) = question::<B>(query)?;
     let both = ask_both(alloc, whole, &position, moves);
     found.show(&both.0);
     found.show(&both.1);
@@ -96,11 +96,11 @@ fn goes_on<B: Board, M: Memo<B>, G: Guide<B>>(
 pub fn limit<B: Board, M: Memo<B>, G: Guide<B>>(
     alloc: Global,
     solver: &mut Solver<B, M, G>,
-    asked: &str,
+    query: &str,
     found: &mut RowText,
 ) -> Option<()> {
-    let (position, moves) = question::<B>(asked)?;
-    let limit = word(asked, 2).parse::<u64>().ok()?.max(1);
+    let (position, moves) = question::<B>(query)?;
+    let limit = word(query, 2).parse::<u64>().ok()?.max(1);
     solver.set_limit(solver.expanded().max(limit));
     found.show(&solver.wins(alloc, &position, moves));
     found.add(if solver.expanded() == limit {
@@ -115,10 +115,10 @@ pub fn limit<B: Board, M: Memo<B>, G: Guide<B>>(
 pub fn known<B: Board, M: Memo<B>, G: Guide<B>>(
     alloc: Global,
     solver: &mut Solver<B, M, G>,
-    asked: &str,
+    query: &str,
     found: &mut RowText,
 ) -> Option<()> {
-    let (position, moves) = question::<B>(asked)?;
+    let (position, moves) = question::<B>(query)?;
     found.show(&solver.wins(alloc, &position, moves));
     let expanded = solver.expanded();
     found.show(&solver.wins(alloc, &position, moves));

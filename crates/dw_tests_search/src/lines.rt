@@ -21,7 +21,7 @@ use std::slice;
 const AMPLE: u64 = 1_000_000_000;
 
 /// Returns the list that is asked for: a position and a number of moves, 1 to 20.
-fn list_asked<B: Board>(text: &str) -> Option<(Position<B>, u8)>
+fn list_question<B: Board>(text: &str) -> Option<(Position<B>, u8)>
     ensures some { IfSome result (λ read. 1 ≤ read.1) }
     ensures few { IfSome result (λ read. read.1 ≤ 20) }
 {
@@ -37,7 +37,7 @@ fn lister_of<'s, B: Board, M: Memo<B>>(
     solver: &'s mut Solver<B, M, ByTrial>,
     text: &str,
 ) -> Option<Lister<'s, B, M, ByTrial>> {
-    let (position, moves) = list_asked(text)?;
+    let (position, moves) = list_question(text)?;
     Some(Lister::start(solver, &position, moves))
 }
 
@@ -53,16 +53,16 @@ pub fn list_rows<B: Board, M: Memo<B> + Drop>(
 {
     let mut solver = Solver::new(memo, ByTrial, AMPLE);
     for row in rows {
-        let (asked, found) = (row.asked.as_str(), &mut tally.found);
+        let (query, found) = (row.query.as_str(), &mut tally.found);
         let answered = match kind {
-            RowKind::Lines => lines(alloc, &mut solver, asked, found),
-            RowKind::Lists => lists(alloc, &mut solver, asked, found),
-            RowKind::Place => place(alloc, &mut solver, asked, found),
-            RowKind::Portions => portions(alloc, &mut solver, asked, found),
-            RowKind::Behind => behind(alloc, &mut solver, asked, found),
-            RowKind::Long => long(alloc, &mut solver, asked, found),
-            RowKind::Stopped => stopped(alloc, &mut solver, asked, found),
-            RowKind::RefusedLines => refused(alloc, &mut solver, asked, found),
+            RowKind::Lines => lines(alloc, &mut solver, query, found),
+            RowKind::Lists => lists(alloc, &mut solver, query, found),
+            RowKind::Place => place(alloc, &mut solver, query, found),
+            RowKind::Portions => portions(alloc, &mut solver, query, found),
+            RowKind::Behind => behind(alloc, &mut solver, query, found),
+            RowKind::Long => long(alloc, &mut solver, query, found),
+            RowKind::Stopped => stopped(alloc, &mut solver, query, found),
+            RowKind::RefusedLines => refused(alloc, &mut solver, query, found),
             _ => None,
         };
         tally.end(row, answered);
@@ -74,10 +74,10 @@ pub fn list_rows<B: Board, M: Memo<B> + Drop>(
 fn lines<B: Board, M: Memo<B>>(
     alloc: Global,
     solver: &mut Solver<B, M, ByTrial>,
-    asked: &str,
+    query: &str,
     found: &mut RowText,
 ) -> Option<()> {
-    let (position, moves) = list_asked(asked)?;
+    let (position, moves) = list_question(query)?;
     let lines = lines_of(alloc, solver, &position, moves)?;
     for line in lines.as_slice() {
         add_line(line.as_slice(), found);
@@ -90,10 +90,10 @@ fn lines<B: Board, M: Memo<B>>(
 fn lists<B: Board, M: Memo<B>>(
     alloc: Global,
     solver: &mut Solver<B, M, ByTrial>,
-    asked: &str,
+    query: &str,
     found: &mut RowText,
 ) -> Option<()> {
-    let position = read_position::<B>(asked)?;
+    let position = read_position::<B>(query)?;
     let mut least = 0;
     for moves in 1..4 {
         let lines = lines_of(alloc, solver, &position, moves)?;
@@ -109,13 +109,13 @@ fn lists<B: Board, M: Memo<B>>(
 fn place<B: Board, M: Memo<B>>(
     alloc: Global,
     solver: &mut Solver<B, M, ByTrial>,
-    asked: &str,
+    query: &str,
     found: &mut RowText,
 ) -> Option<()> {
-    let (position, moves) = list_asked(column(asked, 0))?;
+    let (position, moves) = list_question(column(query, 0))?;
     let whole = all_lines(alloc, solver, &position, moves).ok()?;
     let mut lister = Lister::start(solver, &position, moves);
-    found.say(&fault_after(alloc, &mut lister, column(asked, 1))?);
+    found.say(&fault_after(alloc, &mut lister, column(query, 1))?);
     gives(alloc, &mut lister, whole.as_slice())
 }
 
@@ -133,11 +133,11 @@ fn fault_after<B: Board, M: Memo<B>>(
 fn portions<B: Board, M: Memo<B>>(
     alloc: Global,
     solver: &mut Solver<B, M, ByTrial>,
-    asked: &str,
+    query: &str,
     found: &mut RowText,
 ) -> Option<()> {
-    let limits = numbers(alloc, column(asked, 1))?;
-    let mut lister = lister_of(solver, column(asked, 0))?;
+    let limits = numbers(alloc, column(query, 1))?;
+    let mut lister = lister_of(solver, column(query, 0))?;
     add_portions(&in_portions(alloc, &mut lister, limits.as_slice()), found);
     Some(())
 }
@@ -170,12 +170,12 @@ fn add_portions<B: Board>(portions: &Portions<B>, found: &mut RowText) {
 fn behind<B: Board, M: Memo<B>>(
     alloc: Global,
     solver: &mut Solver<B, M, ByTrial>,
-    asked: &str,
+    query: &str,
     found: &mut RowText,
 ) -> Option<()> {
     solver.set_limit(solver.expanded().max(50));
-    let mut lister = lister_of(solver, column(asked, 0))?;
-    found.say(&count_after(alloc, &mut lister, column(asked, 1))?);
+    let mut lister = lister_of(solver, column(query, 0))?;
+    found.say(&count_after(alloc, &mut lister, column(query, 1))?);
     Some(())
 }
 
@@ -233,14 +233,14 @@ fn last_two<B: Board, M: Memo<B>>(
     for _ in 2..lines {
         lister.next(alloc).ok()??;
     }
-    let last_but_one = given(alloc, lister)?;
-    let last = given(alloc, lister)?;
+    let last_but_one = after_line(alloc, lister)?;
+    let last = after_line(alloc, lister)?;
     ended(alloc, lister)?;
     Some((last_but_one, last))
 }
 
 /// Returns the next line, in a list of its own.
-fn given<B: Board, M: Memo<B>>(
+fn after_line<B: Board, M: Memo<B>>(
     alloc: Global,
     lister: &mut Lister<'_, B, M, ByTrial>,
 ) -> Option<Vec<Move<B>>> {
@@ -251,11 +251,11 @@ fn given<B: Board, M: Memo<B>>(
 fn long<B: Board, M: Memo<B>>(
     alloc: Global,
     solver: &mut Solver<B, M, ByTrial>,
-    asked: &str,
+    query: &str,
     found: &mut RowText,
 ) -> Option<()> {
-    let lines = word(asked, 2).parse::<usize>().ok()?;
-    let (position, moves) = list_asked(asked)?;
+    let lines = word(query, 2).parse::<usize>().ok()?;
+    let (position, moves) = list_question(query)?;
     solver.set_limit(solver.expanded().max(1_000_000));
     let mut lister = Lister::start(solver, &position, moves);
     let two = last_two(alloc, &mut lister, lines)?;
@@ -288,10 +288,10 @@ fn comes_alone<B: Board>(
 fn stopped<B: Board, M: Memo<B>>(
     alloc: Global,
     solver: &mut Solver<B, M, ByTrial>,
-    asked: &str,
+    query: &str,
     found: &mut RowText,
 ) -> Option<()> {
-    let mut lister = lister_of(solver, asked)?;
+    let mut lister = lister_of(solver, query)?;
     for limit in 1..10_000 {
         if !add_within(alloc, &mut lister, limit, found)? {
             return Some(());
@@ -309,19 +309,19 @@ fn add_within<B: Board, M: Memo<B>>(
 ) -> Option<bool> {
     limit_to(lister, limit);
     match lister.next(alloc) {
-        Ok(given) => Some(add_given(given, found)),
+        Ok(after_line) => Some(add_line_or_none(after_line, found)),
         Err(Stop::Limit) => Some(true),
         Err(Stop::Memory) => None,
     }
 }
 
 /// Adds a line, or the end if there is none, and returns whether there was one.
-fn add_given<B: Board>(given: Option<&[Move<B>]>, found: &mut RowText) -> bool {
-    match given {
+fn add_line_or_none<B: Board>(after_line: Option<&[Move<B>]>, found: &mut RowText) -> bool {
+    match after_line {
         Some(line) => add_line(line, found),
         None => found.add("end\n"),
     }
-    given.is_some()
+    after_line.is_some()
 }
 
 /// Adds the next line, or the end, and returns whether there was a line. If memory is refused, the lister is asked
@@ -333,9 +333,9 @@ fn add_next<B: Board, M: Memo<B>>(
 ) -> Option<bool> {
     match lister.next(alloc) {
         Err(Stop::Memory) => {}
-        answer => return Some(add_given(answer.ok()?, found)),
+        answer => return Some(add_line_or_none(answer.ok()?, found)),
     }
-    Some(add_given(lister.next(alloc).ok()?, found))
+    Some(add_line_or_none(lister.next(alloc).ok()?, found))
 }
 
 /// Adds the lines still to come and the end, in at most 10 steps.
@@ -356,23 +356,23 @@ fn add_rest<B: Board, M: Memo<B>>(
 fn refused<B: Board, M: Memo<B>>(
     alloc: Global,
     solver: &mut Solver<B, M, ByTrial>,
-    asked: &str,
+    query: &str,
     found: &mut RowText,
 ) -> Option<()> {
-    let mut lister = lister_of(solver, column(asked, 0))?;
+    let mut lister = lister_of(solver, column(query, 0))?;
     add_rest(alloc, &mut lister, found)?;
-    add_behind(alloc, &mut lister, asked, found)
+    add_behind(alloc, &mut lister, query, found)
 }
 
 /// Adds the line that follows each one given in a column, from the second column on.
 fn add_behind<B: Board, M: Memo<B>>(
     alloc: Global,
     lister: &mut Lister<'_, B, M, ByTrial>,
-    asked: &str,
+    query: &str,
     found: &mut RowText,
 ) -> Option<()> {
     for place in 1..10 {
-        let text = column(asked, place);
+        let text = column(query, place);
         if text.is_empty() {
             return Some(());
         }

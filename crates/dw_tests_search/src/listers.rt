@@ -68,7 +68,7 @@ fn gives_next<B: Board, M: Memo<B>>(
     line: &Vec<Move<B>>,
 ) -> Option<()> {
     match lister.next(alloc) {
-        Ok(Some(given)) if *given == *line.as_slice() => Some(()),
+        Ok(Some(after_line)) if *after_line == *line.as_slice() => Some(()),
         _ => None,
     }
 }

@@ -17,14 +17,14 @@ pub fn bounds_of(fails: &str, wins: &str) -> Bounds {
 
 /// Adds the answer of a memo when it notes bounds, the bounds that it finds for a position, or the number of lost
 /// entries.
-fn note<B: Board, M: Memo<B>>(memo: &mut M, asked: &str, found: &mut RowText) -> Option<()> {
-    if asked == "lost" {
+fn note<B: Board, M: Memo<B>>(memo: &mut M, query: &str, found: &mut RowText) -> Option<()> {
+    if query == "lost" {
         found.say(&memo.dropped());
         return Some(());
     }
-    let position = read_position::<B>(word(asked, 1))?;
-    let bounds = bounds_of(word(asked, 2), word(asked, 3));
-    match word(asked, 0) {
+    let position = read_position::<B>(word(query, 1))?;
+    let bounds = bounds_of(word(query, 2), word(query, 3));
+    match word(query, 0) {
         "note" => found.show(&memo.note(position, bounds)),
         "look" => found.show(
             &memo
@@ -63,7 +63,7 @@ pub fn notes<B: Board, M: Memo<B> + Drop>(
     tally: &mut Tally,
 ) -> Option<()> {
     for row in rows {
-        let answered = note(&mut memo, row.asked.as_str(), &mut tally.found);
+        let answered = note(&mut memo, row.query.as_str(), &mut tally.found);
         tally.end(row, answered);
     }
     Some(())
@@ -71,8 +71,8 @@ pub fn notes<B: Board, M: Memo<B> + Drop>(
 
 /// Returns the position of a row, and its number.
 fn numbered<B: Board>(row: &Row) -> Option<(Position<B>, u8)> {
-    let position = read_position(word(row.asked.as_str(), 0))?;
-    let number = word(row.asked.as_str(), 1).parse::<u8>().ok()?;
+    let position = read_position(word(row.query.as_str(), 0))?;
+    let number = word(row.query.as_str(), 1).parse::<u8>().ok()?;
     Some((position, number))
 }
 

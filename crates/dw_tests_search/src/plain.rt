@@ -17,12 +17,12 @@ pub fn ask_plain<B: Board>(alloc: Global, kind: &str, rows: &[Row], tally: &mut 
     requires { (B.geometry.rows ≡ 10) ⊎ (B.geometry.rows ≡ 8) }
 {
     for row in rows {
-        let (asked, found) = (row.asked.as_str(), &mut tally.found);
+        let (query, found) = (row.query.as_str(), &mut tally.found);
         let answered = match kind {
-            "bounds" => bounds(asked, found),
-            "trial" => tried::<B>(asked, found),
-            "token" => token::<B>(alloc, asked, found),
-            "written" => written::<B>(alloc, asked, found),
+            "bounds" => bounds(query, found),
+            "trial" => tried::<B>(query, found),
+            "token" => token::<B>(alloc, query, found),
+            "written" => written::<B>(alloc, query, found),
             "law" => {
                 law(found);
                 Some(())
@@ -34,8 +34,8 @@ pub fn ask_plain<B: Board>(alloc: Global, kind: &str, rows: &[Row], tally: &mut 
 }
 
 /// Adds the answer that bounds decide, after wins and failures were added to them.
-fn bounds(asked: &str, found: &mut RowText) -> Option<()> {
-    let (first, added) = (column(asked, 0), column(asked, 1));
+fn bounds(query: &str, found: &mut RowText) -> Option<()> {
+    let (first, added) = (column(query, 0), column(query, 1));
     let mut bounds = bounds_of(word(first, 0), word(first, 1));
     for (place, next) in [(0, 1), (2, 3)] {
         let moves = word(added, next).parse::<u8>();
@@ -45,14 +45,14 @@ fn bounds(asked: &str, found: &mut RowText) -> Option<()> {
             _ => bounds,
         };
     }
-    found.show(&bounds.decide(column(asked, 2).parse::<u8>().ok()?));
+    found.show(&bounds.decide(column(query, 2).parse::<u8>().ok()?));
     Some(())
 }
 
 /// Adds the trial of a legal move.
-fn tried<B: Board>(asked: &str, found: &mut RowText) -> Option<()> {
-    let position = read_position::<B>(column(asked, 0))?;
-    let step = step_of(column(asked, 1))?;
+fn tried<B: Board>(query: &str, found: &mut RowText) -> Option<()> {
+    let position = read_position::<B>(column(query, 0))?;
+    let step = step_of(column(query, 1))?;
     if !is_legal(&position, &step) {
         return None;
     }

@@ -60,8 +60,8 @@ pub fn ask_rows<B: Board, M: Memo<B> + Drop, G: Guide<B> + Copy>(
     let mut solver = Solver::new(memo, guide, AMPLE);
     let mut other = Solver::new(spare, guide, 1);
     for row in rows {
-        let (asked, found) = (row.asked.as_str(), &mut tally.found);
-        let answered = ask_row(alloc, kind, &mut solver, &mut other, asked, found);
+        let (query, found) = (row.query.as_str(), &mut tally.found);
+        let answered = ask_row(alloc, kind, &mut solver, &mut other, query, found);
         tally.end(row, answered);
     }
     let dropped = solver.dropped();
@@ -78,16 +78,16 @@ fn ask_row<B: Board, M: Memo<B>, G: Guide<B>>(
     kind: RowKind,
     solver: &mut Solver<B, M, G>,
     other: &mut Solver<B, M, G>,
-    asked: &str,
+    query: &str,
     found: &mut RowText,
 ) -> Option<()> {
     match kind {
-        RowKind::Ask => ask(alloc, solver, asked, found),
-        RowKind::Least => least(alloc, solver, asked, found),
-        RowKind::Refused => refused(alloc, solver, asked, found),
-        RowKind::Limited => limited(alloc, solver, other, asked, found),
-        RowKind::Limit => limit(alloc, other, asked, found),
-        RowKind::Known => known(alloc, solver, asked, found),
+        RowKind::Ask => ask(alloc, solver, query, found),
+        RowKind::Least => least(alloc, solver, query, found),
+        RowKind::Refused => refused(alloc, solver, query, found),
+        RowKind::Limited => limited(alloc, solver, other, query, found),
+        RowKind::Limit => limit(alloc, other, query, found),
+        RowKind::Known => known(alloc, solver, query, found),
         _ => None,
     }
 }
@@ -96,12 +96,12 @@ fn ask_row<B: Board, M: Memo<B>, G: Guide<B>>(
 fn ask<B: Board, M: Memo<B>, G: Guide<B>>(
     alloc: Global,
     solver: &mut Solver<B, M, G>,
-    asked: &str,
+    query: &str,
     found: &mut RowText,
 ) -> Option<()> {
-    let position = read_position::<B>(word(asked, 1))?;
-    let moves = moves_of(word(asked, 2))?;
-    match word(asked, 0) {
+    let position = read_position::<B>(word(query, 1))?;
+    let moves = moves_of(word(query, 2))?;
+    match word(query, 0) {
         "wins" => found.show(&solver.wins(alloc, &position, moves)),
         "loses" => found.show(&solver.loses(alloc, &position, moves)),
         "least" => found.show(&solver.least(alloc, &position, moves)),
@@ -115,10 +115,10 @@ fn ask<B: Board, M: Memo<B>, G: Guide<B>>(
 fn least<B: Board, M: Memo<B>, G: Guide<B>>(
     alloc: Global,
     solver: &mut Solver<B, M, G>,
-    asked: &str,
+    query: &str,
     found: &mut RowText,
 ) -> Option<()> {
-    let position = read_position::<B>(asked)?;
+    let position = read_position::<B>(query)?;
     let mut least = 0;
     for moves in 1..4 {
         let wins = solver.wins(alloc, &position, moves).ok()?;
@@ -137,10 +137,10 @@ fn least<B: Board, M: Memo<B>, G: Guide<B>>(
 fn refused<B: Board, M: Memo<B>, G: Guide<B>>(
     alloc: Global,
     solver: &mut Solver<B, M, G>,
-    asked: &str,
+    query: &str,
     found: &mut RowText,
 ) -> Option<()> {
-    let (position, moves) = question::<B>(asked)?;
+    let (position, moves) = question::<B>(query)?;
     let mut answer = solver.wins(alloc, &position, moves);
     if answer == Err(Stop::Memory) {
         answer = solver.wins(alloc, &position, moves);

@@ -13,10 +13,10 @@ use std::alloc::Global;
 use std::str;
 
 /// Adds the line of a token, or why the text is none. A second column tells how often the text is repeated.
-pub fn token<B: Board>(alloc: Global, asked: &str, found: &mut RowText) -> Option<()> {
+pub fn token<B: Board>(alloc: Global, query: &str, found: &mut RowText) -> Option<()> {
     let mut text = Vec::new(alloc);
-    for _ in 0..column(asked, 1).parse::<u16>().unwrap_or(1) {
-        text.extend_from_slice(column(asked, 0).as_bytes()).ok()?;
+    for _ in 0..column(query, 1).parse::<u16>().unwrap_or(1) {
+        text.extend_from_slice(column(query, 0).as_bytes()).ok()?;
     }
     match read_token::<B>(text.as_slice()) {
         Ok(line) => add_line(line.as_slice(), found),
@@ -26,14 +26,14 @@ pub fn token<B: Board>(alloc: Global, asked: &str, found: &mut RowText) -> Optio
 }
 
 /// Adds the token of a line, written to a sink that takes a fixed number of bytes a write and fails at this write.
-pub fn written<B: Board>(alloc: Global, asked: &str, found: &mut RowText) -> Option<()>
+pub fn written<B: Board>(alloc: Global, query: &str, found: &mut RowText) -> Option<()>
     requires { (B.geometry.rows ≡ 10) ⊎ (B.geometry.rows ≡ 8) }
 {
-    let line = moves_in::<B>(column(asked, 0))?;
+    let line = moves_in::<B>(column(query, 0))?;
     if line.len() % 2 != 1 || line.len() > MAX_MOVES {
         return None;
     }
-    add_written(line.as_slice(), narrow(alloc, column(asked, 1))?, found)
+    add_written(line.as_slice(), narrow(alloc, column(query, 1))?, found)
 }
 
 /// Adds the bytes that a sink takes of the token of a line, and whether that is all.

@@ -63,7 +63,7 @@ Reports args input before after full ending =
 abbrev pub DoesReport : (input : List ℕ) → (before after : Option (List ℕ)) → (full : Bool) → Ending (Bor (List ℕ))
     → Type 0
 DoesReport input before after full ending = (matches : ArgMatches) × (args : ReportArgs)
-    × reports.IsAsked (subcommand_rows_of matches) (Some args) × Reports args input before after full ending
+    × reports.IsParsed (subcommand_rows_of matches) (Some args) × Reports args input before after full ending
 
 -- `dw-desk` with these arguments
 abbrev pub Desks : DeskArgs → (input : List ℕ) → (before after : Option (List ℕ)) → (full : Bool)
@@ -76,7 +76,7 @@ Desks args input before after full ending =
 abbrev pub DoesDesk : (input : List ℕ) → (before after : Option (List ℕ)) → (full : Bool) → Ending (Bor (List ℕ))
     → Type 0
 DoesDesk input before after full ending = (matches : ArgMatches) × (args : DeskArgs)
-    × desk.IsAsked (subcommand_rows_of matches) (Ok args) × Desks args input before after full ending
+    × desk.IsParsed (subcommand_rows_of matches) (Ok args) × Desks args input before after full ending
 
 -- the arguments make no request: help was asked for, they are no command, or memory was refused
 abbrev pub Refuses : (before after : Option (List ℕ)) → (full : Bool) → Ending (Bor (List ℕ)) → Type 0
@@ -98,4 +98,4 @@ Answers program input before after full ending =
 -- an ending has this exit status, and no message is written if it has none
 abbrev pub IsTold : Ending (Bor (List ℕ)) → (status message : ℕ) → Type 0
 IsTold ending status message =
-    (status ≡ (outcome_of ending).status) × ((outcome_of ending).is_told ≡ false → message ≡ 0)
+    (status ≡ (outcome_of ending).status) × ((outcome_of ending).has_message ≡ false → message ≡ 0)

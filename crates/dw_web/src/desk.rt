@@ -7,8 +7,8 @@ ghost use Rattle.dw_desk_commands.specs.Ending.{FailsForCause};
 ghost use Rattle.dw_web.specs.Answers.{Desks, DoesDesk, IsTold, Refuses, RunsUnlessFile};
 
 use crate::room::{Limit, Room};
-use crate::said::{Told, refuse, tell};
-use crate::words::words_of;
+use crate::said::{Exited, refuse, tell};
+use crate::words::arguments_of;
 use dw_arguments::{BoardSize, DeskArgs};
 use dw_board::{Board, Eight, Ten};
 use dw_commands::Ending;
@@ -35,13 +35,13 @@ impl DeskWatcher for Nobody {
 }
 
 /// Runs `dw-desk` with the words of a command line.
-pub(crate) fn run_words<L: Limit>(
+pub(crate) fn run_arguments<L: Limit>(
     alloc: Global,
     arguments: &[u8],
     input: &[u8],
     room: &mut Room<L>,
     message: &mut [u8],
-) -> Told
+) -> Exited
     requires { room.old.has_failed ≡ false }
     ensures answers { (ending : AnyEnding (Bor (List ℕ)))
         × (Refuses (Some (room.old.bytes.items)) (Some (room.new.bytes.items)) room.new.has_failed ending
@@ -49,7 +49,7 @@ pub(crate) fn run_words<L: Limit>(
         × IsTold ending result.status result.message }
     ensures message { result.message ≤ length message.old }
 {
-    match words_of(alloc, PROGRAM, arguments) {
+    match arguments_of(alloc, PROGRAM, arguments) {
         Ok(words) => match DeskArgs::parse(alloc, words.as_slice()) {
             Ok(args) => tell(PROGRAM, &run(alloc, &args, input, room), message),
             Err(error) => refuse(PROGRAM, &error, room, message),

@@ -7,7 +7,7 @@ ghost use Rattle.dw_web.specs.Arguments.{program_in};
 
 use crate::ended::Ended;
 use crate::room::{Limit, Room};
-use crate::said::{Told, refuse, tell};
+use crate::said::{Exited, refuse, tell};
 use crate::words::{Program, name_of, program_of};
 use crate::{desk, report};
 use dw_arguments::CliError;
@@ -48,7 +48,7 @@ fn answer<L: Limit>(
     input: &[u8],
     room: &mut Room<L>,
     message: &mut [u8],
-) -> Told
+) -> Exited
     requires { room.old.has_failed ≡ false }
     ensures answers { (ending : AnyEnding (Bor (List ℕ)))
         × Answers (program_in arguments.now) input.now (Some (room.old.bytes.items)) (Some (room.new.bytes.items))
@@ -57,8 +57,8 @@ fn answer<L: Limit>(
     ensures message { result.message ≤ length message.old }
 {
     match program_of(arguments) {
-        Some(Program::Report) => report::run_words(alloc, arguments, input, room, message),
-        Some(Program::Desk) => desk::run_words(alloc, arguments, input, room, message),
+        Some(Program::Report) => report::run_arguments(alloc, arguments, input, room, message),
+        Some(Program::Desk) => desk::run_arguments(alloc, arguments, input, room, message),
         None => {
             let error = CliError::Refused(NO_PROGRAM);
             refuse(name_of(arguments), &error, room, message)

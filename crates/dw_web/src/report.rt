@@ -7,8 +7,8 @@ ghost use Rattle.dw_commands.specs.declared.ending.Ending.{Ending as AnyEnding};
 ghost use Rattle.dw_web.specs.Answers.{DoesReport, IsTold, Refuses, Reports, Runs, RunsUnlessFile};
 
 use crate::room::{Limit, Room};
-use crate::said::{Told, refuse, tell};
-use crate::words::words_of;
+use crate::said::{Exited, refuse, tell};
+use crate::words::arguments_of;
 use dw_arguments::{BoardSize, ReportArgs};
 use dw_board::{Board, Eight, Ten};
 use dw_commands::{Ending, Job};
@@ -19,13 +19,13 @@ use std::alloc::Global;
 const PROGRAM: &str = "dw";
 
 /// Runs `dw` with the words of a command line.
-pub(crate) fn run_words<L: Limit>(
+pub(crate) fn run_arguments<L: Limit>(
     alloc: Global,
     arguments: &[u8],
     input: &[u8],
     room: &mut Room<L>,
     message: &mut [u8],
-) -> Told
+) -> Exited
     requires { room.old.has_failed ≡ false }
     ensures answers { (ending : AnyEnding (Bor (List ℕ)))
         × (Refuses (Some (room.old.bytes.items)) (Some (room.new.bytes.items)) room.new.has_failed ending
@@ -33,7 +33,7 @@ pub(crate) fn run_words<L: Limit>(
         × IsTold ending result.status result.message }
     ensures message { result.message ≤ length message.old }
 {
-    match words_of(alloc, PROGRAM, arguments) {
+    match arguments_of(alloc, PROGRAM, arguments) {
         Ok(words) => match ReportArgs::parse(alloc, words.as_slice()) {
             Ok(args) => tell(PROGRAM, &run(alloc, &args, input, room), message),
             Err(error) => refuse(PROGRAM, &error, room, message),

@@ -13,12 +13,12 @@ use std::fmt::Write;
 
 /// The exit status of a program, and how many bytes of its message were written.
 #[derive(Clone, Copy)]
-pub(crate) struct Told {
+pub(crate) struct Exited {
     pub(crate) status: u8,
     pub(crate) message: usize,
 }
 
-impl Told {
+impl Exited {
     /// Returns the same end with a report of `report` bytes.
     pub(crate) fn with(self, report: usize) -> Ended
         ensures { result ≡ record { status = self.status; report = report; message = self.message } }
@@ -38,7 +38,7 @@ pub(crate) fn refuse<L: Limit>(
     error: &CliError,
     room: &mut Room<L>,
     message: &mut [u8],
-) -> Told
+) -> Exited
     requires { room.old.has_failed ≡ false }
     ensures refuses { (ending : AnyEnding (Bor (List ℕ)))
         × Refuses (Some room.old.bytes.items) (Some room.new.bytes.items) room.new.has_failed ending
@@ -49,18 +49,18 @@ pub(crate) fn refuse<L: Limit>(
 }
 
 /// Writes the message of an ending, cut to the room for it, and returns the exit status.
-pub(crate) fn tell(program: &str, ending: &Ending<&str>, message: &mut [u8]) -> Told
+pub(crate) fn tell(program: &str, ending: &Ending<&str>, message: &mut [u8]) -> Exited
     ensures told { IsTold ending.now result.status result.message }
     ensures fits { result.message ≤ length message.old }
 {
     let exit = outcome(ending);
-    if !exit.is_told {
-        return Told {
+    if !exit.has_message {
+        return Exited {
             status: exit.status,
             message: 0,
         };
     }
-    Told {
+    Exited {
         status: exit.status,
         message: write_message(Message { program, ending }, message),
     }

@@ -58,7 +58,7 @@ fn line_feed_in(bytes: &[u8]) -> Option<usize>
 }
 
 /// Splits the words of the arguments. `program` names the program in the error for words that are not UTF-8.
-pub(crate) fn words_of(
+pub(crate) fn arguments_of(
     alloc: Global,
     program: &str,
     arguments: &[u8],

@@ -103,11 +103,11 @@ IsKnown coming has_ended chosen = IsTextKnown coming has_ended chosen.text
 -- Nothing was read yet: the chosen games are all that are to come, and if it is known what the source gives, it is
 -- known of the text.
 pub record IsFresh {B S : Type 0} (g : Geometry) (coming : S → Option (List ℕ)) (has_ended : S → Bool) (form : Form)
-    (asked : Portion) (chosen : Chosen B S) : Type 0 where
+    (query : Portion) (chosen : Chosen B S) : Type 0 where
   pub all : (games : List NumberedGame) → AreToCome g coming has_ended chosen games
-      → AreChosenOf g form asked (coming (source_of chosen.text)) games
+      → AreChosenOf g form query (coming (source_of chosen.text)) games
   pub known : (bytes : List ℕ) → coming (source_of chosen.text) ≡ Some bytes → IsKnown coming has_ended chosen
-  pub portion : chosen.portion ≡ asked
+  pub portion : chosen.portion ≡ query
   pub runs : Runs chosen.text
 
 -- of the games that are to come the first is handed out, and those after it stay to come; or none comes

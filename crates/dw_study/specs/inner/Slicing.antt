@@ -13,7 +13,7 @@ use Rattle.dw_solve.specs.Work.{LossIsCounted, Moment, Searched, cut_off}
 
 -- questions about wins within n moves, under a limit that is lowered for them: each expansion is counted, up to it, and
 -- the memo is as searches leave it, with bounds that are right
-pub record AskedUntil {M A : Type 0} (g : Geometry) (content : M → Content) (lost : M → ℕ) (n until : ℕ)
+pub record SearchedUntil {M A : Type 0} (g : Geometry) (content : M → Content) (lost : M → ℕ) (n until : ℕ)
     (old new : Solving M) (answer : Result A Stop) : Type 0 where
   pub count : IsCounted old.expanded old.limit new.expanded new.limit
   pub stop : IsErrOf answer Limit → new.expanded ≡ min old.limit until

@@ -4,10 +4,10 @@ use Rattle.dw_desk_commands.specs.Checking.{is_none}
 use Rattle.dw_desk_commands.proofs.CheckingLemmas.{none_is}
 use Rattle.dw_desk_commands.proofs.checking.is_left_out.Goals as goal
 
-pub returns-then-asked : goal.returns-then-asked
-returns-then-asked g c = λ said same.
+pub returns-then-query : goal.returns-then-query
+returns-then-query g c = λ said same.
     none_is (remark_in c.args.solution.now.tree.now.paths) c.args.solution.now.checked.now.remarks said
-    c.is_empty.result same c.is_empty.ensures ∙ ap (λ z. z && is_none said) (sym c.if-asked.true)
+    c.is_empty.result same c.is_empty.ensures ∙ ap (λ z. z && is_none said) (sym c.if-query.true)
 
-pub returns-else-asked : goal.returns-else-asked
-returns-else-asked g c = λ said same. c.if-asked.false ∙ ap (λ z. z && is_none said) (sym c.if-asked.false)
+pub returns-else-query : goal.returns-else-query
+returns-else-query g c = λ said same. c.if-query.false ∙ ap (λ z. z && is_none said) (sym c.if-query.false)

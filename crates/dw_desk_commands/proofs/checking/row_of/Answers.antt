@@ -24,5 +24,5 @@ returns-in-None g c =
     let s = c.args.solution.now in
     let said = c.requires.compared.remarks in
     is_some c.in_ok-made.made c.in-None.is (c.in_ok-made.ensures.some said.0
-    (ap (map (remark_in s.tree.now.paths)) c.as_slice.ensures.value ∙ said.1) (c.remarks_can_be_told.ensures
+    (ap (map (remark_in s.tree.now.paths)) c.as_slice.ensures.value ∙ said.1) (c.remarks_have_texts.ensures
     g.B.Board.geometry s.tree.now.start s.tree.now.paths s.n said.0 said.2))

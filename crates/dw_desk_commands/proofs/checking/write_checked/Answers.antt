@@ -25,7 +25,7 @@ pub returns-clause-text : goal.returns-clause-text
 returns-clause-text g c = λ said is are.
     let geo = g.B.Board.geometry in
     let s = c.args.solution.now in
-    then_ok c.write_words.result (c.write_words.ensures.text said is are) (λ written. (
+    then_ok c.write_plain.result (c.write_plain.ensures.text said is are) (λ written. (
       written.0,
       subst (λ z. MatchBool z (IsCheckedLine geo s.problem.now.number s.tree.now.start s.n said written.0)
           (IsCheckedText geo (numbered s.problem.now) s.tree.now.start s.n said written.0)) (sym c.if-json.false)

@@ -15,7 +15,7 @@ pub returns-then-is_left_out-clause-text : goal.returns-then-is_left_out-clause-
 returns-then-is_left_out-clause-text g c =
     let geo = g.B.Board.geometry in
     let s = c.args.solution.now in
-    let asked = c.args.asked.now in
+    let query = c.args.query.now in
     let said = c.requires.compared.remarks in
     let nothing : List ℕ = [] in (
       nothing,
@@ -24,7 +24,7 @@ returns-then-is_left_out-clause-text g c =
       (
         ap not (c.holds.ensures ∙ ap holds (c.tally_of-tally.ensures s.tree.now.paths said.0
             (ap (map (remark_in s.tree.now.paths)) c.as_slice.ensures.value ∙ said.1))),
-        subst (λ z. MatchBool z (nothing ≡ nothing) (MatchBool asked.json
+        subst (λ z. MatchBool z (nothing ≡ nothing) (MatchBool query.json
             (IsCheckedLine geo s.problem.now.number s.tree.now.start s.n said.0 nothing)
             (IsCheckedText geo (numbered s.problem.now) s.tree.now.start s.n said.0 nothing)))
             (sym c.if-is_left_out.true ∙ c.is_left_out.ensures said.0 said.1) refl,
@@ -36,7 +36,7 @@ pub returns-clause-text : goal.returns-clause-text
 returns-clause-text g c =
     let geo = g.B.Board.geometry in
     let s = c.args.solution.now in
-    let asked = c.args.asked.now in
+    let query = c.args.query.now in
     let said = c.requires.compared.remarks in
     let written = c.in_ok-write_checked.ensures.text said.0 said.1 said.2 in (
       written.0,
@@ -45,7 +45,7 @@ returns-clause-text g c =
       (
         ap not (c.holds-2.ensures ∙ ap holds (c.tally_of-tally.ensures s.tree.now.paths said.0
             (ap (map (remark_in s.tree.now.paths)) c.as_slice.ensures.value ∙ said.1))),
-        subst (λ z. MatchBool z (written.0 ≡ []) (MatchBool asked.json
+        subst (λ z. MatchBool z (written.0 ≡ []) (MatchBool query.json
             (IsCheckedLine geo s.problem.now.number s.tree.now.start s.n said.0 written.0)
             (IsCheckedText geo (numbered s.problem.now) s.tree.now.start s.n said.0 written.0)))
             (sym c.if-is_left_out.false ∙ c.is_left_out.ensures said.0 said.1) written.1,

@@ -26,7 +26,7 @@ returns-in-Page-clause-does g c =
       text = r.1;
       told = subst (λ t. Tells geo words.portion t r.0 c.ending-in-Page.result r.1) (sym c.in-Page.is) (
         counts,
-        subst (λ z. IsPageOf geo c.in-Page.asked z r.0 counts r.1) c.requires.fresh.portion r.3,
+        subst (λ z. IsPageOf geo c.in-Page.query z r.0 counts r.1) c.requires.fresh.portion r.3,
         c.ending-in-Page.ensures,
       );
       written = r.4;
@@ -42,7 +42,7 @@ returns-in-Certify-clause-does g c =
     let after = c.report_first.new.chosen in
     let before_text = g.K.Sink.taken c.args.sink.now in
     let after_text = g.K.Sink.taken c.report_first.new.sink in
-    let One = λ (game : NumberedGame). IsCertifyOf geo c.in-Certify.asked.n.value (problem_of game) in
+    let One = λ (game : NumberedGame). IsCertifyOf geo c.in-Certify.query.n.value (problem_of game) in
     ok_so (λ ending. (next : Option NumberedGame) × (text : List ℕ)
     × IsNext geo source.coming source.has_ended chosen after next
     × IsReportOnOne One chosen.portion.first (as_list next) ending text × Appends before_text after_text text)
@@ -65,7 +65,7 @@ returns-in-Moves-clause-does g c =
     let after = c.report_first-in-Moves.new.chosen in
     let before_text = g.K.Sink.taken c.args.sink.now in
     let after_text = g.K.Sink.taken c.report_first-in-Moves.new.sink in
-    let One = λ (game : NumberedGame). IsMovesOf geo c.in-Moves.asked (problem_of game) in
+    let One = λ (game : NumberedGame). IsMovesOf geo c.in-Moves.query (problem_of game) in
     ok_so (λ ending. (next : Option NumberedGame) × (text : List ℕ)
     × IsNext geo source.coming source.has_ended chosen after next
     × IsReportOnOne One chosen.portion.first (as_list next) ending text × Appends before_text after_text text)
@@ -88,9 +88,9 @@ returns-in-Mend-clause-does g c =
     let after = c.report_first-in-Mend.new.chosen in
     let before_text = g.K.Sink.taken c.args.sink.now in
     let after_text = g.K.Sink.taken c.report_first-in-Mend.new.sink in
-    let asked = c.in-Mend.asked in
+    let query = c.in-Mend.query in
     let expanded = c.report_first-in-Mend.new.desk.solver.expanded - c.args.desk.now.solver.expanded in
-    let One = λ (game : NumberedGame). IsMendOf geo asked expanded (problem_of game) in
+    let One = λ (game : NumberedGame). IsMendOf geo query expanded (problem_of game) in
     ok_so (λ ending. (next : Option NumberedGame) × (text : List ℕ)
     × IsNext geo source.coming source.has_ended chosen after next
     × IsReportOnOne One chosen.portion.first (as_list next) ending text × Appends before_text after_text text)

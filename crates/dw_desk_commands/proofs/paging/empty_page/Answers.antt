@@ -5,18 +5,18 @@ use Rattle.dw_desk_commands.specs.Paging.{language_for, heading_of}
 use Rattle.dw_page.specs.Pages.{end, head}
 use Rattle.dw_desk_commands.proofs.paging.empty_page.Goals as goal
 
-pub returns-then-is_asked-clause-page : goal.returns-then-is_asked-clause-page
-returns-then-is_asked-clause-page g c = (
+pub returns-then-must_exist-clause-page : goal.returns-then-must_exist-clause-page
+returns-then-must_exist-clause-page g c = (
   [],
-  inr (c.if-is_asked.true, c.default.ensures.0, c.default.ensures.1, refl),
+  inr (c.if-must_exist.true, c.default.ensures.0, c.default.ensures.1, refl),
   Appends-nil (g.K.Sink.taken c.args.sink.now),
 )
 
 pub returns-clause-page : goal.returns-clause-page
 returns-clause-page g c =
-    let asked = c.args.asked.now in
-    let front = head g.B.Board.geometry (language_for asked.language) asked.title.now in
-    let heading = heading_of asked.solutions (language_for asked.language) in
+    let query = c.args.query.now in
+    let front = head g.B.Board.geometry (language_for query.language) query.title.now in
+    let heading = heading_of query.solutions (language_for query.language) in
     let taken = g.K.Sink.taken in (
       front ++ (heading ++ end),
       inl (
@@ -28,7 +28,7 @@ returns-clause-page g c =
           refused = λ few. c.default-2.ensures.1;
           is = refl;
         }),
-        c.if-is_asked.false,
+        c.if-must_exist.false,
       ),
       Appends-trans (taken c.args.sink.now) (taken c.begin_page.new.sink) (taken c.end_page.new.sink) front
           (heading ++ end) c.in_ok-later.ensures.head

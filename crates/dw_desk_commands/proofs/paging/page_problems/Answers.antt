@@ -13,14 +13,14 @@ games-init g c =
     let geo = g.B.Board.geometry in
     let source = g.S.Source in
     let taken = g.K.Sink.taken in
-    let asked = c.args.asked.now in
+    let query = c.args.query.now in
     let Old = AreToCome geo source.coming source.has_ended c.args.chosen.now in
     let New = AreToCome geo source.coming source.has_ended c.next.new.self in
     record {
-      so_far = then_one geo asked Old Old New c.default.result c.with-counts.result (taken c.args.sink.now)
+      so_far = then_one geo query Old Old New c.default.result c.with-counts.result (taken c.args.sink.now)
           (taken c.begin_page.new.sink) (taken c.write_part.new.sink) c.in_ok-later.later.items
           c.write_part.new.later.items (numbered_game c.in-Some.first) c.in_ok-is_refused.is_refused
-          (none_yet geo asked Old c.default.result (taken c.args.sink.now) (taken c.begin_page.new.sink)
+          (none_yet geo query Old c.default.result (taken c.args.sink.now) (taken c.begin_page.new.sink)
           c.in_ok-later.later.items c.default.ensures.0 c.default.ensures.1 c.in_ok-later.ensures.head
           c.in_ok-later.ensures.later)
           (subst (λ z. HandsOut Old New (option_map numbered_game z)) c.in-Some.is c.in_ok-first.ensures.given)
@@ -40,7 +40,7 @@ games-preserved g c =
     let Mid = AreToCome geo source.coming source.has_ended c.games.chosen in
     let New = AreToCome geo source.coming source.has_ended c.next-in-games.new.self in
     record {
-      so_far = then_one geo c.args.asked.now Old Mid New c.games.counts c.with-counts-in-Some-2.result
+      so_far = then_one geo c.args.query.now Old Mid New c.games.counts c.with-counts-in-Some-2.result
           (taken c.args.sink.now) (taken c.games.sink) (taken c.write_part-in-Some-2.new.sink) c.games.later.items
           c.write_part-in-Some-2.new.later.items (numbered_game c.in-Some-2.game) c.in_ok-write_part.field-0
           c.games.invariant.so_far
@@ -60,7 +60,7 @@ returns-clause-report g c =
     let Old = AreToCome geo source.coming source.has_ended c.args.chosen.now in
     let Mid = AreToCome geo source.coming source.has_ended c.games.chosen in
     let New = AreToCome geo source.coming source.has_ended c.next-in-games.new.self in
-    let all = all_written geo c.args.asked.now Old Mid c.games.counts (taken c.args.sink.now) (taken c.games.sink)
+    let all = all_written geo c.args.query.now Old Mid c.games.counts (taken c.args.sink.now) (taken c.games.sink)
     (taken c.end_page.new.sink) c.games.later.items c.games.invariant.so_far
     (subst (λ z. HandsOut Mid New (option_map numbered_game z)) c.in_default-2.is c.in_ok-game.ensures.given)
     c.in_ok-end_page.ensures.text in (
@@ -69,7 +69,7 @@ returns-clause-report g c =
       all.2,
       inl (
         all.3,
-        λ none. absurd (not_empty geo c.args.asked.now all.0 c.games.counts all.1 all.3
+        λ none. absurd (not_empty geo c.args.query.now all.0 c.games.counts all.1 all.3
             c.games.invariant.some none),
       ),
       all.4,
@@ -80,20 +80,20 @@ returns-in_default-clause-report g c =
     let geo = g.B.Board.geometry in
     let source = g.S.Source in
     let taken = g.K.Sink.taken in
-    let asked = c.args.asked.now in
+    let query = c.args.query.now in
     let Old = AreToCome geo source.coming source.has_ended c.args.chosen.now in
     let New = AreToCome geo source.coming source.has_ended c.next.new.self in
     let none : Old [] =
     subst (λ z. HandsOut Old New (option_map numbered_game z)) c.in_default.is c.in_ok-first.ensures.given in
-    ok_so (λ counts. (text : List ℕ) × ((IsPage geo asked [] counts text × (c.is_asked.result ≡ false))
-    ⊎ ((c.is_asked.result ≡ true) × (counts.shown ≡ 0) × (counts.refused ≡ 0) × (text ≡ [])))
+    ok_so (λ counts. (text : List ℕ) × ((IsPage geo query [] counts text × (c.must_exist.result ≡ false))
+    ⊎ ((c.must_exist.result ≡ true) × (counts.shown ≡ 0) × (counts.refused ≡ 0) × (text ≡ [])))
     × Appends (taken c.args.sink.now) (taken c.empty_page.new.sink) text) _ c.empty_page.result
     (λ counts told. (
       [],
       told.0,
       none,
-      page_of_none geo asked c.args.chosen.now.portion c.is_asked.result counts told.0
-          (c.is_asked.ensures ∙ ap (λ z. z.is_asked) c.in_ok-first.ensures.portion) told.1,
+      page_of_none geo query c.args.chosen.now.portion c.must_exist.result counts told.0
+          (c.must_exist.ensures ∙ ap (λ z. z.must_exist) c.in_ok-first.ensures.portion) told.1,
       told.2,
     ))
     c.empty_page.ensures.page

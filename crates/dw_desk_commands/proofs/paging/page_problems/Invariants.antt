@@ -8,7 +8,7 @@ invariant-games g l =
     let geo = g.B.Board.geometry in
     let source = g.S.Source in
     record {
-      so_far : SoFar geo l.asked (AreToCome geo source.coming source.has_ended l.fn.chosen)
+      so_far : SoFar geo l.query (AreToCome geo source.coming source.has_ended l.fn.chosen)
           (AreToCome geo source.coming source.has_ended l.chosen) l.counts (g.K.Sink.taken l.fn.sink)
           (g.K.Sink.taken l.sink) l.later.items;
       some : 1 ≤ l.counts.shown;

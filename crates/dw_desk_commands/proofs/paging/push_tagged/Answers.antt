@@ -13,7 +13,7 @@ returns-clause-text g c =
     let read = c.as_slice-tags.result.now in
     let said = said_by read in
     let task = c.args.task.now in
-    let asked = c.args.asked.now in
+    let query = c.args.query.now in
     let heading = c.heading_under-heading.result in
     let page = c.args.page.now.items in
     let author = c.heading_under-heading.ensures.author
@@ -29,9 +29,9 @@ returns-clause-text g c =
       c.in_ok-push_problem.ensures
           ∙ (ap (λ (z : Look). page ++ problem geo z.language z.numbers task.number (author_of heading)
           (values_of heading) task.position.now task.moves.value) c.look_of.ensures
-          ∙ (ap (λ name. page ++ problem geo (language_for asked.language) asked.numbers task.number name
+          ∙ (ap (λ name. page ++ problem geo (language_for query.language) query.numbers task.number name
           (values_of heading) task.position.now task.moves.value) author
-          ∙ ap (λ texts. page ++ problem geo (language_for asked.language) asked.numbers task.number
+          ∙ ap (λ texts. page ++ problem geo (language_for query.language) query.numbers task.number
           (value (codes "White") (map (λ t. t.tag) (map tag_text read))) texts task.position.now task.moves.value)
           values)),
     )

@@ -9,7 +9,7 @@ returns-in_ok-line-in-Ok-clause-row g c =
     let problem = c.args.problem.now in
     let solved = c.in_ok-solved-in-Ok.solved in
     let is = c.in_ok-solved-in-Ok.ensures.solved in
-    subst (λ z. IsSolutionLine geo c.args.asked.now problem.number z false (string_bytes c.in_ok-line-in-Ok.line))
+    subst (λ z. IsSolutionLine geo c.args.query.now problem.number z false (string_bytes c.in_ok-line-in-Ok.line))
     (sym c.in-Ok.is) (
       refl,
       (

@@ -8,7 +8,7 @@ pub returns-in_ok-write_all-in-Ok-2-clause-text : goal.returns-in_ok-write_all-i
 returns-in_ok-write_all-in-Ok-2-clause-text g c =
     let geo = g.B.Board.geometry in
     let taken = g.K.Sink.taken in
-    let asked = c.args.asked.now in
+    let query = c.args.query.now in
     let game = c.args.game.now in
     let start = taken c.args.sink.now in
     let first = taken c.write_tags.new.sink in
@@ -21,7 +21,7 @@ returns-in_ok-write_all-in-Ok-2-clause-text g c =
     let end = codes "\n\n" in
     let text = tags.0 ++ (movetext ++ end) in (
       text,
-      subst (λ z. IsGameFor geo asked game.problem.number z game.tags.items false text) (sym c.in-Ok.is) (
+      subst (λ z. IsGameFor geo query game.problem.number z game.tags.items false text) (sym c.in-Ok.is) (
         refl,
         (
           is.0,

@@ -12,7 +12,7 @@ use Rattle.dw_report.specs.Running.{AreLinesOf}
 use Rattle.dw_report.specs.inner.Running.{TextEnds, SinkEnds}
 use Rattle.dw_report.proofs.SearchLemmas.{same_fault}
 use Rattle.dw_report.proofs.JudgedTextLemmas.{line_playable}
-use Rattle.dw_report.proofs.LineRowLemmas.{line_odd, lines_text, no_rows, row_written, given_line, last_line, line_next}
+use Rattle.dw_report.proofs.LineRowLemmas.{line_odd, lines_text, no_rows, row_written, line_walk, last_line, line_next}
 use Rattle.dw_report.proofs.LineRowLemmas.{none_next, rows_stop, row_ends}
 use Rattle.dw_report.specs.ListedText.{more_after}
 use Rattle.dw_report.proofs.LineRowLemmas.{complete_written, complete_short, more_written, more_short}
@@ -25,7 +25,7 @@ use Rattle.dw_report.proofs.listing.write_listing.Goals as goal
 pub lines-init : goal.lines-init
 lines-init g c = record {
   lender = refl;
-  rows = no_rows c.given_in_turn.ensures g.B.Board.geometry c.args.position.now (stack_of c.args.lister.now)
+  rows = no_rows c.lines_in_turn.ensures g.B.Board.geometry c.args.position.now (stack_of c.args.lister.now)
       (g.K.Sink.taken c.args.sink.now);
   start = ap (λ (v : LineFrom). v.start) c.new-text.ensures;
   last = λ some. absurd (omega (arith, some));
@@ -87,7 +87,7 @@ write_row-requires g c =
     let start = stack_of c.args.lister.now in
     let first = line_next geo c.in_ok-take_line.field-0 (stack_of c.lines.lister) (stack_of c.take_line.new.lister)
     c.in_ok-take_line.ensures.next c.if-not-branch.false in
-    let line = given_line geo p start (stack_of c.lines.lister) (stack_of c.take_line.new.lister) c.lines.written
+    let line = line_walk geo p start (stack_of c.lines.lister) (stack_of c.take_line.new.lister) c.lines.written
     c.lines.invariant.rows.texts c.lines.invariant.rows.rows first c.requires.ahead.lines c.requires.ahead.to_come in
     let playable = subst (λ z. ArePlayable geo z (reverse (stack_of c.take_line.new.lister).line))
     c.requires.ahead.position
@@ -108,7 +108,7 @@ returns-in_err-write_row-clause-text g c =
     c.in_ok-take_line.ensures.next c.if-not-branch.false in
     let copy = c.as_slice.ensures.value ∙ c.in_ok-take_line.ensures.line c.if-not-branch.false in
     λ lines all. row_ends geo p most c.requires.some start lines all (lines_text c.lines_have_texts.ensures geo
-    g.met.B.Board.numbers start p lines c.requires.ahead.position all) c.given_in_turn.ensures (stack_of c.lines.lister)
+    g.met.B.Board.numbers start p lines c.requires.ahead.position all) c.lines_in_turn.ensures (stack_of c.lines.lister)
     (stack_of c.take_line.new.lister) c.lines.written _ _ _ c.write_row.result c.from_residual-in_err-write_row.result
     c.in_err-write_row.field-0.0 why.0
     c.lines.invariant.rows first c.lines-test.true c.in_err-write_row.was why.1 (sym why.2)
@@ -132,7 +132,7 @@ lines-preserved g c =
     copy here in
     record {
       lender = c.take_line.ensures.lender ∙ c.lines.invariant.lender;
-      rows = row_written c.given_in_turn.ensures geo p start (stack_of c.lines.lister) (stack_of c.take_line.new.lister)
+      rows = row_written c.lines_in_turn.ensures geo p start (stack_of c.lines.lister) (stack_of c.take_line.new.lister)
           c.lines.written _ _ _ c.lines.invariant.rows first row;
       start = c.write_row.ensures.start ∙ c.lines.invariant.start;
       last = λ some. c.in_ok-take_line.ensures.line c.if-not-branch.false;

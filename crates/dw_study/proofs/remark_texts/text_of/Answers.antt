@@ -7,7 +7,7 @@ use Rattle.dw_games.specs.Walk.{beginning_at, place_of}
 use Rattle.dw_report.specs.inner.JoinedLemmas.{join_texts}
 use Rattle.dw_study.specs.Remarks.{fails, also, leaves_open}
 use Rattle.dw_study.specs.RemarkText.{IsRemarkText, behind_blank}
-use Rattle.dw_study.specs.RemarkWords.{AreRemarkWords}
+use Rattle.dw_study.specs.RemarkFields.{AreRemarkFields}
 use Rattle.dw_study.specs.Telling.{remark_in, texts_in}
 use Rattle.dw_study.proofs.RemarkTextLemmas.{told, fails_made, also_made, open_made}
 use Rattle.dw_study.proofs.remark_texts.text_of.Goals as goal
@@ -27,7 +27,7 @@ returns-in-Fails g c = λ tree p r is are.
     c.format-turn.result.now c.as_str-in-Fails.result.now (string_bytes text)
     (c.as_str-begun.ensures.value ∙ (c.in_ok-begun.ensures ∙ ap behind_blank c.as_str.ensures.value))
     c.format-turn.ensures.text c.in-Fails.mv c.in-Fails.reply c.refutation-reply.result.now
-    (subst (λ z. AreRemarkWords geo p z words) (sym said.2) are) joined c.refutation-reply.ensures e)
+    (subst (λ z. AreRemarkFields geo p z words) (sym said.2) are) joined c.refutation-reply.ensures e)
     c.concat.ensures.ok)
 
 pub returns-in-Also : goal.returns-in-Also
@@ -45,7 +45,7 @@ returns-in-Also g c = λ tree p r is are.
     c.format-turn.result.now c.as_str-in-Also.result.now (string_bytes text)
     (c.as_str-begun.ensures.value ∙ (c.in_ok-begun.ensures ∙ ap behind_blank c.as_str.ensures.value))
     c.format-turn.ensures.text c.in-Also.keys.items
-    (subst (λ z. AreRemarkWords geo p z words) (sym said.2) are) joined e) c.concat-in-Also.ensures.ok)
+    (subst (λ z. AreRemarkFields geo p z words) (sym said.2) are) joined e) c.concat-in-Also.ensures.ok)
 
 pub returns-in-Open : goal.returns-in-Open
 returns-in-Open g c = λ tree p r is are.
@@ -62,4 +62,4 @@ returns-in-Open g c = λ tree p r is are.
     c.format-turn.result.now c.as_str-in-Open.result.now (string_bytes text)
     (c.as_str-begun.ensures.value ∙ (c.in_ok-begun.ensures ∙ ap behind_blank c.as_str.ensures.value))
     c.format-turn.ensures.text c.in-Open.replies.items
-    (subst (λ z. AreRemarkWords geo p z words) (sym said.2) are) joined e) c.concat-in-Open.ensures.ok)
+    (subst (λ z. AreRemarkFields geo p z words) (sym said.2) are) joined e) c.concat-in-Open.ensures.ok)

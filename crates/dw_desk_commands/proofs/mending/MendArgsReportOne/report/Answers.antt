@@ -11,26 +11,26 @@ pub returns-clause-text : goal.returns-clause-text
 returns-clause-text g c =
     let geo = g.B.Board.geometry in
     let taken = g.K.Sink.taken in
-    let asked = c.args.self.now in
+    let query = c.args.self.now in
     let problem = numbered c.args.game.now.problem in
     let mended = c.in_ok-mended.field-0 in
     let text = c.in_ok-mended.ensures.text in
     let refused = not (mended.undecided == 0) in
     let expanded = c.mend-mended.new.solver.expanded - c.args.desk.now.solver.expanded in
-    let before = front geo asked problem in
+    let before = front geo query problem in
     let whole = before ++ text.0 in (
       whole,
       (
         refused,
-        subst (λ z. IsMended geo asked expanded problem z refused whole) (sym c.in-Ok.is) (
+        subst (λ z. IsMended geo query expanded problem z refused whole) (sym c.in-Ok.is) (
           text.0,
           (
             mended.all,
             mended.sound,
             mended.undecided,
-            subst (λ z. IsMendText z geo c.in-Ok.position asked.n.value asked.part asked.parts mended.all mended.sound
+            subst (λ z. IsMendText z geo c.in-Ok.position query.n.value query.part query.parts mended.all mended.sound
                 mended.undecided text.0) c.wording_for.ensures text.1,
-            bounded_from asked.each mended.all mended.undecided c.begin.new.self.solver.expanded
+            bounded_from query.each mended.all mended.undecided c.begin.new.self.solver.expanded
                 c.args.desk.now.solver.expanded c.mend-mended.new.solver.expanded c.begin.ensures.count
                 c.in_ok-mended.ensures.bounded,
             refl,

@@ -10,8 +10,8 @@ pub returns : goal.returns
 returns g c =
     let draft = c.args.self.now in
     let comment = verdict_comment draft.heading in
-    let written = c.in_ok-write_words.ensures in
-    let items = c.write_words.new.text.items in
+    let written = c.in_ok-write_styled.ensures in
+    let items = c.write_styled.new.text.items in
     let is = c.as_mut_slice.ensures.value
     ∙ (written.2 ∙ ap (λ z. z ++ spaced in_movetext written.0) c.in_ok-text.ensures) in
     let unbroken = all_unbroken c.written_moves_are_read.ensures.named c.play_stays.ensures g.B.Board.geometry
@@ -20,6 +20,6 @@ returns g c =
     let filled = c.fill.ensures comment written.0 (comment_unbroken draft.heading) unbroken is in (
       written.0,
       written.1,
-      written_back c.write_words.new.text.len c.fill.new.text items (omega arith)
+      written_back c.write_styled.new.text.len c.fill.new.text items (omega arith)
           (omega (arith, ap length c.as_mut_slice.ensures.value)) ∙ filled,
     )

@@ -1,0 +1,47 @@
+use Rattle.std.proofs.Common.{◌≡◌, ◌∙◌, ◌++◌, inl, inr, map, refl, sym, ap, subst, Some}
+use Rattle.std.proofs.lemmas.Bool.{cases_Bool, true≢false}
+use Rattle.std.specs.Io.KnownBytes.{Appends}
+use Rattle.std.specs.String.{string_bytes}
+use Rattle.std.proofs.KnownBytes.{Appends-trans}
+use Rattle.dw_report.specs.Report.{first_line}
+use Rattle.dw_notation.specs.Problems.{numbered}
+use Rattle.dw_study.specs.Telling.{remark_in}
+use Rattle.dw_desk_commands.specs.Checking.{IsWinLine, counted, last_line}
+use Rattle.dw_desk_commands.proofs.checking.write_plain.Goals as goal
+
+pub returns-clause-text : goal.returns-clause-text
+returns-clause-text g c = λ said is are.
+    let geo = g.B.Board.geometry in
+    let s = c.args.solution.now in
+    let p = s.tree.now.start in
+    let n = s.n in
+    let tree = s.tree.now.paths in
+    let taken = g.K.Sink.taken in
+    let start = taken c.args.sink.now in
+    let named = taken c.write_all.new.sink in
+    let first = taken c.write_all-2.new.sink in
+    let second = taken c.write_remarks.new.sink in
+    let third = taken c.write_all-3.new.sink in
+    let same : map (remark_in tree) c.as_slice-remarks.result.now ≡ map (λ r. Some r) said =
+    ap (map (remark_in tree)) c.as_slice-remarks.ensures.value ∙ is in
+    let told = c.in_ok-write_remarks.ensures.texts said same
+    (c.remarks_have_texts.ensures geo p tree n said are) in
+    let line = string_bytes c.in_ok-line.line in
+    let win : IsWinLine geo p n line = elim (cases_Bool s.checked.now.wins) [
+      | inl wins ↦ inl (c.requires.compared.wins.0 wins, c.in_ok-line.ensures.win wins)
+      | inr none ↦ inr ((λ w. true≢false (sym (c.requires.compared.wins.1 w) ∙ none)), c.in_ok-line.ensures.none none)
+    ] in
+    let last = last_line n (counted said) in
+    let front = first_line geo (numbered s.problem.now) in (
+      front ++ (line ++ (told.0 ++ last)),
+      record { line = line; win = win; told = told.0; texts = told.1; is = refl },
+      Appends-trans start named third front (line ++ (told.0 ++ last))
+          (subst (Appends start named)
+          (c.as_bytes.ensures.value ∙ (c.as_str.ensures.value ∙ c.problem_line.ensures)) c.in_ok-write_all.ensures.ok)
+          (Appends-trans named first third line (told.0 ++ last)
+          (subst (Appends named first) (c.as_bytes-2.ensures.value ∙ c.as_str-2.ensures.value)
+          c.in_ok-write_all-2.ensures.ok)
+          (Appends-trans first second third told.0 last told.2
+          (subst (Appends second third) (c.as_bytes-3.ensures.value ∙ (c.as_str-3.ensures.value
+          ∙ (c.in_ok-line-2.ensures ∙ ap (last_line n) (c.requires.tally said is)))) c.in_ok-write_all-3.ensures.ok))),
+    )

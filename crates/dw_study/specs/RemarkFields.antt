@@ -1,0 +1,31 @@
+-- The parts of the text of a remark on an author's solution, one by one.
+use Rattle.std.specs.Prelude.{◌≡◌, ℕ, Option, Some, None, List, [], ◌∷◌}
+use Rattle.dw_board.specs.Geometry.{Geometry}
+use Rattle.dw_board.specs.Placement.{Placement}
+use Rattle.dw_moves.specs.Moves.{Move, play}
+use Rattle.dw_notation.specs.Text.{AreMoveTexts, IsLineText, IsMoveText}
+use Rattle.dw_verdict.specs.Verdict.{reach}
+use Rattle.dw_report.specs.JudgedText.{next_number}
+use Rattle.dw_study.specs.Remarks.{Remark, fails, also, leaves_open, ends}
+
+-- the texts of a remark: of the beginning, with the number of the attacker's next move; of the move that fails, or of
+-- the moves that are missing; and of the reply that refutes
+pub record Words : Type 0 where
+  pub line : List ℕ
+  pub turn : ℕ
+  pub moves : List (List ℕ)
+  pub refutation : Option (List ℕ)
+
+-- the texts of a beginning and of moves after it, without a refutation
+abbrev pub AreFieldsFor : Geometry → Placement → (beginning moves : List Move) → Words → Type 0
+AreFieldsFor g p b moves words = IsLineText g p b words.line × AreMoveTexts g (reach g p b) moves words.moves
+    × (words.refutation ≡ None) × (words.turn ≡ next_number b)
+
+-- the texts of a remark
+abbrev pub AreRemarkFields : Geometry → Placement → Remark → Words → Type 0
+AreRemarkFields g p (fails b m r) words = (move : List ℕ) × (reply : List ℕ) × IsLineText g p b words.line
+    × IsMoveText g (reach g p b) m move × IsMoveText g (play g (reach g p b) m) r reply
+    × (words.moves ≡ move ∷ []) × (words.refutation ≡ Some reply) × (words.turn ≡ next_number b)
+AreRemarkFields g p (also b keys) words = AreFieldsFor g p b keys words
+AreRemarkFields g p (leaves_open b replies) words = AreFieldsFor g p b replies words
+AreRemarkFields g p (ends b) words = AreFieldsFor g p b [] words
