@@ -15,12 +15,12 @@ use Rattle.dw_moves.specs.Order.{IsAscending}
 use Rattle.dw_moves.specs.inner.MemberLemmas.{mem_left, mem_right, mem_cases, mem_map_back}
 use Rattle.dw_solve.specs.inner.ListLemmas.{at_item}
 use Rattle.dw_games.specs.Play.{after}
-use Rattle.dw_games.specs.Walk.{PlayedTree, CanFollow, place_of, beginning_at, IsNext}
+use Rattle.dw_games.specs.Walk.{PlayedTree, place_of, beginning_at, IsNext}
 use Rattle.dw_games.specs.declared.branches.Node.{Node}
 use Rattle.dw_study.specs.declared.branch.CheckNode.{CheckNode}
 use Rattle.dw_study.specs.declared.branch.Child.{Child}
 use Rattle.dw_study.specs.Remarks.{StandsBefore, GoesOnBy}
-use Rattle.dw_study.specs.inner.Checking.{AreChildren, IsAt}
+use Rattle.dw_study.specs.inner.Checking.{AreChildren, IsAt, IsChild, IsNodeOf}
 
 pub same : {A : Type 0} (x y : A) → Some x ≡ Some y → x ≡ y
 same x y e = cc
@@ -70,8 +70,7 @@ ahead size (Some n) = size - n
 pub record ChildrenTo {B : Type 0} (g : Geometry) (p : Placement) (tree : List (List Move)) (b : List Move) (from : ℕ)
     (children : List (Child B)) : Type 0 where
   pub ascending : IsAscending (StandsBefore tree b) (map (λ c. c.mv) children)
-  pub each : (c : Child B) → Member c children
-      → (slice_get tree c.node.0 ≡ Some (b ++ c.mv ∷ [])) × (c.node.0 < from) × Legal g p c.mv
+  pub each : (c : Child B) → Member c children → IsChild g p tree b c × (c.node.0 < from) × Legal g p c.mv
   pub all : (k : ℕ) (m : Move) → k < from → slice_get tree k ≡ Some (b ++ m ∷ []) → Member m (map (λ c. c.mv) children)
 
 -- those before the next node were met
@@ -110,35 +109,33 @@ cases_at tree b from n k m o low high none here there = elim (cases_lt k from) [
 ]
 
 -- one more is met
-met_more : {B : Type 0} (g : Geometry) (p : Placement) (tree : List (List Move)) (b : List Move) (from : ℕ) (n : Node)
-    (m : Move) (children : List (Child B)) → from ≤ n.0
-    → ((j : ℕ) → from ≤ j → j < n.0 → (x : Move) × (slice_get tree j ≡ Some (b ++ x ∷ [])) → ⊥)
-    → slice_get tree n.0 ≡ Some (b ++ m ∷ []) → Legal g p m → ChildrenTo g p tree b from children
-    → ChildrenTo g p tree b (n.0 + 1) (children ++ (record { node = n; mv = m }) ∷ [])
-met_more {B} g p tree b from n m children low none here legal h =
-    let c : Child B = record { node = n; mv = m } in
-    record {
-      ascending = rw (map-append (λ (x : Child B). x.mv) children (c ∷ []))
-          (ascending_more (StandsBefore tree b) (map (λ (x : Child B). x.mv) children) m h.ascending
-          (λ x old. let k = mem_map_back (λ (x : Child B). x.mv) x children old in
-          let e = h.each k.0 k.1 in (
-            k.0.node.0,
-            n.0,
-            omega (arith, e.1, low),
-            subst (λ z. slice_get tree k.0.node.0 ≡ Some (b ++ z ∷ [])) (sym k.2) e.0,
-            here,
-          )));
-      each = λ d member. elim (mem_cases d children (c ∷ []) member) [
-        | inl old ↦ let e = h.each d old in (e.0, omega (arith, e.1, low), e.2)
-        | inr (inl new) ↦ rw new (here, omega arith, legal)
-        | inr (inr gone) ↦ absurd gone
-      ];
-      all = λ k o high there. rw (map-append (λ (x : Child B). x.mv) children (c ∷ []))
-          (elim (cases_at tree b from n.0 k m o low high none here there) [
-            | inl before ↦ mem_left o (map (λ (x : Child B). x.mv) children) (m ∷ []) (h.all k o before there)
-            | inr e ↦ mem_right o (map (λ (x : Child B). x.mv) children) (m ∷ []) (inl e)
-          ]);
-    }
+met_more : {B : Type 0} (g : Geometry) (p : Placement) (tree : List (List Move)) (b : List Move) (from : ℕ)
+    (c : Child B) (children : List (Child B)) → from ≤ c.node.0
+    → ((j : ℕ) → from ≤ j → j < c.node.0 → (x : Move) × (slice_get tree j ≡ Some (b ++ x ∷ [])) → ⊥)
+    → IsChild g p tree b c → Legal g p c.mv → ChildrenTo g p tree b from children
+    → ChildrenTo g p tree b (c.node.0 + 1) (children ++ c ∷ [])
+met_more {B} g p tree b from c children low none here legal h = record {
+  ascending = rw (map-append (λ (x : Child B). x.mv) children (c ∷ []))
+      (ascending_more (StandsBefore tree b) (map (λ (x : Child B). x.mv) children) c.mv h.ascending
+      (λ x old. let k = mem_map_back (λ (x : Child B). x.mv) x children old in
+      let e = h.each k.0 k.1 in (
+        k.0.node.0,
+        c.node.0,
+        omega (arith, e.1, low),
+        subst (λ z. slice_get tree k.0.node.0 ≡ Some (b ++ z ∷ [])) (sym k.2) e.0.there,
+        here.there,
+      )));
+  each = λ d member. elim (mem_cases d children (c ∷ []) member) [
+    | inl old ↦ let e = h.each d old in (e.0, omega (arith, e.1, low), e.2)
+    | inr (inl new) ↦ rw new (here, omega arith, legal)
+    | inr (inr gone) ↦ absurd gone
+  ];
+  all = λ k o high there. rw (map-append (λ (x : Child B). x.mv) children (c ∷ []))
+      (elim (cases_at tree b from c.node.0 k c.mv o low high none here.there there) [
+        | inl before ↦ mem_left o (map (λ (x : Child B). x.mv) children) (c.mv ∷ []) (h.all k o before there)
+        | inr e ↦ mem_right o (map (λ (x : Child B). x.mv) children) (c.mv ∷ []) (inl e)
+      ]);
+}
 
 module _ {B : Type 0} (g : Geometry) (tree : PlayedTree) (spot : CheckNode B) where
   pub met_none : (next : Option Node) (children : List (Child B)) → (b : List Move) × IsAt g tree spot b
@@ -178,25 +175,31 @@ module _ {B : Type 0} (g : Geometry) (tree : PlayedTree) (spot : CheckNode B) wh
         let later = on h.beginning next_met.1.0 next_met.1.1 in
         omega (arith, low, later.0)
 
-    pub met_child : (then : Option Node) (m : Move)
-        → (b : List Move) × (slice_get tree.paths n.0 ≡ Some (b ++ m ∷ [])) × CanFollow g tree.start b m
+    pub met_child : (then : Option Node) (c : Child B) → IsNodeOf g tree n c
         → ((b : List Move) (m : Move) → slice_get tree.paths n.0 ≡ Some (b ++ m ∷ [])
         → IsNext tree.paths b (n.0 + 1) (place_of then))
-        → HaveMet g tree spot then (children ++ (record { node = n; mv = m }) ∷ [])
-    met_child then m found on =
+        → HaveMet g tree spot then (children ++ c ∷ [])
+    met_child then c found on =
         let first : found.0 ≡ h.beginning =
-        (last_same found.0 h.beginning m next_met.1.0 (same _ _ (sym found.1 ∙ next_met.1.1))).0 in
-        let there : slice_get tree.paths n.0 ≡ Some (h.beginning ++ m ∷ []) =
-        subst (λ z. slice_get tree.paths n.0 ≡ Some (z ++ m ∷ [])) first found.1 in
-        let legal : Legal g spot.position m =
-        subst (λ z. Legal g z m) (sym (h.at.position ∙ ap (after g tree.start) (sym first))) found.2.legal in
+        (last_same found.0 h.beginning c.mv next_met.1.0 (same _ _ (sym found.2 ∙ next_met.1.1))).0 in
+        let there : slice_get tree.paths n.0 ≡ Some (h.beginning ++ c.mv ∷ []) =
+        subst (λ z. slice_get tree.paths n.0 ≡ Some (z ++ c.mv ∷ [])) first found.2 in
+        let at : after g tree.start found.0 ≡ spot.position =
+        ap (after g tree.start) first ∙ sym h.at.position in
+        let legal : Legal g spot.position c.mv = subst (λ z. Legal g z c.mv) at found.3.legal in
+        let child : IsChild g spot.position tree.paths h.beginning c = record {
+          there = subst (λ z. slice_get tree.paths z.0 ≡ Some (h.beginning ++ c.mv ∷ [])) (sym found.1) there;
+          position = found.4 ∙ (after_more g tree.start found.0 c.mv ∙ ap (λ z. play g z c.mv) at);
+        } in
         record {
           beginning = h.beginning;
           at = h.at;
           from = n.0 + 1;
-          next_one = on h.beginning m there;
-          met = met_more g spot.position tree.paths h.beginning h.from n m children next_met.0 next_met.2 there legal
-              h.met;
+          next_one = on h.beginning c.mv there;
+          met = subst (λ z. ChildrenTo g spot.position tree.paths h.beginning (z.0 + 1) (children ++ c ∷ [])) found.1
+              (met_more g spot.position tree.paths h.beginning h.from c children
+              (subst (λ z. h.from ≤ z.0) (sym found.1) next_met.0)
+              (λ j from below. next_met.2 j from (subst (λ z. j < z.0) found.1 below)) child legal h.met);
         }
 
     -- the node has a move
@@ -227,7 +230,7 @@ module _ {B : Type 0} (g : Geometry) (tree : PlayedTree) (spot : CheckNode B) wh
             λ member. let k = mem_map_back (λ (x : Child B). x.mv) m children member in
                 let e = h.met.each k.0 k.1 in
                 subst (GoesOnBy g spot.position tree.paths h.beginning) (sym k.2)
-                (e.2, at_member (h.beginning ++ k.0.mv ∷ []) tree.paths k.0.node.0 e.0),
+                (e.2, at_member (h.beginning ++ k.0.mv ∷ []) tree.paths k.0.node.0 e.0.there),
             goes_on_by h.beginning h.from children none h.met m,
           );
         };

@@ -34,7 +34,7 @@ use Rattle.dw_study.specs.Remarks.{with_replies, InTurn, nothing, one_more}
 use Rattle.dw_study.specs.Telling.{remark_in, Say}
 use Rattle.dw_study.specs.inner.Checking.{AreChildren, AreOthers, AreOtherKeys, FindsFirst, IsSorted, IsSeen, IsAt}
 use Rattle.dw_study.specs.inner.Checking.{At}
-use Rattle.dw_study.specs.inner.Checking.{Behind, IsKept, left_after}
+use Rattle.dw_study.specs.inner.Checking.{Behind, IsChild, IsKept, left_after}
 use Rattle.dw_study.proofs.ChildLemmas.{after_more}
 
 -- ---- the first reply that refutes
@@ -562,8 +562,7 @@ module _ {B : Type 0} (g : Geometry) (tree : List (List Move)) (attacks : Bool) 
 pub child_kept : {B : Type 0} (g : Geometry) (tree : List (List Move)) (attacks : Bool) (n : ℕ) (p : Placement)
     (b : List Move) (seen : Seen B) (items : List (Child B)) (i : ℕ) (c : Child B)
     → IsSeen g tree attacks n p b seen → items ≡ seen.followed.items → i < length items → c ≡ get_or items i c
-    → Legal g p c.mv × IsKept g (not attacks) (left_after attacks n) (play g p c.mv)
-    × (slice_get tree c.node.0 ≡ Some (b ++ c.mv ∷ []))
+    → Legal g p c.mv × IsKept g (not attacks) (left_after attacks n) (play g p c.mv) × IsChild g p tree b c
 child_kept {B} g tree attacks n p b seen items i c h same low at =
     let member = subst (Member c) same (item_member items i c low at) in
     let kept = h.kept c.mv (mem_map (λ (x : Child B). x.mv) c seen.followed.items member) in

@@ -1,8 +1,8 @@
 //! Beginnings of an author's solution, and their continuations.
-ghost use Rattle.std.specs.Prelude.{◌≡◌, ◌↔◌, ◌++◌, ◌∷◌, [], Some, IfOk, OnOk, IsTrue, map, not};
+ghost use Rattle.std.specs.Prelude.{◌≡◌, ◌↔◌, ◌++◌, ◌∷◌, [], Some, None, IfOk, OnOk, IsTrue, MatchOption, map, not};
+ghost use Rattle.std.specs.List.{slice_get};
 ghost use Rattle.dw_board.specs.Lists.{Member};
-ghost use Rattle.dw_moves.specs.Moves.{Legal};
-ghost use Rattle.dw_study.specs.inner.Checking.{AreChildren, AreOthers, IsAt, left_after};
+ghost use Rattle.dw_study.specs.inner.Checking.{AreChildren, AreOthers, IsAt, IsNodeOf, left_after};
 ghost use Rattle.dw_moves.specs.Moves as of;
 
 use crate::remark::Remark;
@@ -10,7 +10,6 @@ use dw_board::{Board, Position};
 use dw_games::{Node, Tree};
 use dw_moves::Move;
 use dw_moves::listed::listed;
-use dw_moves::play::play;
 use std::alloc::{AllocError, Global};
 
 /// A beginning of a path: its node, `None` at the root, and the position there; whether the attacker is to move, and
@@ -23,11 +22,12 @@ pub(crate) struct CheckNode<B: Board> {
     pub(crate) left: u8,
 }
 
-/// A node, and the move before it.
+/// A node, the move before it, and the position after that move.
 #[derive(Clone, Copy)]
 pub(crate) struct Child<B: Board> {
     pub(crate) node: Node,
     pub(crate) mv: Move<B>,
+    pub(crate) position: Position<B>,
 }
 
 /// The remarks on a beginning, and the children that are examined further.
@@ -40,7 +40,7 @@ pub(crate) struct Seen<B: Board> {
 impl<B: Board> CheckNode<B> {
     /// Returns the beginning with one move more.
     pub(crate) fn after(&self, child: &Child<B>) -> Self
-        requires { Legal B.geometry self.now.position child.now.mv }
+        requires { child.now.position ≡ of.play B.geometry self.now.position child.now.mv }
         ensures { result ≡ record {
           node = Some child.now.node;
           position = of.play B.geometry self.now.position child.now.mv;
@@ -50,7 +50,7 @@ impl<B: Board> CheckNode<B> {
     {
         CheckNode {
             node: Some(child.node),
-            position: play(&self.position, &child.mv),
+            position: child.position,
             attacks: !self.attacks,
             left: if self.attacks {
                 self.left.saturating_sub(1)
@@ -74,12 +74,23 @@ pub(crate) fn children<B: Board>(
     let mut children = Vec::new(alloc);
     let mut next = tree.first_child(spot.node);
     'children: while let Some(node) = next {
-        if let Some(mv) = tree.mv(node) {
-            push(&mut children, Child { node, mv })?;
+        if let Some(child) = child_at(tree, node) {
+            push(&mut children, child)?;
         }
         next = tree.next_sibling(node);
     }
     Ok(children)
+}
+
+/// Returns a node with its move and its position, or `None` if the tree has no such node.
+fn child_at<B: Board>(tree: &Tree<B>, node: Node) -> Option<Child<B>>
+    ensures { MatchOption result (slice_get tree.now.paths node.0 ≡ None) (IsNodeOf B.geometry tree.now node) }
+{
+    Some(Child {
+        node,
+        mv: tree.mv(node)?,
+        position: tree.position(Some(node))?,
+    })
 }
 
 /// Returns the legal moves that are none of these children's, in order.

@@ -2,6 +2,7 @@
 ghost use Rattle.std.specs.Prelude.{◌≡◌, ◌≤◌, ◌∷◌, [], true, false, Some, IfOk, map};
 ghost use Rattle.dw_board.specs.Lists.{Member};
 ghost use Rattle.dw_moves.specs.Moves.{Legal};
+ghost use Rattle.dw_moves.specs.Moves as of;
 ghost use Rattle.dw_solve.specs.Wins.{Lost};
 ghost use Rattle.dw_study.specs.Slices.{Went};
 ghost use Rattle.dw_study.specs.inner.Checking.{AreChildren, AreOthers, AreOtherKeys};
@@ -107,6 +108,7 @@ fn sorted<B: Board, M: Memo<B>, G: Guide<B>, W: Watcher>(
     children: &[Child<B>],
 ) -> Result<Seen<B>, Stop>
     requires legal { (m : _) → Member m (map (λ c. c.mv) children.now) → Legal B.geometry spot.now.position m }
+    requires reached { (c : _) → Member c children.now → c.position ≡ of.play B.geometry spot.now.position c.mv }
     requires some { 1 ≤ spot.now.left }
     requires few { spot.now.left ≤ 20 }
     ensures sorted { (tree : _) (b : _) → AreChildren B.geometry spot.now.position tree b children.now
@@ -119,8 +121,7 @@ fn sorted<B: Board, M: Memo<B>, G: Guide<B>, W: Watcher>(
     let mut remarks = Vec::new(alloc);
     let mut followed = Vec::new(alloc);
     'children: for child in children {
-        let after = play(&spot.position, &child.mv);
-        match refutation(alloc, solver, slices, &after, spot.left - 1)? {
+        match refutation(alloc, solver, slices, &child.position, spot.left - 1)? {
             Some(reply) => {
                 let fails = Remark::Fails {
                     at: spot.node,

@@ -10,7 +10,7 @@ use Rattle.dw_moves.specs.Order.{Precedes, IsListOf}
 use Rattle.dw_solve.specs.Wins.{Lost}
 use Rattle.dw_verdict.specs.Verdict.{IsWinning}
 use Rattle.dw_games.specs.Play.{after}
-use Rattle.dw_games.specs.Walk.{PlayedTree, beginning_at, place_of}
+use Rattle.dw_games.specs.Walk.{CanFollow, PlayedTree, beginning_at, place_of}
 use Rattle.dw_study.specs.declared.branch.CheckNode.{CheckNode}
 use Rattle.dw_study.specs.declared.branch.Child.{Child}
 use Rattle.dw_study.specs.declared.branch.Seen.{Seen}
@@ -25,11 +25,23 @@ pub record IsAt {B : Type 0} (g : Geometry) (tree : PlayedTree) (spot : CheckNod
   pub there : beginning_at tree.paths (place_of spot.node) ≡ Some b
   pub position : spot.position ≡ after g tree.start b
 
+-- a node of a tree with its move, which can be played there, and with the position after it
+abbrev pub IsNodeOf : {B : Type 0} → Geometry → PlayedTree → Node → Child B → Type 0
+IsNodeOf g tree node child = (b : List Move) × (child.node ≡ node)
+    × (slice_get tree.paths node.0 ≡ Some (b ++ child.mv ∷ []))
+    × CanFollow g tree.start b child.mv × (child.position ≡ after g tree.start (b ++ child.mv ∷ []))
+
+-- a node after a beginning, the move before it, and the position after that move
+pub record IsChild {B : Type 0} (g : Geometry) (p : Placement) (tree : List (List Move)) (b : List Move)
+    (child : Child B) : Type 0 where
+  pub there : slice_get tree child.node.0 ≡ Some (b ++ child.mv ∷ [])
+  pub position : child.position ≡ play g p child.mv
+
 -- the nodes after a beginning, in the tree's order
 pub record AreChildren {B : Type 0} (g : Geometry) (p : Placement) (tree : List (List Move)) (b : List Move)
     (children : List (Child B)) : Type 0 where
   pub in_order : IsListOf (StandsBefore tree b) (GoesOnBy g p tree b) (map (λ c. c.mv) children)
-  pub each : (c : Child B) → Member c children → slice_get tree c.node.0 ≡ Some (b ++ c.mv ∷ [])
+  pub each : (c : Child B) → Member c children → IsChild g p tree b c
 
 -- the legal moves that are none of these, in order
 abbrev pub AreOthers : Geometry → Placement → List Move → List Move → Type 0
@@ -78,6 +90,6 @@ left_after false n = n
 pub record IsSeen {B : Type 0} (g : Geometry) (tree : List (List Move)) (attacks : Bool) (n : ℕ) (p : Placement)
     (b : List Move) (seen : Seen B) : Type 0 where
   pub here : Say tree seen.remarks.items (λ here. At g tree attacks n p b here (map (λ c. c.mv) seen.followed.items))
-  pub each : (c : Child B) → Member c seen.followed.items → slice_get tree c.node.0 ≡ Some (b ++ c.mv ∷ [])
+  pub each : (c : Child B) → Member c seen.followed.items → IsChild g p tree b c
   pub kept : (m : Move) → Member m (map (λ c. c.mv) seen.followed.items)
       → Legal g p m × IsKept g (not attacks) (left_after attacks n) (play g p m)

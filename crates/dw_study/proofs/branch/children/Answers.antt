@@ -1,7 +1,7 @@
 use Rattle.std.proofs.Common.{length, sym, ap, ◌∙◌, subst, ◌<◌}
 use Rattle.dw_games.specs.Walk.{place_of}
 use Rattle.dw_study.proofs.ChildLemmas.{HaveMet, ahead, met_none, nearer, met_child, met_some, met_all}
-use Rattle.dw_study.proofs.branch.children.Goals.{in-Some-mv+in_ok-push, in_default-mv}
+use Rattle.dw_study.proofs.branch.children.Goals.{in-Some-child_at+in_ok-push, in_default-child_at}
 use Rattle.dw_study.proofs.branch.children.Goals as goal
 
 pub children-init : goal.children-init
@@ -22,16 +22,16 @@ children-preserved g c =
     let geo = g.B.Board.geometry in
     let tree = c.args.tree.now in
     let spot = c.args.spot.now in
-    elim c.match-mv.branch [
-      | in-Some-mv+in_ok-push w ↦
+    elim c.match-child_at.branch [
+      | in-Some-child_at+in_ok-push w ↦
           subst (HaveMet geo tree spot c.next_sibling-next.result)
           (sym (ap (λ v. v.items) w.children-is ∙ w.in_ok-push.ensures))
           (met_child geo tree spot c.children.next c.in-Some.node c.children.children.items c.in-Some.is
-          c.children.invariant c.next_sibling-next.result w.in-Some-mv.mv w.in-Some-mv.ensures
+          c.children.invariant c.next_sibling-next.result w.in-Some-child_at.child w.in-Some-child_at.ensures
           c.next_sibling-next.ensures.next)
-      | in_default-mv w ↦
+      | in_default-child_at w ↦
           met_some geo tree spot c.children.next c.in-Some.node c.children.children.items c.in-Some.is
-          c.children.invariant w.in_default-mv.ensures
+          c.children.invariant w.in_default-child_at.ensures
     ]
 
 pub returns : goal.returns

@@ -26,7 +26,7 @@ after-requires g t c =
     (child_kept g.B.Board.geometry c.args.tree.now.paths spot.attacks spot.left spot.position there.0 seen
     c.as_slice-child-items.result.now c.followed.child-index c.child-item.result
     (c.in_ok-remarks.ensures.seen there.0 there.1) c.as_slice-child-items.ensures.value c.followed-test.true
-    c.child-item.is).0
+    c.child-item.is).2.position
 
 pub remarks_from-requires : goal.remarks_from-requires
 remarks_from-requires g t c κs within =
@@ -54,7 +54,7 @@ remarks_from-requires g t c κs within =
               (
                 (
                   there.0 ++ item.mv ∷ [],
-                  after_there geo c.args.tree.now spot after item there.0 there.1 c.after.ensures kept.2,
+                  after_there geo c.args.tree.now spot after item there.0 there.1 c.after.ensures kept.2.there,
                 ),
                 (after_kept geo spot after item c.after.ensures kept.1, omega (arith, less, c.requires.few)),
               ),
@@ -112,7 +112,7 @@ followed-preserved g t c =
           c.child-item.is (c.followed.invariant.said b there)
           (after_says geo tree spot after item b c.in_ok-behind.behind.items c.after.ensures
           (c.in_ok-behind.ensures.remarks (b ++ item.mv ∷ [])
-          (after_there geo c.args.tree.now spot after item b there c.after.ensures kept.2)))
+          (after_there geo c.args.tree.now spot after item b there c.after.ensures kept.2.there)))
           c.in_ok-append.ensures.items;
       went = went_then geo content lost after.left spot.left c.args.slices.now c.followed.slices
           c.remarks_from.new.slices c.args.solver.now c.followed.solver c.remarks_from.new.solver answered less

@@ -20,6 +20,11 @@ sorted-requires-clause-legal g c = λ m member.
     let all = c.in_ok-children.ensures c.requires.there.0 c.requires.there.1 in
     ((all.in_order.exactly m).0 (subst (λ z. Member m (map (λ d. d.mv) z)) c.as_slice.ensures.value member)).0
 
+pub sorted-requires-clause-reached : goal.sorted-requires-clause-reached
+sorted-requires-clause-reached g c = λ d member.
+    let all = c.in_ok-children.ensures c.requires.there.0 c.requires.there.1 in
+    (all.each d (subst (Member d) c.as_slice.ensures.value member)).position
+
 pub returns-in_err-others-clause-went : goal.returns-in_err-others-clause-went
 returns-in_err-others-clause-went g c =
     went_memory g.B.Board.geometry g.M.Memo.content g.M.Memo.dropped c.args.spot.now.left c.args.slices.now

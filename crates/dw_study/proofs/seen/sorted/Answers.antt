@@ -15,11 +15,6 @@ children-init g c = record {
       c.args.solver.now c.keeps_its_limit.ensures;
 }
 
-pub play-after-requires : goal.play-after-requires
-play-after-requires g c =
-    c.requires.legal c.child-item.result.mv (mem_map (λ d. d.mv) c.child-item.result c.args.children.now
-    (item_member c.args.children.now c.children.child-index c.child-item.result c.children-test.true c.child-item.is))
-
 pub returns-in_err-reply-clause-went : goal.returns-in_err-reply-clause-went
 returns-in_err-reply-clause-went g c =
     let geo = g.B.Board.geometry in
@@ -72,25 +67,26 @@ children-preserved g c =
     let i = c.children.child-index in
     let item = c.child-item.result in
     let less : n - 1 ≤ n = omega arith in
-    let legal = c.requires.legal item.mv (mem_map (λ d. d.mv) item children
-    (item_member children i item c.children-test.true c.child-item.is)) in
+    let member = item_member children i item c.children-test.true c.child-item.is in
+    let legal = c.requires.legal item.mv (mem_map (λ d. d.mv) item children member) in
+    let reached = c.requires.reached item member in
     record {
       sorted = λ tree b all. elim c.match-branch-2.branch [
         | in-Some+in_ok-push-in-Some w ↦
             subst (λ z. SortedTo geo p n tree b c.args.spot.now.node children (i + 1) c.match-branch-2.remarks.items z)
             (sym (ap (λ v. v.items) w.followed-is))
             (sorted_fail geo p n tree b c.args.spot.now.node children c.moves_have_keys.ensures all i item
-            w.in-Some.reply c.play-after.result c.children.remarks.items c.match-branch-2.remarks.items
-            c.children.followed.items c.children-test.true c.child-item.is c.play-after.ensures
-            (subst (FindsFirst geo c.play-after.result (n - 1)) w.in-Some.is c.in_ok-reply.ensures.found)
+            w.in-Some.reply item.position c.children.remarks.items c.match-branch-2.remarks.items
+            c.children.followed.items c.children-test.true c.child-item.is reached
+            (subst (FindsFirst geo item.position (n - 1)) w.in-Some.is c.in_ok-reply.ensures.found)
             (ap (λ v. v.items) w.remarks-is ∙ w.in_ok-push-in-Some.ensures) (c.children.invariant.sorted tree b all))
         | in-None+in_ok-push-in-None w ↦
             subst (λ z. SortedTo geo p n tree b c.args.spot.now.node children (i + 1) z c.match-branch-2.followed.items)
             (sym (ap (λ v. v.items) w.remarks-is))
-            (sorted_key geo p n tree b c.args.spot.now.node children all i item c.play-after.result
+            (sorted_key geo p n tree b c.args.spot.now.node children all i item item.position
             c.children.remarks.items c.children.followed.items c.match-branch-2.followed.items c.requires.some
-            c.children-test.true c.child-item.is legal c.play-after.ensures
-            (subst (FindsFirst geo c.play-after.result (n - 1)) w.in-None.is c.in_ok-reply.ensures.found)
+            c.children-test.true c.child-item.is legal reached
+            (subst (FindsFirst geo item.position (n - 1)) w.in-None.is c.in_ok-reply.ensures.found)
             (ap (λ v. v.items) w.followed-is ∙ w.in_ok-push-in-None.ensures) (c.children.invariant.sorted tree b all))
       ];
       went = went_then geo content lost (n - 1) n c.args.slices.now c.children.slices c.refutation.new.slices

@@ -40,7 +40,8 @@ returns-in-Some-3-clause-words g c = λ r is.
     let begun = subst (λ made. IfSome made (IsBegun g.B.Board.geometry p said.0)) c.in-Some-3.is
     (c.in_ok-beginning-in-Open.ensures.begun said.0 said.1) in
     subst (λ z. IfOk c.moves_fields-in-Some-3.result (λ made. IfSome made (λ text.
-    AreRemarkFields g.B.Board.geometry p z (texts_in text)))) (ap (leaves_open said.0) c.as_slice-in-Some-3.ensures.value ∙ said.2)
+    AreRemarkFields g.B.Board.geometry p z (texts_in text))))
+    (ap (leaves_open said.0) c.as_slice-in-Some-3.ensures.value ∙ said.2)
     (c.moves_fields-in-Some-3.ensures.words p said.0 begun)
 
 pub returns-in-Some-4-clause-words : goal.returns-in-Some-4-clause-words
