@@ -213,16 +213,11 @@ fn searched<'a>(matches: &ArgMatches<'a>, task: Task<'a>, portion: Portion) -> D
     ensures portion { result.portion ≡ portion }
     ensures task { result.task ≡ task.entry }
 {
-    DeskArgs {
-        task,
-        board: BoardSize::named(text_option(matches, "board")),
-        form: form_option(matches),
-        portion,
-        memo: MemoKind::named(text_option(matches, "memo")),
-        cache: capacity_option(matches).unwrap_or(DEFAULT_CAPACITY),
-        progress: flag_option(matches, "progress"),
-        file: text_option(matches, "FILE"),
-    }
+    let mut args = read(matches, task, portion);
+    args.memo = MemoKind::named(text_option(matches, "memo"));
+    args.cache = capacity_option(matches).unwrap_or(DEFAULT_CAPACITY);
+    args.progress = flag_option(matches, "progress");
+    args
 }
 
 /// Returns the request of a command that only reads.

@@ -316,20 +316,12 @@ impl<'a> ReportArgs<'a> {
         ensures only { result.only ≡ chosen_problem (options_of matches.now) }
         ensures searches { Searches (options_of matches.now) result }
     {
-        let read = ReportArgs::read_by(matches, command);
-        ReportArgs {
-            command,
-            form: read.form,
-            only: read.only,
-            board: read.board,
-            n: moves_option(matches, "n").unwrap_or(MoveCount::FEWEST),
-            positions: positions_option(matches, "positions").unwrap_or(MOST_POSITIONS),
-            memo: MemoKind::named(text_option(matches, "memo")),
-            cache: capacity_option(matches).unwrap_or(DEFAULT_CAPACITY),
-            lines: read.lines,
-            after: read.after,
-            file: read.file,
-        }
+        let mut args = ReportArgs::read_by(matches, command);
+        args.n = moves_option(matches, "n").unwrap_or(MoveCount::FEWEST);
+        args.positions = positions_option(matches, "positions").unwrap_or(MOST_POSITIONS);
+        args.memo = MemoKind::named(text_option(matches, "memo"));
+        args.cache = capacity_option(matches).unwrap_or(DEFAULT_CAPACITY);
+        args
     }
 
     /// Returns the request of the command that lists lines.
@@ -337,20 +329,11 @@ impl<'a> ReportArgs<'a> {
         ensures command { result.command ≡ ReportCommand.List }
         ensures lists { Lists (options_of matches.now) result }
     {
-        let query = ReportArgs::searched_by(matches, ReportCommand::List);
-        ReportArgs {
-            command: query.command,
-            form: query.form,
-            only: problem_or_first(matches),
-            board: query.board,
-            n: query.n,
-            positions: query.positions,
-            memo: query.memo,
-            cache: query.cache,
-            lines: count_option(matches, "lines", FEWEST_LINES, MOST_LINES).unwrap_or(MOST_LINES),
-            after: text_option(matches, "after"),
-            file: query.file,
-        }
+        let mut args = ReportArgs::searched_by(matches, ReportCommand::List);
+        args.only = problem_or_first(matches);
+        args.lines = count_option(matches, "lines", FEWEST_LINES, MOST_LINES).unwrap_or(MOST_LINES);
+        args.after = text_option(matches, "after");
+        args
     }
 }
 
@@ -363,6 +346,6 @@ fn problem_or_first(matches: &ArgMatches<'_>) -> Option<u32>
 {
     match (problem_option(matches), text_option(matches, "after")) {
         (None, Some(_)) => Some(FIRST_PROBLEM),
-        (query, _) => query,
+        (number, _) => number,
     }
 }
