@@ -15,11 +15,9 @@ use Rattle.dw_study.specs.Remarks.{Remark, fails, also, leaves_open, ends, AreRe
 use Rattle.dw_study.specs.Turns.{HasTurns}
 use Rattle.dw_stipulation.specs.declared.MoveCount.{MoveCount}
 use Rattle.dw_arguments.specs.declared.check.CheckArgs.{CheckArgs}
-use Rattle.dw_desk_commands.specs.FindingJson.{refused_row}
-use Rattle.dw_desk_commands.specs.ProblemText.{AreTexts}
+use Rattle.dw_desk_commands.specs.ProblemText.{AreTexts, refused_text}
 use Rattle.dw_notation.specs.Problems.{Numbered}
 use Rattle.dw_notation.specs.TextLines.{Found}
-use Rattle.dw_notation.specs.declared.problems.ProblemFault.{ProblemFault}
 use Rattle.dw_report.specs.Report.{first_line}
 use Rattle.dw_rows.specs.CheckRow.{IsCheckedRow, refused_solution_row}
 use Rattle.dw_rows.specs.declared.checked.CheckNumbers.{CheckNumbers}
@@ -135,10 +133,6 @@ abbrev pub fault_text : Geometry → (json : Bool) → Numbered → Placement �
 fault_text g json problem p what place =
     if json then refused_solution_row g problem.number p what place
     else first_line g problem ++ refused_line what place
-
--- the output for a refused problem
-abbrev pub refused_text : Geometry → (json : Bool) → Numbered → ProblemFault → List ℕ
-refused_text g json problem fault = if json then refused_row problem.number fault else first_line g problem
 
 -- The output for a problem with this movetext. It counts as refused if the problem or the movetext is refused, or if
 -- the solution does not hold.

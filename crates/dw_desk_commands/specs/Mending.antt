@@ -5,13 +5,12 @@ use Rattle.dw_board.specs.Geometry.{Geometry}
 use Rattle.dw_board.specs.Placement.{Placement}
 use Rattle.dw_commands.specs.declared.ending.Ending.{Ending}
 use Rattle.dw_commands.specs.declared.ending.Ending.TheVariants.{Done, Refused}
-use Rattle.dw_desk_commands.specs.FindingJson.{refused_row}
+use Rattle.dw_desk_commands.specs.ProblemText.{refused_text}
 use Rattle.dw_mend.specs.Mending.{AreBounded, IsMendText}
 use Rattle.dw_mend.specs.declared.rows.Wording.{Wording}
 use Rattle.dw_mend.specs.declared.rows.Wording.TheVariants.{Words, Row}
 use Rattle.dw_notation.specs.Problems.{Numbered}
 use Rattle.dw_notation.specs.TextLines.{Found}
-use Rattle.dw_notation.specs.declared.problems.ProblemFault.{ProblemFault}
 use Rattle.dw_report.specs.Report.{first_line}
 
 -- the form of neighbours: text, or rows of JSON
@@ -30,16 +29,12 @@ SaysMended g query expanded p refused text =
 abbrev pub front : Geometry → MendArgs → Numbered → List ℕ
 front g query problem = if query.json then [] else first_line g problem
 
--- the output for a refused problem
-abbrev pub refusal : Geometry → MendArgs → Numbered → ProblemFault → List ℕ
-refusal g query problem fault = if query.json then refused_row problem.number fault else first_line g problem
-
 -- the output for a problem, and whether it counts as refused
 abbrev pub IsMended : Geometry → MendArgs → (expanded : ℕ) → Numbered → Found → (refused : Bool) → List ℕ → Type 0
 IsMended g query expanded problem (Ok p) refused text =
     (further : List ℕ) × SaysMended g query expanded p refused further × (text ≡ front g query problem ++ further)
 IsMended g query expanded problem (Err fault) refused text =
-    (refused ≡ true) × (text ≡ refusal g query problem fault)
+    (refused ≡ true) × (text ≡ refused_text g query.json problem fault)
 
 -- the effect of `mend` on a problem
 abbrev pub IsMendOf : {T : Type 0} → Geometry → MendArgs → (expanded : ℕ) → Numbered → Ending T → List ℕ → Type 0

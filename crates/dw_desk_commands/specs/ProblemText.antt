@@ -1,5 +1,5 @@
 -- The texts of problems.
-use Rattle.std.specs.Prelude.{◌≡◌, ◌+◌, ◌≤◌, ℕ, Bool, true, Ok, Err, List, [], ◌∷◌, ◌++◌, length, map}
+use Rattle.std.specs.Prelude.{◌≡◌, ◌+◌, ◌≤◌, ℕ, if◌then◌else◌, Bool, true, Ok, Err, List, [], ◌∷◌, ◌++◌, length, map}
 use Rattle.std.specs.List.{count_by}
 use Rattle.dw_board.specs.Geometry.{Geometry}
 use Rattle.dw_board.specs.Placement.{Placement}
@@ -7,12 +7,18 @@ use Rattle.dw_desk_commands.specs.declared.desk.Counts.{Counts}
 use Rattle.dw_commands.specs.declared.ending.Ending.{Ending}
 use Rattle.dw_commands.specs.declared.ending.Ending.TheVariants.{Refused, NoProblem}
 use Rattle.dw_desk_commands.specs.Ending.{ending_after}
+use Rattle.dw_desk_commands.specs.FindingJson.{refused_row}
 use Rattle.dw_arguments.specs.declared.portion.Portion.{Portion}
 use Rattle.dw_games.specs.Games.{NumberedGame}
 use Rattle.dw_notation.specs.Problems.{Numbered}
 use Rattle.dw_notation.specs.TextLines.{Found}
+use Rattle.dw_notation.specs.declared.problems.ProblemFault.{ProblemFault}
 use Rattle.dw_notation.specs.declared.problems.TheConstants.{MAX_PROBLEMS}
 use Rattle.dw_report.specs.Report.{first_line}
+
+-- the output for a refused problem
+abbrev pub refused_text : Geometry → (json : Bool) → Numbered → ProblemFault → List ℕ
+refused_text g json problem fault = if json then refused_row problem.number fault else first_line g problem
 
 -- the text after the first line, and whether it makes the problem count as refused; after a refusal nothing
 abbrev pub IsFurther : (Says : Placement → (refused : Bool) → List ℕ → Type 0) → Found → (refused : Bool) → List ℕ

@@ -5,7 +5,7 @@ ghost use Rattle.std.specs.Io.KnownBytes.{Appends};
 ghost use Rattle.std.specs.String.{string_bytes};
 ghost use Rattle.dw_board.specs.Lists.{Member};
 ghost use Rattle.dw_desk_commands.specs.Checking.{IsCheckOf, IsChecked, IsCheckedLine, IsCheckedText, IsNumberFor};
-ghost use Rattle.dw_desk_commands.specs.Checking.{counted, fault_text, is_none, no_win_line, refused_text};
+ghost use Rattle.dw_desk_commands.specs.Checking.{counted, fault_text, is_none, no_win_line};
 ghost use Rattle.dw_desk_commands.specs.inner.Comparing.{IsCompared};
 ghost use Rattle.dw_notation.specs.Problems.{numbered};
 ghost use Rattle.std.specs.Prelude.{MatchBool, ◌&&◌};
@@ -21,13 +21,12 @@ ghost use Rattle.dw_study.specs.Remarks.{AreRemarks, Remark as AnyRemark};
 ghost use Rattle.dw_study.specs.Telling.{Say, remark_in};
 
 use crate::desk::{Desk, DeskFault};
-use crate::json_rows::refused_line as refused_row;
-use crate::reporting::ReportEach;
+use crate::reporting::{ReportEach, write_refused};
 use crate::watcher::DeskWatcher;
 use dw_arguments::CheckArgs;
 use dw_board::{Board, Position};
 use dw_games::{Game, MovetextFault, MovetextFaultKind, Tree, read_movetext};
-use dw_notation::{Problem, ProblemFault, Sink, write_all};
+use dw_notation::{Problem, Sink, write_all};
 use dw_report::{Stop, problem_line};
 use dw_rows::{CheckNumbers, checked_row, refused_solution_row};
 use dw_stipulation::MoveCount;
@@ -75,29 +74,6 @@ impl<B: Board> ReportEach<B> for CheckArgs {
             Err(MovetextFault::Memory) => Err(DeskFault::Stopped(Stop::Memory)),
         }
     }
-}
-
-/// Writes a problem that is refused: its row, or its first line.
-fn write_refused<B: Board, K: Sink>(
-    alloc: Global,
-    json: bool,
-    problem: &Problem<B>,
-    fault: ProblemFault,
-    sink: &mut K,
-) -> Result<(), DeskFault>
-    requires { K.is_failed sink.old ≡ false }
-    ensures text { OnOk result (Appends (K.taken sink.old) (K.taken sink.new)
-        (refused_text B.geometry json (numbered problem.now) fault)) }
-    ensures works { OnOk result (K.is_failed sink.new ≡ false) }
-    ensures fails { SinkFails (K.is_failed sink.new) result }
-{
-    if json {
-        let line = refused_row(alloc, problem.number, fault)?;
-        write_all(sink, line.as_str().as_bytes())?;
-        return Ok(());
-    }
-    write_all(sink, problem_line(problem).as_str().as_bytes())?;
-    Ok(())
 }
 
 /// Writes a problem whose solution is refused: its row, or its first line and that of the fault.

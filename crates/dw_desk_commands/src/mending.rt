@@ -1,15 +1,14 @@
 //! The command `mend`: the sound problems that are one change away from a problem.
 ghost use Rattle.std.specs.Prelude.{◌≡◌, ◌==◌, if◌then◌else◌, false, not, OnOk};
 ghost use Rattle.std.specs.Io.KnownBytes.{Appends};
-ghost use Rattle.dw_desk_commands.specs.Mending.{IsMendOf, front, refusal, wording_for};
+ghost use Rattle.dw_desk_commands.specs.Mending.{IsMendOf, front, wording_for};
 ghost use Rattle.dw_desk_commands.specs.inner.Faults.{SinkFails};
 ghost use Rattle.dw_notation.specs.Problems.{numbered};
 ghost use Rattle.dw_commands.specs.declared.ending.Ending.TheVariants.{Done, Refused};
 ghost use Rattle.dw_games.specs.Games.{problem_of};
 
 use crate::desk::{Desk, DeskFault};
-use crate::json_rows::refused_line;
-use crate::reporting::ReportOne;
+use crate::reporting::{ReportOne, write_refused};
 use crate::watcher::DeskWatcher;
 use dw_arguments::MendArgs;
 use dw_board::Board;
@@ -17,11 +16,10 @@ use dw_commands::Ending;
 use dw_games::Game;
 use dw_mend::mend::mend;
 use dw_mend::{MendBounds, Mended, Wording};
-use dw_notation::{Problem, ProblemFault, Sink, write_all};
+use dw_notation::{Problem, Sink, write_all};
 use dw_parts::Part;
 use dw_report::problem_line;
 use dw_study::Slices;
-use std::alloc::Global;
 
 impl<B: Board, E> ReportOne<B, E> for MendArgs {
     ghost says = { λ query expanded game. IsMendOf B.geometry query expanded (problem_of game) };
@@ -39,7 +37,7 @@ impl<B: Board, E> ReportOne<B, E> for MendArgs {
         let position = match &problem.found {
             Ok(position) => position,
             Err(fault) => {
-                write_refusal(desk.alloc, self, problem, *fault, sink)?;
+                write_refused(desk.alloc, self.json, problem, *fault, sink)?;
                 return Ok(Ending::Refused);
             }
         };
@@ -82,29 +80,6 @@ fn write_front<B: Board, K: Sink>(
     if !query.json {
         write_all(sink, problem_line(problem).as_str().as_bytes())?;
     }
-    Ok(())
-}
-
-/// Writes a problem that is refused: its row, or its first line.
-fn write_refusal<B: Board, K: Sink>(
-    alloc: Global,
-    query: &MendArgs,
-    problem: &Problem<B>,
-    fault: ProblemFault,
-    sink: &mut K,
-) -> Result<(), DeskFault>
-    requires { K.is_failed sink.old ≡ false }
-    ensures text { OnOk result (Appends (K.taken sink.old) (K.taken sink.new)
-        (refusal B.geometry query.now (numbered problem.now) fault)) }
-    ensures works { OnOk result (K.is_failed sink.new ≡ false) }
-    ensures fails { SinkFails (K.is_failed sink.new) result }
-{
-    if query.json {
-        let line = refused_line(alloc, problem.number, fault)?;
-        write_all(sink, line.as_str().as_bytes())?;
-        return Ok(());
-    }
-    write_all(sink, problem_line(problem).as_str().as_bytes())?;
     Ok(())
 }
 

@@ -1,22 +1,26 @@
 //! Reports on games: on each that is chosen, or on the first alone.
-ghost use Rattle.std.specs.Prelude.{◌≡◌, ◌-◌, ℕ, Bool, List, Option, false, IfOk};
+ghost use Rattle.std.specs.Prelude.{◌≡◌, ◌-◌, ℕ, Bool, List, Option, false, IfOk, OnOk};
 ghost use Rattle.std.specs.Io.KnownBytes.{Appends};
 ghost use Rattle.dw_commands.specs.declared.ending.Ending.{Ending};
-ghost use Rattle.dw_desk_commands.specs.ProblemText.{IsReport, IsReportOnOne};
+ghost use Rattle.dw_desk_commands.specs.ProblemText.{IsReport, IsReportOnOne, refused_text};
 ghost use Rattle.dw_desk_commands.specs.inner.Choosing.{AreToCome, Runs};
-ghost use Rattle.dw_desk_commands.specs.inner.Faults.{CommandFails, FailsForMemory, ReportFails};
+ghost use Rattle.dw_desk_commands.specs.inner.Faults.{CommandFails, FailsForMemory, ReportFails, SinkFails};
 ghost use Rattle.dw_desk_commands.specs.inner.NextGame.{IsNext, as_list};
 ghost use Rattle.dw_games.specs.GameReading.{numbered_game};
 ghost use Rattle.dw_games.specs.Games.{NumberedGame};
+ghost use Rattle.dw_notation.specs.Problems.{numbered};
 
 use crate::chosen::Chosen;
 use crate::desk::{Counts, Desk, DeskFault};
+use crate::json_rows::refused_line;
 use crate::watcher::DeskWatcher;
 use dw_board::Board;
 use dw_commands::Ending;
 use dw_games::Game;
-use dw_notation::{Sink, Source};
+use dw_notation::{Problem, ProblemFault, Sink, Source, write_all};
+use dw_report::problem_line;
 use dw_study::Slices;
+use std::alloc::Global;
 
 /// A command that reports each of the chosen games.
 pub(crate) trait ReportEach<B: Board> {
@@ -111,4 +115,27 @@ pub(crate) fn report_first<E, B: Board, W: DeskWatcher, S: Source, K: Sink, R: R
         Some(game) => command.report(desk, slices, &game, sink),
         None => Ok(Ending::NoProblem(chosen.first())),
     }
+}
+
+/// Writes a problem that is refused: its row, or its first line.
+pub(crate) fn write_refused<B: Board, K: Sink>(
+    alloc: Global,
+    json: bool,
+    problem: &Problem<B>,
+    fault: ProblemFault,
+    sink: &mut K,
+) -> Result<(), DeskFault>
+    requires { K.is_failed sink.old ≡ false }
+    ensures text { OnOk result (Appends (K.taken sink.old) (K.taken sink.new)
+        (refused_text B.geometry json (numbered problem.now) fault)) }
+    ensures works { OnOk result (K.is_failed sink.new ≡ false) }
+    ensures fails { SinkFails (K.is_failed sink.new) result }
+{
+    if json {
+        let line = refused_line(alloc, problem.number, fault)?;
+        write_all(sink, line.as_str().as_bytes())?;
+        return Ok(());
+    }
+    write_all(sink, problem_line(problem).as_str().as_bytes())?;
+    Ok(())
 }

@@ -1,5 +1,5 @@
 //! The display of how far the searches of a run are.
-use dw_study::Watcher;
+use dw_study::{Unwatched, Watcher};
 
 /// Shows how far the search for each problem is.
 pub trait DeskWatcher: Watcher {
@@ -8,4 +8,10 @@ pub trait DeskWatcher: Watcher {
 
     /// Ends the search, and clears the display.
     fn end(&mut self);
+}
+
+impl DeskWatcher for Unwatched {
+    fn begin(&mut self, _problem: u32) {}
+
+    fn end(&mut self) {}
 }

@@ -12,27 +12,13 @@ use crate::words::arguments_of;
 use dw_arguments::{BoardSize, DeskArgs};
 use dw_board::{Board, Eight, Ten};
 use dw_commands::Ending;
-use dw_desk_commands::{DeskWatcher, run_on};
+use dw_desk_commands::run_on;
 use dw_notation::Reading;
-use dw_study::{Slices, Watcher};
+use dw_study::Slices;
 use std::alloc::Global;
 
 /// The program's name in its messages.
 const PROGRAM: &str = "dw-desk";
-
-/// A watcher that shows nothing.
-#[derive(Drop)]
-struct Nobody;
-
-impl Watcher for Nobody {
-    fn watch(&mut self, _moves: u8, _expanded: u64) {}
-}
-
-impl DeskWatcher for Nobody {
-    fn begin(&mut self, _problem: u32) {}
-
-    fn end(&mut self) {}
-}
 
 /// Runs `dw-desk` with the words of a command line.
 pub(crate) fn run_arguments<L: Limit>(
@@ -91,7 +77,7 @@ fn run_from<'a, B: Board, L: Limit>(
     if let Some(path) = args.file {
         return Ending::NotOpened(path);
     }
-    let mut slices = Slices::new(u64::MAX, Nobody);
+    let mut slices = Slices::whole();
     let mut source = Reading::new(input);
     run_on::<B, _, _, _>(alloc, &mut slices, args, &mut source, room)
 }
