@@ -178,7 +178,7 @@ def function_head(indent, line, lines):
     is_contract = False
     while True:
         yield line
-        if line in (indent + "{", indent + "{}") or line.endswith("};" if is_contract else ("{", ";")):
+        if line in (indent + "{", indent + "{}") or line.endswith("};" if is_contract else ("{", "{}", ";")):
             return
         line = next(lines)
         is_contract = is_contract or re.match(r"\s*(requires|ensures)\b", line) is not None
