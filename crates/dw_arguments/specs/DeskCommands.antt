@@ -1,6 +1,6 @@
 -- The requests of the commands of `dw-desk`, by their options.
 use Rattle.std.specs.Prelude.{◌≡◌, ℕ, true, Result, Ok, Err, IsErr, MatchBool, Option, Some, None, is_some, option_map}
-use Rattle.std.specs.Prelude.{List, [], codes, unwrap_or}
+use Rattle.std.specs.Prelude.{List, [], codes, not, unwrap_or}
 use Rattle.std.specs.Option.{option_or}
 use Rattle.std.specs.Str.{bytes_eq}
 use Rattle.std.specs.Borrow.{Bor}
@@ -29,11 +29,14 @@ lines_option options = unwrap_or (number_option 1 1000000 options (codes "lines"
 abbrev pub each_option : List Row → Option ℕ
 each_option options = number_option 1 1000000000000 options (codes "each")
 
--- the request of `find`
+-- the request of `find`; the parser refuses -n beside --most
 pub record AsksFind (options : List Row) (query : FindArgs) : Type 0 where
-  pub most : query.most.value ≡ unwrap_or (number_option 1 20 options (codes "most")) 20
+  pub moves : query.moves.value ≡ unwrap_or (option_or (number_option 1 20 options (codes "n"))
+      (number_option 1 20 options (codes "most"))) 20
+  pub is_least : query.is_least ≡ not (is_some (number_option 1 20 options (codes "n")))
   pub each : query.each ≡ each_option options
   pub json : query.json ≡ flag_option options (codes "json")
+  pub solution : query.solution ≡ flag_option options (codes "solution")
 
 -- the request of `check`
 pub record AsksCheck (options : List Row) (query : CheckArgs) : Type 0 where

@@ -4,7 +4,7 @@ use Rattle.std.specs.Option.{option_copied, option_or}
 use Rattle.std.specs.Str.{bytes_eq}
 use Rattle.clap.specs.Words.{Row, Text}
 use Rattle.dw_arguments.specs.Commands.{Keeps, ReadsFrom, moves_within, chosen_problem}
-use Rattle.dw_arguments.specs.Options.{number_option, text_option}
+use Rattle.dw_arguments.specs.Options.{flag_option, number_option, text_option}
 use Rattle.dw_arguments.specs.declared.report.ReportCommand.TheVariants as commands
 use Rattle.dw_arguments.specs.declared.report.ReportArgs.{ReportArgs}
 
@@ -31,12 +31,14 @@ pub record Lists (options : List Row) (args : ReportArgs) : Type 0 where
 -- the request of `show`
 abbrev pub IsShow : List Row → ReportArgs → Type 0
 IsShow options args =
-    (args.command ≡ commands.Show) × (args.only ≡ chosen_problem options) × Reads options args
+    (args.command ≡ commands.Show) × (args.json ≡ flag_option options (codes "json"))
+    × (args.only ≡ chosen_problem options) × Reads options args
 
 -- the request of `moves`
 abbrev pub IsMoves : List Row → ReportArgs → Type 0
 IsMoves options args =
-    (args.command ≡ commands.Moves) × (args.only ≡ chosen_problem options) × Reads options args
+    (args.command ≡ commands.Moves) × (args.json ≡ flag_option options (codes "json"))
+    × (args.only ≡ chosen_problem options) × Reads options args
 
 -- the request of `judge`
 abbrev pub IsJudge : List Row → ReportArgs → Type 0

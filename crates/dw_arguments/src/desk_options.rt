@@ -19,7 +19,7 @@ const FEWEST_LINES: u64 = 1;
 const MOST_LINES: u64 = 1_000_000;
 
 /// The default number of lines of a solution.
-const USUAL_LINES: u64 = 1000;
+pub const USUAL_LINES: usize = 1000;
 
 const CACHE_HELP: &str = "Keep at most C positions, 1 to 4000000 [default: 1000000]";
 
@@ -49,7 +49,7 @@ pub(crate) fn lines_of(matches: &ArgMatches<'_>) -> usize
     ensures some { 1 ≤ result }
     ensures few { result ≤ 1_000_000 }
 {
-    count_option(matches, "lines", FEWEST_LINES, MOST_LINES).unwrap_or(USUAL_LINES) as usize
+    count_option(matches, "lines", FEWEST_LINES, MOST_LINES).unwrap_or(USUAL_LINES as u64) as usize
 }
 
 /// Returns the number of moves of `-n`, which the parser requires.

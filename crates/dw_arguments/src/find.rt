@@ -4,7 +4,7 @@ ghost use Rattle.std.proofs.Props.{props};
 
 use crate::desk_options::{JSON_HELP, json, searcher};
 use crate::options::{
-    CommandTexts, flag_option, memo, most, moves_option, positions, positions_option,
+    CommandTexts, flag, flag_option, memo, most, moves_option, positions, positions_option, within,
 };
 use crate::portion::problem;
 use clap::{ArgMatches, Command};
@@ -14,16 +14,22 @@ use std::alloc::{AllocError, Global};
 /// The request of the command `find`.
 #[derive(Clone, Copy)]
 pub struct FindArgs {
-    /// The most moves within which a win is looked for.
-    pub most: MoveCount,
-    /// The most positions to expand for each problem until its number of moves is known, `FEWEST_POSITIONS` to
+    /// The number of moves within which a win is looked for.
+    pub moves: MoveCount,
+    /// Whether `moves` is only the most, and each problem is judged at the least number of moves with a win.
+    pub is_least: bool,
+    /// The most positions to expand for each problem until it is known whether there is a win, `FEWEST_POSITIONS` to
     /// `MOST_POSITIONS`; `None` sets no bound.
     pub each: Option<u64>,
     /// Whether a line of JSON is written for each problem.
     pub json: bool,
+    /// Whether this line has the moves of the solution, too.
+    pub solution: bool,
     pub ghost some_positions: { IfSome each (λ positions. 1 ≤ positions) } by { Prim.hlevel props },
     pub ghost few_positions: { IfSome each (λ positions. positions ≤ 1_000_000_000_000) } by { Prim.hlevel props },
 }
+
+const WITHIN_HELP: &str = "Judge each problem at N moves of the side to move, 1 to 20";
 
 const MOST_HELP: &str =
     "Look for a win in at most N moves of the side to move, 1 to 20 [default: 20]";
@@ -31,12 +37,15 @@ const MOST_HELP: &str =
 const EACH_HELP: &str =
     "Go to the next problem after L positions, 1 to 1000000000000 [default: never]";
 
+const SOLUTION_HELP: &str = "With --json, also write the moves of the solution, at most 1000 lines";
+
 const ABOUT: &str = "Finds the number of moves in which each problem is won, and judges it.";
 
 const EXAMPLES: &str = "\
 The output is that of `dw judge -n N` for the least N with a win, or for --most if there is none.
-With --each a problem that takes too long stays undecided. The answer is then the greatest number
-of moves that is known to be too few. The cache starts empty for each problem.
+With -n it is that for exactly this N. With --each a problem that takes too long stays undecided.
+The answer is then the greatest number of moves that is known to be too few. The cache starts empty
+for each problem.
 
 Examples:
   echo W:W10,16,48:B13 | dw-desk find
@@ -45,10 +54,14 @@ Examples:
 
 /// Returns the command with its arguments.
 pub(crate) fn find_command<'a>(alloc: Global) -> Result<Command<'a>, AllocError> {
+    let within = within(alloc, WITHIN_HELP).conflicts_with("most")?;
+    let solution = flag(alloc, "solution", SOLUTION_HELP).requires_arg("json")?;
     let own = vec![in alloc;
+        within,
         most(alloc, MOST_HELP),
         positions(alloc, "each", EACH_HELP),
         json(alloc, JSON_HELP),
+        solution,
         memo(alloc, "deep"),
     ]?;
     let texts = CommandTexts::new("find", ABOUT, EXAMPLES);
@@ -63,10 +76,15 @@ impl FindArgs {
     pub(crate) fn new(matches: &ArgMatches<'_>) -> Self
         ensures { AsksFind (options_of matches.now) result }
     {
+        let exactly = moves_option(matches, "n");
         FindArgs {
-            most: moves_option(matches, "most").unwrap_or(MoveCount::MOST),
+            moves: exactly
+                .or(moves_option(matches, "most"))
+                .unwrap_or(MoveCount::MOST),
+            is_least: exactly.is_none(),
             each: positions_option(matches, "each"),
             json: flag_option(matches, "json"),
+            solution: flag_option(matches, "solution"),
         }
     }
 }

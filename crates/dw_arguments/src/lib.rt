@@ -26,6 +26,7 @@ pub use certify::CertifyArgs;
 pub use check::CheckArgs;
 pub use choices::{BoardSize, MemoKind, PageLanguage, PageTries, Placing};
 pub use desk::{DeskArgs, Task};
+pub use desk_options::USUAL_LINES;
 pub use error::CliError;
 pub use find::FindArgs;
 pub use mend::MendArgs;

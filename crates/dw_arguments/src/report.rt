@@ -2,14 +2,14 @@
 ghost use Rattle.std.specs.Prelude.{◌≡◌, ◌≤◌, IfSome, codes, option_map};
 ghost use Rattle.std.specs.Option.{option_or};
 ghost use Rattle.std.proofs.Props.{props};
-ghost use Rattle.dw_arguments.specs.Options.{number_option, options_of, text_option};
+ghost use Rattle.dw_arguments.specs.Options.{flag_option, number_option, options_of, text_option};
 
 use crate::choices::{BoardSize, MemoKind};
 use crate::error::CliError;
 use crate::options::{
     CommandTexts, FIRST_PROBLEM, MIN_CAPACITY, MOST_POSITIONS, VERSION, cache, capacity_option,
-    count_option, form_option, memo, moves_option, one_problem, option, positions,
-    positions_option, problem_option, reader, text_option, within,
+    count_option, flag, flag_option, form_option, memo, moves_option, one_problem, option,
+    positions, positions_option, problem_option, reader, text_option, within,
 };
 use clap::builder::ValueParser;
 use clap::{Arg, ArgMatches, Command, value_parser};
@@ -35,6 +35,8 @@ pub enum ReportCommand {
 pub struct ReportArgs<'a> {
     pub command: ReportCommand,
     pub form: Form,
+    /// Whether `show` and `moves` write rows of JSON.
+    pub json: bool,
     /// The number of the one problem to report, `FIRST_PROBLEM` to `MAX_PROBLEMS`; `None` stands for all.
     pub only: Option<u32>,
     pub board: BoardSize,
@@ -82,6 +84,8 @@ const WITHIN_HELP: &str = "Look for a win in N moves of the side to move, 1 to 2
 const POSITIONS_HELP: &str =
     "Stop the run after L expanded positions, 1 to 1000000000000 [default: 1000000000000]";
 
+const JSON_HELP: &str = "Write one line of JSON for each problem";
+
 const ABOUT: &str =
     "Solves problems of international draughts: verdicts, and every line of a forced win.";
 
@@ -104,7 +108,7 @@ In a diagram w and b are men, W and B kings, and a point is an empty square.
 
 Examples:
   echo W:W27,45:B16 | dw show
-  dw show --pdn examples/games.pdn";
+  dw show --json --pdn examples/games.pdn";
 
 const MOVES_ABOUT: &str = "Lists each problem's legal moves, each with the position after it.";
 
@@ -114,7 +118,7 @@ have the same start and end. The last line counts the moves and the pieces that 
 
 Examples:
   echo W:WK46:B28 | dw moves
-  dw moves --problem 2 examples/problems.fen";
+  dw moves --json --problem 2 examples/problems.fen";
 
 const JUDGE_ABOUT: &str =
     "Judges each problem: can the side to move force a win, and is the problem sound?";
@@ -182,7 +186,7 @@ fn subcommands<'a>(alloc: Global) -> Result<Vec<Command<'a>>, AllocError> {
 /// Returns a command with its arguments.
 fn subcommand<'a>(alloc: Global, command: ReportCommand) -> Result<Command<'a>, AllocError> {
     match command {
-        ReportCommand::Show | ReportCommand::Moves => base_command(alloc, command),
+        ReportCommand::Show | ReportCommand::Moves => rows_command(alloc, command),
         ReportCommand::Judge => searcher(alloc, command),
         ReportCommand::List => lister(alloc),
     }
@@ -191,6 +195,12 @@ fn subcommand<'a>(alloc: Global, command: ReportCommand) -> Result<Command<'a>, 
 /// Returns a command with the arguments that all commands of `dw` have.
 fn base_command<'a>(alloc: Global, command: ReportCommand) -> Result<Command<'a>, AllocError> {
     reader(alloc, texts(command), one_problem(alloc, PROBLEM_HELP))
+}
+
+/// Returns a command that can write rows of JSON.
+fn rows_command<'a>(alloc: Global, command: ReportCommand) -> Result<Command<'a>, AllocError> {
+    let own = vec![in alloc; flag(alloc, "json", JSON_HELP)]?;
+    base_command(alloc, command)?.args(own)
 }
 
 /// Returns a command that searches for wins too.
@@ -281,12 +291,24 @@ impl<'a> ReportArgs<'a> {
         ensures { IsParsedFrom name.now (options_of matches.now) result }
     {
         match name {
-            "show" => Some(ReportArgs::read_by(matches, ReportCommand::Show)),
-            "moves" => Some(ReportArgs::read_by(matches, ReportCommand::Moves)),
+            "show" => Some(ReportArgs::written_by(matches, ReportCommand::Show)),
+            "moves" => Some(ReportArgs::written_by(matches, ReportCommand::Moves)),
             "judge" => Some(ReportArgs::searched_by(matches, ReportCommand::Judge)),
             "list" => Some(ReportArgs::listed_by(matches)),
             _ => None,
         }
+    }
+
+    /// Returns the request of a command that can write rows of JSON.
+    fn written_by(matches: &ArgMatches<'a>, command: ReportCommand) -> Self
+        ensures command { result.command ≡ command }
+        ensures json { result.json ≡ flag_option (options_of matches.now) (codes "json") }
+        ensures only { result.only ≡ chosen_problem (options_of matches.now) }
+        ensures reads { Reads (options_of matches.now) result }
+    {
+        let mut args = ReportArgs::read_by(matches, command);
+        args.json = flag_option(matches, "json");
+        args
     }
 
     /// Returns the request of a command that only reads problems.
@@ -298,6 +320,7 @@ impl<'a> ReportArgs<'a> {
         ReportArgs {
             command,
             form: form_option(matches),
+            json: false,
             only: problem_option(matches),
             board: BoardSize::named(text_option(matches, "board")),
             n: MoveCount::FEWEST,

@@ -1,5 +1,5 @@
 -- The work of `dw` for a request.
-use Rattle.std.specs.Prelude.{◌≡◌, ℕ, List, Option, Some, None}
+use Rattle.std.specs.Prelude.{◌≡◌, ℕ, if◌then◌else◌, Bool, List, Option, Some, None}
 use Rattle.dw_arguments.specs.declared.report.ReportArgs.{ReportArgs}
 use Rattle.dw_arguments.specs.declared.report.ReportCommand.{ReportCommand}
 use Rattle.dw_arguments.specs.declared.report.ReportCommand.TheVariants as asks
@@ -14,17 +14,17 @@ use Rattle.dw_report.specs.Request.{Request}
 use Rattle.dw_report.specs.declared.settings.Command.{Command}
 use Rattle.dw_report.specs.declared.settings.Command.TheVariants as does
 
--- the command of a report by the one that the arguments name
-abbrev pub command_for : ReportCommand → Command
-command_for asks.Show = does.Show
-command_for asks.Moves = does.Moves
-command_for asks.Judge = does.Judge
-command_for asks.List = does.List
+-- the command of a report by the one that the arguments name; `show` and `moves` may write rows of JSON
+abbrev pub command_for : ReportCommand → (json : Bool) → Command
+command_for asks.Show json = if json then does.ShowRow else does.Show
+command_for asks.Moves json = if json then does.MovesRow else does.Moves
+command_for asks.Judge json = does.Judge
+command_for asks.List json = does.List
 
 -- the settings of a requested report, with the line after which lines are listed
 abbrev pub request_for : ReportArgs → (after : Option (List Move)) → Request
 request_for args after = record {
-  command = command_for args.command;
+  command = command_for args.command args.json;
   form = args.form;
   moves = args.n.value;
   only = args.only;

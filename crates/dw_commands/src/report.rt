@@ -107,7 +107,7 @@ fn settings_of<B: Board>(
     after: Option<ArrayVec<Move<B>, MAX_MOVES>>,
 ) -> Settings<B>
     ensures { result ≡ record {
-      command = command_for args.now.command;
+      command = command_for args.now.command args.now.json;
       form = args.now.form;
       n = args.now.n.value;
       only = args.now.only;
@@ -117,7 +117,7 @@ fn settings_of<B: Board>(
     } }
 {
     Settings {
-        command: command_of(args.command),
+        command: command_of(args.command, args.json),
         form: args.form,
         n: args.n.value,
         only: args.only,
@@ -127,12 +127,14 @@ fn settings_of<B: Board>(
     }
 }
 
-/// Returns the command of the report that the arguments name.
-fn command_of(command: ReportCommand) -> Command
-    ensures { result ≡ command_for command }
+/// Returns the command of the report that the arguments name. `show` and `moves` may write rows of JSON.
+fn command_of(command: ReportCommand, json: bool) -> Command
+    ensures { result ≡ command_for command json }
 {
     match command {
+        ReportCommand::Show if json => Command::ShowRow,
         ReportCommand::Show => Command::Show,
+        ReportCommand::Moves if json => Command::MovesRow,
         ReportCommand::Moves => Command::Moves,
         ReportCommand::Judge => Command::Judge,
         ReportCommand::List => Command::List,

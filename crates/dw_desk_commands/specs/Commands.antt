@@ -33,8 +33,7 @@ form_for other form = form
 -- The output of a command for the chosen games, and the ending of the program after it.
 abbrev pub Tells : {T : Type 0} → Geometry → Portion → Task → List NumberedGame → Ending T → List ℕ → Type 0
 Tells g portion (task.Find query) games ending text =
-    IsReportOnAll (λ game. IsFindOf g query.json query.most.value query.each (problem_of game)) portion games ending
-    text
+    IsReportOnAll (λ game. IsFindOf g query (problem_of game)) portion games ending text
 Tells g portion (task.Check query) games ending text = IsReportOnAll (IsCheckOf g query) portion games ending text
 Tells g portion (task.Solution query) games ending text =
     IsReportOnAll (IsSolutionOf g query) portion games ending text

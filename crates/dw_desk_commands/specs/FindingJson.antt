@@ -1,20 +1,16 @@
 -- The row of JSON of `find` for a problem.
-use Rattle.std.specs.Prelude.{◌≡◌, ℕ, List, [], ◌∷◌, ◌++◌, codes}
+use Rattle.std.specs.Prelude.{◌≡◌, ℕ, Option, Some, None, List, [], ◌∷◌, ◌++◌, codes}
 use Rattle.json.specs.Json.{string}
+use Rattle.dw_arguments.specs.declared.desk_options.TheConstants.{USUAL_LINES}
 use Rattle.dw_board.specs.FenText.{written}
 use Rattle.dw_board.specs.Geometry.{Geometry}
 use Rattle.dw_board.specs.Placement.{Placement}
 use Rattle.dw_json.specs.Rows.{Member, count, pairs, row, texts}
-use Rattle.dw_notation.specs.declared.problems.ProblemFault.{ProblemFault}
 use Rattle.dw_report.specs.MoveTexts.{AreChoices, AreKeyTexts, AreTryTexts}
-use Rattle.dw_report.specs.Report.{refusal_text}
+use Rattle.dw_rows.specs.SolutionRow.{AreLineMembers}
+use Rattle.dw_solution.specs.FirstLines.{LinesFrom}
 use Rattle.dw_verdict.specs.Verdict.{Verdict, unsolvable, cooked, dual, sound}
 use Rattle.dw_study.specs.Finding.{Finding, judged, undecided}
-
--- the row of a problem that is refused
-abbrev pub refused_row : (problem : ℕ) → ProblemFault → List ℕ
-refused_row problem fault =
-    row ((codes "problem", count problem) ∷ (codes "refused", string (refusal_text fault)) ∷ [])
 
 -- the word of a verdict
 abbrev pub verdict_word : Verdict → List ℕ
@@ -49,7 +45,13 @@ AreFound g p (judged k verdict tries) members =
 AreFound g p (undecided k) members =
     members ≡ (codes "verdict", string (codes "undecided")) ∷ (codes "no_win_in", count k) ∷ []
 
--- the row of a position and its finding
-abbrev pub IsFoundRow : Geometry → (problem : ℕ) → Placement → Finding → List ℕ → Type 0
-IsFoundRow g problem p finding text = (members : List Member) × AreFound g p finding members
-    × (text ≡ row ((codes "problem", count problem) ∷ (codes "fen", string (written g p)) ∷ members))
+-- the members for the first lines of a solution: those that `solution` writes, or none if there are no lines to write
+abbrev pub AreSolutionMembers : Geometry → Option LinesFrom → List Member → Type 0
+AreSolutionMembers g None members = members ≡ []
+AreSolutionMembers g (Some first) members = AreLineMembers g first USUAL_LINES members
+
+-- the row of a position and its finding, and after that the first lines of its solution if they are there
+abbrev pub IsFoundRow : Geometry → (problem : ℕ) → Placement → Finding → Option LinesFrom → List ℕ → Type 0
+IsFoundRow g problem p finding solution text = (members : List Member) × (more : List Member)
+    × AreFound g p finding members × AreSolutionMembers g solution more
+    × (text ≡ row ((codes "problem", count problem) ∷ (codes "fen", string (written g p)) ∷ members ++ more))

@@ -5,7 +5,7 @@ use Rattle.dw_board.specs.Geometry.{Geometry}
 use Rattle.dw_board.specs.Placement.{Placement}
 use Rattle.dw_commands.specs.declared.ending.Ending.{Ending}
 use Rattle.dw_commands.specs.declared.ending.Ending.TheVariants.{Done, Refused}
-use Rattle.dw_desk_commands.specs.FindingJson.{refused_row}
+use Rattle.dw_report.specs.JsonRows.{refused_row}
 use Rattle.dw_desk_commands.specs.ProblemText.{IsProblemText}
 use Rattle.dw_first_moves.specs.FirstMoves.{Effect, AreFirstMoves}
 use Rattle.dw_first_moves.specs.FirstMovesText.{IsFirstMovesText}

@@ -1,6 +1,6 @@
 -- The page of problems that `page` writes.
 use Rattle.std.specs.Prelude.{◌≡◌, ◌+◌, ◌*◌, ◌≤◌, ◌⊎◌, ◌++◌, ◌∷◌, ℕ, Bool, true, false, List, [], Option, Some, None}
-use Rattle.std.specs.Prelude.{Ok, Err, All, MatchBool, codes, decimal, filter_map, flat_map, if◌then◌else◌, length, map}
+use Rattle.std.specs.Prelude.{Ok, Err, All, codes, decimal, filter_map, flat_map, if◌then◌else◌, length, map}
 use Rattle.std.specs.Prelude.{nat_lt}
 use Rattle.std.specs.List.{count_by, join_by}
 use Rattle.dw_board.specs.Geometry.{Geometry}
@@ -27,11 +27,11 @@ use Rattle.dw_page.specs.declared.words.Language.{Language}
 use Rattle.dw_page.specs.declared.words.Language.TheVariants.{English, Dutch, French, Russian}
 use Rattle.dw_page.specs.declared.words.Phrase.TheVariants as phrases
 use Rattle.dw_report.specs.MoveTexts.{AreChoices, AreKeyTexts, AreTryTexts}
-use Rattle.dw_report.specs.Report.{refusal_text}
+use Rattle.dw_report.specs.Refusals.{refusal_text}
 use Rattle.dw_solution.specs.FirstLines.{LinesFrom}
 use Rattle.dw_solution.specs.declared.heading.Heading.{Heading}
 use Rattle.dw_verdict.specs.Verdict.{IsVerdict, Tries, Verdict, cooked, dual, sound, unsolvable}
-use Rattle.dw_study.specs.Finding.{IsJudgedAt}
+use Rattle.dw_study.specs.Finding.{IsNumberFor}
 
 -- the language of a page, given the requested one
 abbrev pub language_for : PageLanguage → Language
@@ -121,7 +121,7 @@ Stands Nowhere Says behind later = (behind ≡ []) × (later ≡ [])
 
 -- the number of moves of a problem: the least with a win up to the given number, or that number
 abbrev pub HasMoves : Geometry → PageArgs → Placement → ℕ → Type 0
-HasMoves g query p n = MatchBool query.is_least (IsJudgedAt g p query.moves.value n) (n ≡ query.moves.value)
+HasMoves g query p n = IsNumberFor g p query.is_least query.moves.value n
 
 -- a problem up to its task: its number and tags, its diagram, and the task
 abbrev pub task_part : Geometry → PageArgs → (number : ℕ) → Placement → List Tag → (n : ℕ) → List ℕ

@@ -7,7 +7,7 @@ use Rattle.dw_desk_commands.specs.declared.desk.Counts.{Counts}
 use Rattle.dw_commands.specs.declared.ending.Ending.{Ending}
 use Rattle.dw_commands.specs.declared.ending.Ending.TheVariants.{Refused, NoProblem}
 use Rattle.dw_desk_commands.specs.Ending.{ending_after}
-use Rattle.dw_desk_commands.specs.FindingJson.{refused_row}
+use Rattle.dw_report.specs.JsonRows.{refused_row}
 use Rattle.dw_arguments.specs.declared.portion.Portion.{Portion}
 use Rattle.dw_games.specs.Games.{NumberedGame}
 use Rattle.dw_notation.specs.Problems.{Numbered}

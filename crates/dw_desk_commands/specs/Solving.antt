@@ -10,13 +10,13 @@ use Rattle.dw_notation.specs.Tags.{same_name}
 use Rattle.dw_notation.specs.TextLines.{Found}
 use Rattle.dw_notation.specs.declared.problems.ProblemFault.{ProblemFault}
 use Rattle.dw_arguments.specs.declared.solution.SolutionArgs.{SolutionArgs}
-use Rattle.dw_study.specs.Finding.{IsJudgedAt}
+use Rattle.dw_study.specs.Finding.{IsNumberFor}
 use Rattle.dw_games.specs.Games.{NumberedGame}
 use Rattle.dw_games.specs.TagRows.{TagText, AreTags}
 use Rattle.dw_solve.specs.Lines.{Lines}
-use Rattle.dw_report.specs.Report.{refusal_text}
+use Rattle.dw_report.specs.Refusals.{refusal_text}
 use Rattle.dw_verdict.specs.Verdict.{Verdict, IsVerdict, unsolvable, cooked, dual, sound}
-use Rattle.dw_desk_commands.specs.FindingJson.{refused_row}
+use Rattle.dw_report.specs.JsonRows.{refused_row}
 use Rattle.dw_rows.specs.SolutionRow.{IsSolutionRow}
 use Rattle.dw_solution.specs.FirstLines.{LinesFrom}
 use Rattle.dw_solution.specs.Movetext.{IsMovetext}
@@ -31,6 +31,11 @@ kind_of (cooked shortest keys) = kinds.Cooked
 kind_of (dual beginning choices) = kinds.Dual
 kind_of (sound key) = kinds.Sound
 
+-- the first lines within n moves, at most as many as requested
+abbrev pub AreFirstLines : Geometry → Placement → (n most : ℕ) → LinesFrom → Type 0
+AreFirstLines g p n most first = (lines : List (List Move)) × Lines g p n lines
+    × (first ≡ record { start = p; lines = take most lines; more = nat_lt most (length lines) })
+
 -- The solution of a position within n moves: its verdict without moves, its first lines, as many as requested, and a
 -- movetext of them.
 pub record IsMovetextOf (g : Geometry) (p : Placement) (n most : ℕ) (heading : Heading) (first : LinesFrom) (many : ℕ)
@@ -38,9 +43,7 @@ pub record IsMovetextOf (g : Geometry) (p : Placement) (n most : ℕ) (heading :
   pub verdict : Verdict
   pub is_verdict : IsVerdict g p n verdict
   pub heads : heading ≡ record { kind = kind_of verdict; moves = n }
-  pub lines : List (List Move)
-  pub are_lines : Lines g p n lines
-  pub are_first : first ≡ record { start = p; lines = take most lines; more = nat_lt most (length lines) }
+  pub are_first : AreFirstLines g p n most first
   pub is : IsMovetext g heading first many movetext
 
 -- the movetext of the solution within n moves
@@ -71,7 +74,7 @@ AreWrittenTags g p section text =
 
 -- the number of moves: the least with a win up to the given number, or that number
 abbrev pub IsNumberOf : Geometry → SolutionArgs → Placement → ℕ → Type 0
-IsNumberOf g query p n = MatchBool query.is_least (IsJudgedAt g p query.moves.value n) (n ≡ query.moves.value)
+IsNumberOf g query p n = IsNumberFor g p query.is_least query.moves.value n
 
 -- A position as a game: its tags, its solution, and an empty line.
 abbrev pub IsGameText : Geometry → SolutionArgs → Placement → (section text : List ℕ) → Type 0

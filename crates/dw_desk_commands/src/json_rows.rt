@@ -1,9 +1,9 @@
 //! The rows of JSON of `find`, each an object in a line.
-ghost use Rattle.std.specs.Prelude.{◌≡◌, ℕ, ◌∷◌, [], List, codes, IfOk, OnOk};
+ghost use Rattle.std.specs.Prelude.{◌≡◌, ℕ, ◌∷◌, [], Bool, List, codes, IfOk, OnOk};
 ghost use Rattle.std.specs.String.{string_bytes};
 ghost use Rattle.json.specs.Json.{string};
-ghost use Rattle.dw_desk_commands.specs.FindingJson.{AreAfterKeys, AreFound, IsFoundRow, before_keys, refused_row};
-ghost use Rattle.dw_desk_commands.specs.FindingJson.{verdict_word};
+ghost use Rattle.dw_desk_commands.specs.FindingJson.{AreAfterKeys, AreFound, AreSolutionMembers, IsFoundRow};
+ghost use Rattle.dw_desk_commands.specs.FindingJson.{before_keys, verdict_word};
 ghost use Rattle.dw_json.specs.Rows.{Member, count};
 ghost use Rattle.dw_json.specs.Writing.{WritesMembers};
 ghost use Rattle.dw_verdict.specs.Judging.{said_by};
@@ -11,45 +11,51 @@ ghost use Rattle.dw_verdict.specs.Verdict.{IsVerdict, Tries};
 ghost use Rattle.dw_study.specs.Finding.{IsFinding, judged as found_judged};
 ghost use Rattle.dw_study.specs.Telling.{told_by};
 
+use dw_arguments::USUAL_LINES;
 use dw_board::{Board, Position, fen_text};
 use dw_json::{begin_row, end_row, put_number, put_pairs, put_text, put_texts};
-use dw_notation::ProblemFault;
-use dw_report::{dual_texts, key_texts, refusal_text, try_texts};
+use dw_report::{dual_texts, key_texts, try_texts};
+use dw_rows::put_lines;
+use dw_solution::FirstLines;
 use dw_study::Finding;
 use dw_verdict::{Judged, Verdict};
 use json::Writer;
 use std::alloc::{AllocError, Global};
 
-/// Makes the row of a problem that is refused.
-pub(crate) fn refused_line(
-    alloc: Global,
-    number: u32,
-    fault: ProblemFault,
-) -> Result<String, AllocError>
-    ensures { IfOk result (λ line. string_bytes line ≡ refused_row number fault) }
-{
-    let mut row = begin_row(alloc)?;
-    put_number(&mut row, "problem", number.into())?;
-    put_text(&mut row, "refused", refusal_text(fault).as_str())?;
-    end_row(row)
-}
-
-/// Makes the row of a position, and of the result of the search.
+/// Makes the row of a position and of the result of the search, with the first lines of the solution if they are there.
 pub(crate) fn found_line<B: Board>(
     alloc: Global,
     number: u32,
     position: &Position<B>,
     finding: &Finding<B>,
+    solution: &Option<FirstLines<B>>,
 ) -> Result<String, AllocError>
-    requires { (most : ℕ) × IsFinding B.geometry position.now most (told_by finding.now) }
+    requires { (is_least : Bool) × (moves : ℕ)
+        × IsFinding B.geometry position.now is_least moves (told_by finding.now) }
     ensures { IfOk result (λ line.
-        IsFoundRow B.geometry number position.now (told_by finding.now) (string_bytes line)) }
+        IsFoundRow B.geometry number position.now (told_by finding.now) solution.now (string_bytes line)) }
 {
     let mut row = begin_row(alloc)?;
     put_number(&mut row, "problem", number.into())?;
     put_text(&mut row, "fen", fen_text(position).as_str())?;
     put_found(alloc, &mut row, position, finding)?;
+    put_solution(alloc, &mut row, solution)?;
     end_row(row)
+}
+
+/// Writes the members for the first lines of the solution, if they are there.
+fn put_solution<B: Board>(
+    alloc: Global,
+    row: &mut Writer,
+    solution: &Option<FirstLines<B>>,
+) -> Result<(), AllocError>
+    ensures { OnOk result ((members : List Member) × AreSolutionMembers B.geometry solution.now members
+        × WritesMembers members row.old row.new) }
+{
+    match solution {
+        Some(first) => put_lines(alloc, row, first, USUAL_LINES),
+        None => Ok(()),
+    }
 }
 
 /// Writes the members for the result of the search.
@@ -59,7 +65,8 @@ fn put_found<B: Board>(
     position: &Position<B>,
     finding: &Finding<B>,
 ) -> Result<(), AllocError>
-    requires { (most : ℕ) × IsFinding B.geometry position.now most (told_by finding.now) }
+    requires { (is_least : Bool) × (moves : ℕ)
+        × IsFinding B.geometry position.now is_least moves (told_by finding.now) }
     ensures { OnOk result ((members : List Member) × AreFound B.geometry position.now (told_by finding.now) members
         × WritesMembers members row.old row.new) }
 {

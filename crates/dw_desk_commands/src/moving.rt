@@ -11,7 +11,6 @@ ghost use Rattle.dw_notation.specs.Problems.{numbered};
 ghost use Rattle.dw_solve.specs.declared.stop.Stop.TheVariants.{Limit};
 
 use crate::desk::{Desk, DeskFault};
-use crate::json_rows::refused_line;
 use crate::reporting::ReportOne;
 use crate::watcher::DeskWatcher;
 use dw_arguments::MovesArgs;
@@ -22,7 +21,7 @@ use dw_first_moves::{FirstMoves, first_moves_text};
 use dw_games::Game;
 use dw_notation::{Problem, Sink, write_all};
 use dw_parts::Part;
-use dw_report::{Stop, problem_line};
+use dw_report::{Stop, problem_line, refused_line};
 use dw_rows::first_moves_row;
 use dw_study::Slices;
 

@@ -13,7 +13,7 @@ ghost use Rattle.dw_games.specs.Games.{NumberedGame};
 ghost use Rattle.dw_games.specs.TagRows.{TagText, AreTags};
 ghost use Rattle.dw_page.specs.Pages.{author_of, end, head, refused, values_of};
 ghost use Rattle.dw_verdict.specs.Judging.{said_by};
-ghost use Rattle.dw_report.specs.Report as report;
+ghost use Rattle.dw_report.specs.Refusals as refusals;
 ghost use Rattle.dw_verdict.specs.Verdict.{IsVerdict, Tries};
 ghost use Rattle.dw_solve.specs.declared.stop.Stop.TheVariants.{Limit};
 ghost use Rattle.dw_study.specs.Finding.{IsFinding};
@@ -176,7 +176,7 @@ fn refused_part(
     fault: ProblemFault,
 ) -> Result<Vec<u8>, AllocError>
     ensures { IfOk result (λ part. part.items
-        ≡ refused (language_for query.now.language) number (report.refusal_text fault)) }
+        ≡ refused (language_for query.now.language) number (refusals.refusal_text fault)) }
 {
     let mut part = Vec::new(alloc);
     let why = refusal_text(fault);
@@ -230,13 +230,14 @@ fn found<B: Board, W: DeskWatcher>(
     number: u32,
     position: &Position<B>,
 ) -> Result<Finding<B>, Stop>
-    ensures finding { IfOk result (λ finding. IsFinding B.geometry position.now query.now.moves.value
+    ensures finding { IfOk result (λ finding. IsFinding B.geometry position.now true query.now.moves.value
         (told_by finding)) }
     ensures judged { IfOk result (λ finding. is_open (told_by finding) ≡ false) }
     ensures stop { IsErrOf result Limit → desk.new.solver.expanded ≡ u64.MAX }
 {
     let bounds = FindBounds {
-        most: query.moves,
+        moves: query.moves,
+        is_least: true,
         each: None,
     };
     desk.begin(slices, number);

@@ -12,13 +12,12 @@ ghost use Rattle.dw_notation.specs.Problems.{numbered};
 
 use crate::chosen::Chosen;
 use crate::desk::{Counts, Desk, DeskFault};
-use crate::json_rows::refused_line;
 use crate::watcher::DeskWatcher;
 use dw_board::Board;
 use dw_commands::Ending;
 use dw_games::Game;
 use dw_notation::{Problem, ProblemFault, Sink, Source, write_all};
-use dw_report::problem_line;
+use dw_report::{problem_line, refused_line};
 use dw_study::Slices;
 use std::alloc::Global;
 

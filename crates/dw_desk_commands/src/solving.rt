@@ -3,8 +3,8 @@ ghost use Rattle.std.specs.Prelude.{◌≡◌, ◌≤◌, ℕ, List, false, map,
 ghost use Rattle.std.specs.Io.KnownBytes.{Appends};
 ghost use Rattle.std.specs.List.{flat_map};
 ghost use Rattle.std.specs.String.{string_bytes};
-ghost use Rattle.dw_desk_commands.specs.Solving.{AreWrittenTags, IsGameFor, IsMovetextOf, IsSolutionLine};
-ghost use Rattle.dw_desk_commands.specs.Solving.{IsNumberOf, IsSolutionOf, new_lines, own_line};
+ghost use Rattle.dw_desk_commands.specs.Solving.{AreFirstLines, AreWrittenTags, IsGameFor, IsMovetextOf};
+ghost use Rattle.dw_desk_commands.specs.Solving.{IsSolutionLine, IsNumberOf, IsSolutionOf, new_lines, own_line};
 ghost use Rattle.dw_study.specs.Finding.{IsJudgedAt};
 ghost use Rattle.dw_desk_commands.specs.Solving as of;
 ghost use Rattle.dw_desk_commands.specs.inner.Faults.{ReportFails, SinkFails};
@@ -14,14 +14,13 @@ ghost use Rattle.dw_verdict.specs.Judging.{said_by};
 ghost use Rattle.dw_verdict.specs.Verdict.{IsVerdict};
 
 use crate::desk::{Desk, DeskFault};
-use crate::json_rows::refused_line;
 use crate::reporting::ReportEach;
 use crate::watcher::DeskWatcher;
 use dw_arguments::SolutionArgs;
 use dw_board::{Board, Position, fen_text};
 use dw_games::{Game, Tag, read_tags};
 use dw_notation::{Problem, ProblemFault, Sink, write_all};
-use dw_report::{Stop, refusal_text};
+use dw_report::{Stop, refusal_text, refused_line};
 use dw_rows::solution_row;
 use dw_solution::movetext::movetext;
 use dw_solution::{FirstLines, Heading, SolutionText, VerdictKind, first_lines};
@@ -236,8 +235,7 @@ pub(crate) fn solved_within<B: Board>(
         s.movetext.lines s.movetext.text.items) }
     ensures stop { IsErrOf result Limit → desk.new.solver.expanded ≡ u64.MAX }
 {
-    dw_list::laws::lines_exist();
-    let first = first_lines(desk.alloc, &mut desk.solver, position, moves, lines)?;
+    let first = lines_within(desk, position, moves, lines)?;
     let heading = Heading {
         kind: kind_of(verdict),
         moves: moves.value,
@@ -248,6 +246,20 @@ pub(crate) fn solved_within<B: Board>(
         first,
         movetext,
     })
+}
+
+/// Lists the first lines of a position within `moves` moves, at most `most`.
+pub(crate) fn lines_within<B: Board>(
+    desk: &mut Desk<B>,
+    position: &Position<B>,
+    moves: MoveCount,
+    most: usize,
+) -> Result<FirstLines<B>, Stop>
+    ensures lines { IfOk result (AreFirstLines B.geometry position.now moves.value most) }
+    ensures stop { IsErrOf result Limit → desk.new.solver.expanded ≡ u64.MAX }
+{
+    dw_list::laws::lines_exist();
+    first_lines(desk.alloc, &mut desk.solver, position, moves, most)
 }
 
 /// Returns the kind of a verdict.

@@ -13,7 +13,7 @@ use Rattle.dw_notation.specs.declared.problems.TheConstants.{MAX_PROBLEMS}
 use Rattle.dw_notation.specs.declared.problems.ProblemFault.TheVariants.{TooManyProblems}
 use Rattle.dw_notation.specs.declared.problems.Form.{Form}
 use Rattle.dw_report.specs.Request.{number_is_chosen, number_is_asked, Request}
-use Rattle.dw_report.specs.Report.{chosen, AreTexts, IsReportOn, first_line}
+use Rattle.dw_report.specs.Report.{chosen, AreTexts, IsReportOn, heading}
 use Rattle.dw_report.specs.Running.{up_to_asked, AreRefused, IsPartOn}
 
 -- the problem that was asked for by its number
@@ -145,7 +145,8 @@ part_on-behind g s number front mid back all text out split h part = record {
   whole = texts-append g s (chosen s.only front) part.before text part.texts h part.whole;
   lines = part.lines;
   further = part.further;
-  is = ap (λ z. text ++ z) part.is ∙ sym (append_assoc text part.texts (first_line g part.problem ++ part.lines));
+  is = ap (λ z. text ++ z) part.is
+      ∙ sym (append_assoc text part.texts (heading g s.command part.problem ++ part.lines));
 }
 
 -- behind the problem that was asked for nothing is chosen

@@ -4,11 +4,13 @@ use Rattle.std.proofs.Common.{IsErrOf, arith, IfOk, IsTrue, ◌↔◌}
 use Rattle.dw_solve.specs.Solving.{Solving}
 use Rattle.dw_solve.specs.declared.stop.Stop.{Stop}
 use Rattle.dw_solve.specs.declared.stop.Stop.TheVariants as stops
+use Rattle.std.proofs.lemmas.Bool.{true≢false}
+use Rattle.dw_report.specs.Request.{writes_rows}
 use Rattle.dw_report.specs.inner.Running.{TextEnds, SinkEnds, SearchesFor, Spends}
 use Rattle.dw_report.specs.declared.problem.TextFault.{TextFault}
 use Rattle.dw_report.specs.declared.problem.TextFault.TheVariants.{Stopped, Sink}
 use Rattle.dw_report.specs.declared.settings.Command.{Command}
-use Rattle.dw_report.specs.declared.settings.Command.TheVariants.{Moves, List as Lists}
+use Rattle.dw_report.specs.declared.settings.Command.TheVariants.{Show, ShowRow, Moves, MovesRow, Judge, List as Lists}
 use Rattle.dw_report.proofs.SearchLemmas.{same_fault, sink_not_stopped}
 use Rattle.dw_report.proofs.SpendingLemmas.{Counted, counted_then}
 use Rattle.dw_report.proofs.WritingLemmas.{fault_stays}
@@ -68,7 +70,18 @@ searches_for {M} {X} command told old new r e h = subst (λ (c : Command). Searc
 -- where moves are listed nothing is searched
 pub searches_moves : {M X : Type 0} (command : Command) (old : Solving M) (r : Result X TextFault) → command ≡ Moves
     → ((why : Stop) → r ≡ Err (Stopped why) → why ≡ stops.Memory) → SearchesFor command old old r
-searches_moves command old r e h = searches_for command Moves old old r e (refl, h)
+searches_moves command old r e h = searches_for command Moves old old r e (record { same = refl; memory = h })
+
+-- a row is written without a search, and only lack of memory stops it
+pub searches_row : {M X : Type 0} (command : Command) (old : Solving M) (r : Result X TextFault)
+    → writes_rows command ≡ true → ((why : Stop) → r ≡ Err (Stopped why) → why ≡ stops.Memory)
+    → SearchesFor command old old r
+searches_row Show old r e h = absurd (true≢false (sym e))
+searches_row ShowRow old r e h = record { same = refl; memory = h }
+searches_row Moves old r e h = absurd (true≢false (sym e))
+searches_row MovesRow old r e h = record { same = refl; memory = h }
+searches_row Judge old r e h = absurd (true≢false (sym e))
+searches_row Lists old r e h = absurd (true≢false (sym e))
 
 -- a stop is no fault of the sink
 pub sink_stopped : {X : Type 0} (old new : Bool) (s : Result X TextFault) (why : Stop) → s ≡ Err (Stopped why)
@@ -139,3 +152,14 @@ pub refused_lists : (X : Type 0) (command : Command) (r : Result Bool TextFault)
     → IfOk r (λ b. IsTrue b ↔ X) → IfOk r (λ b. IsTrue b ↔ ((command ≡ Lists) × X))
 refused_lists X command (Ok b) e h = (λ t. (e, h.0 t), λ k. h.1 k.1)
 refused_lists X command (Err fault) e h = h
+
+-- a row of a position is no refusal
+pub refused_row : (X : Type 0) (command : Command) (r : Result Bool TextFault) → (command ≡ Lists → ⊥)
+    → IfOk r (λ b. b ≡ false) → IfOk r (λ b. IsTrue b ↔ ((command ≡ Lists) × X))
+refused_row X command (Ok b) other h = (λ t. let bad : false ≡ true = sym h ∙ t in cc, λ k. absurd (other k.0))
+refused_row X command (Err fault) other h = h
+
+-- a problem that is refused is refused
+pub refused_all : (r : Result Bool TextFault) → IfOk r (λ b. b ≡ true) → IfOk r (λ b. IsTrue b ↔ Unit {0})
+refused_all (Ok b) h = (λ t. tt, λ k. h)
+refused_all (Err fault) h = h

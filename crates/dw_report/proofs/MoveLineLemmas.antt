@@ -5,7 +5,7 @@ use Rattle.std.specs.FinSet as set
 use Rattle.std.specs.List.{flat_map}
 use Rattle.std.specs.Io.KnownBytes.{Appends}
 use Rattle.std.proofs.KnownBytes.{Appends-trans}
-use Rattle.std.proofs.lemmas.List.{take_more, take_all, take-append-drop}
+use Rattle.std.proofs.lemmas.List.{map_push, take_more, take_all, take-append-drop}
 use Rattle.std.proofs.lemmas.Grind.{flat_map-append}
 use Rattle.dw_board.specs.Geometry.{Geometry}
 use Rattle.dw_board.specs.Placement.{Placement}
@@ -115,3 +115,15 @@ count_short g p list i k old mid new line all best h end stop same =
           (ap (λ z. f list ++ z) (sym same) ∙ (ap (λ z. f z ++ line) (sym (take_all i list end))
           ∙ sym (append-nil (f (take i list) ++ line)))) h stop;
     }
+
+-- one more pair of texts
+pub pairs_more : {S : Type 0} (bytes : S → List ℕ) (pair : Listed → List ℕ × List ℕ) (list : List Listed) (i : ℕ)
+    (d : Listed) (old new : List (S × S)) (words : S × S)
+    → map (λ (w : S × S). (bytes w.0, bytes w.1)) old ≡ map pair (take i list) → i < length list
+    → new ≡ old ++ words ∷ [] → (bytes words.0, bytes words.1) ≡ pair (get_or list i d)
+    → map (λ (w : S × S). (bytes w.0, bytes w.1)) new ≡ map pair (take (i + 1) list)
+pairs_more {S} bytes pair list i d old new words are low push one =
+    let both : S × S → List ℕ × List ℕ = λ w. (bytes w.0, bytes w.1) in
+    ap (map both) push ∙ (map_push both old words ∙ (ap (λ z. z ++ both words ∷ []) are
+    ∙ (ap (λ z. map pair (take i list) ++ z ∷ []) one
+    ∙ (sym (map_push pair (take i list) (get_or list i d)) ∙ ap (map pair) (sym (take_more list i d low))))))

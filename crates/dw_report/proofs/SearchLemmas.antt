@@ -1,27 +1,33 @@
 -- Lemmas on what was searched for a text.
-use Rattle.std.proofs.Common.{◌≡◌, ℕ, ◌≤◌, refl, arith, Result, Err, ap, ◌∙◌, sym, subst}
+use Rattle.std.proofs.Common.{◌≡◌, ℕ, ◌≤◌, refl, arith, Result, Err, ap, ◌∙◌, sym, subst, false}
+use Rattle.std.proofs.lemmas.Bool.{true≢false}
 use Rattle.dw_solve.specs.Solving.{Solving}
 use Rattle.dw_solve.specs.declared.stop.Stop.{Stop}
 use Rattle.dw_solve.specs.declared.stop.Stop.TheVariants as stops
 use Rattle.dw_report.specs.inner.Running.{StopsSearch}
 use Rattle.dw_report.specs.Running.{MayStop, StopsRightly}
-use Rattle.dw_report.specs.inner.Running.{SearchesFor, Spends, ended_by}
+use Rattle.dw_report.specs.inner.Running.{IsStill, SearchesFor, Spends, ended_by, searches}
 use Rattle.dw_report.specs.declared.problem.TextFault.{TextFault}
 use Rattle.dw_report.specs.declared.problem.TextFault.TheVariants.{Stopped, Sink}
 use Rattle.dw_report.specs.declared.settings.RunFault.{RunFault}
 use Rattle.dw_report.specs.declared.settings.RunFault.TheVariants as ends
 use Rattle.dw_report.specs.declared.settings.Summary.{Summary}
 use Rattle.dw_report.specs.declared.settings.Command.{Command}
-use Rattle.dw_report.specs.declared.settings.Command.TheVariants.{Show, Moves, Judge, List as Lists}
+use Rattle.dw_report.specs.declared.settings.Command.TheVariants.{Show, ShowRow, Moves, MovesRow, Judge, List as Lists}
 
 -- nothing was searched, and nothing stopped it
 pub searches_none : {M X : Type 0} (command : Command) (old new : Solving M) (r : Result X TextFault) → new ≡ old
     → old.expanded ≤ old.limit → ((why : Stop) → r ≡ Err (Stopped why) → ⊥) → SearchesFor command old new r
 searches_none {M} {X} command old new r same within none = subst (λ (z : Solving M). SearchesFor {M = M} {X = X} command
     old z r) (sym same) (at command) where
+      still : IsStill {M = M} {X = X} old old r
+      still = record { same = refl; memory = λ why e. absurd (none why e) }
+
       at : (command : Command) → SearchesFor {M = M} {X = X} command old old r
       at Show = (refl, none)
-      at Moves = (refl, λ why e. absurd (none why e))
+      at ShowRow = still
+      at Moves = still
+      at MovesRow = still
       at Judge = record {
         count = record { rises = omega arith; within = within; same = refl };
         limit =
@@ -36,12 +42,18 @@ searches_none {M} {X} command old new r same within none = subst (λ (z : Solvin
 pub sink_not_stopped : {X : Type 0} (r : Result X TextFault) → r ≡ Err Sink → (why : Stop) → r ≡ Err (Stopped why) → ⊥
 sink_not_stopped r e why f = cc
 
+still_as : {M X Y : Type 0} (old new : Solving M) (r : Result X TextFault) (s : Result Y TextFault)
+    → ((why : Stop) → s ≡ Err (Stopped why) → r ≡ Err (Stopped why)) → IsStill old new r → IsStill old new s
+still_as old new r s to h = record { same = h.same; memory = λ why e. h.memory why (to why e) }
+
 -- what ends in the same way, or without a stop, was searched in the same way
 pub searches_as : {M X Y : Type 0} (command : Command) (old new : Solving M) (r : Result X TextFault)
     (s : Result Y TextFault) → ((why : Stop) → s ≡ Err (Stopped why) → r ≡ Err (Stopped why))
     → SearchesFor command old new r → SearchesFor command old new s
 searches_as Show old new r s to h = (h.0, λ why e. h.1 why (to why e))
-searches_as Moves old new r s to h = (h.0, λ why e. h.1 why (to why e))
+searches_as ShowRow old new r s to h = still_as old new r s to h
+searches_as Moves old new r s to h = still_as old new r s to h
+searches_as MovesRow old new r s to h = still_as old new r s to h
 searches_as Judge old new r s to h = record { count = h.count; limit = λ e. h.limit (to stops.Limit e) }
 searches_as Lists old new r s to h = record { count = h.count; limit = λ e. h.limit (to stops.Limit e) }
 
@@ -51,24 +63,37 @@ pub same_fault : {X Y : Type 0} (r : Result X TextFault) (s : Result Y TextFault
 same_fault r s fault other was is same why e = let stopped : other ≡ Stopped why = cc in was
     ∙ (ap Err same ∙ ap Err stopped)
 
--- the limit stays, and where moves are listed the count does
+keeps_all : {M X : Type 0} (old new : Solving M) → new ≡ old
+    → (new.limit ≡ old.limit) × (X → new.expanded ≡ old.expanded)
+keeps_all {M} old new e = (ap (λ (s : Solving M). s.limit) e, λ x. ap (λ (s : Solving M). s.expanded) e)
+
+-- the limit stays, and if nothing is searched the count does
 pub searches_keep : {M X : Type 0} (command : Command) (old new : Solving M) (r : Result X TextFault)
-    → SearchesFor command old new r → (new.limit ≡ old.limit) × (command ≡ Moves → new.expanded ≡ old.expanded)
-searches_keep {M} Show old new r h = (ap (λ (s : Solving M). s.limit) h.0, λ e. ap (λ (s : Solving M). s.expanded) h.0)
-searches_keep {M} Moves old new r h = (ap (λ (s : Solving M). s.limit) h.0, λ e. ap (λ (s : Solving M). s.expanded) h.0)
-searches_keep Judge old new r h = (h.count.same, λ e. absurd (let bad : Judge ≡ Moves = e in cc))
-searches_keep Lists old new r h = (h.count.same, λ e. absurd (let bad : Lists ≡ Moves = e in cc))
+    → SearchesFor command old new r
+    → (new.limit ≡ old.limit) × (searches command ≡ false → new.expanded ≡ old.expanded)
+searches_keep Show old new r h = keeps_all old new h.0
+searches_keep ShowRow old new r h = keeps_all old new h.same
+searches_keep Moves old new r h = keeps_all old new h.same
+searches_keep MovesRow old new r h = keeps_all old new h.same
+searches_keep Judge old new r h = (h.count.same, λ e. absurd (true≢false e))
+searches_keep Lists old new r h = (h.count.same, λ e. absurd (true≢false e))
 
 stops_search : {M X : Type 0} (old new : Solving M) (r : Result X TextFault) (why : Stop) → r ≡ Err (Stopped why)
     → Spends old new r → StopsSearch old.limit why new.expanded
 stops_search old new r stops.Limit e h = h.limit e ∙ h.count.same
 stops_search old new r stops.Memory e h = h.count.within
 
+still_stops : {M X : Type 0} (old new : Solving M) (r : Result X TextFault) (why : Stop) → r ≡ Err (Stopped why)
+    → IsStill old new r → old.expanded ≡ 0 → (why ≡ stops.Memory) × (new.expanded ≡ 0)
+still_stops {M} old new r why e h still = (h.memory why e, ap (λ (s : Solving M). s.expanded) h.same ∙ still)
+
 may_stop : {M X : Type 0} (command : Command) (old new : Solving M) (r : Result X TextFault) (why : Stop)
-    → r ≡ Err (Stopped why) → SearchesFor command old new r → (command ≡ Moves → old.expanded ≡ 0)
+    → r ≡ Err (Stopped why) → SearchesFor command old new r → (searches command ≡ false → old.expanded ≡ 0)
     → MayStop command old.limit why new.expanded
 may_stop Show old new r why e h still = h.1 why e
-may_stop {M} Moves old new r why e h still = (h.1 why e, ap (λ (s : Solving M). s.expanded) h.0 ∙ still refl)
+may_stop ShowRow old new r why e h still = still_stops old new r why e h (still refl)
+may_stop Moves old new r why e h still = still_stops old new r why e h (still refl)
+may_stop MovesRow old new r why e h still = still_stops old new r why e h (still refl)
 may_stop Judge old new r stops.Limit e h still = stops_search old new r stops.Limit e h
 may_stop Judge old new r stops.Memory e h still = stops_search old new r stops.Memory e h
 may_stop Lists old new r stops.Limit e h still = stops_search old new r stops.Limit e h
@@ -84,7 +109,7 @@ ends_same r w why n expanded e f = let one : w ≡ why = cc in let two : n ≡ e
 -- a run that ends with a fault stops rightly
 pub stops_rightly : {M X : Type 0} (command : Command) (limit : ℕ) (old new : Solving M) (r : Result X TextFault)
     (fault : TextFault) → r ≡ Err fault → SearchesFor command old new r → old.limit ≡ limit
-    → (command ≡ Moves → old.expanded ≡ 0)
+    → (searches command ≡ false → old.expanded ≡ 0)
     → StopsRightly command limit (Err (ended_by fault new.expanded))
 stops_rightly command limit old new r Sink e h same still = λ why expanded bad. absurd
     (ends_apart (Err ends.Write) why expanded refl bad)

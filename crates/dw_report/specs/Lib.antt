@@ -1,4 +1,6 @@
 pub mod Request
+pub mod Refusals
+pub mod JsonRows
 pub mod JudgedText
 pub mod MoveTexts
 pub mod ListedText

@@ -1,53 +1,24 @@
 -- The report: for each chosen problem, in order, its text.
 use Rattle.std.specs.Prelude.{◌≡◌, ℕ, Option, Ok, Err, List, [], ◌∷◌, ◌++◌, length, filter, codes, decimal, true}
+use Rattle.std.specs.Prelude.{if◌then◌else◌}
 use Rattle.std.specs.List.{flat_map}
 use Rattle.dw_board.specs.Geometry.{Geometry}
 use Rattle.dw_board.specs.Placement.{Placement}
 use Rattle.dw_board.specs.FenText.{written}
 use Rattle.dw_board.specs.Diagram.{diagram_text}
-use Rattle.dw_board.specs.declared.fen.fault.FenFaultKind.{FenFaultKind}
-use Rattle.dw_board.specs.declared.fen.fault.FenFaultKind.TheVariants.{Turn, Colon, Colour, Number, Twice, SameColour}
-use Rattle.dw_board.specs.declared.fen.fault.FenFaultKind.TheVariants.{LastRow, TooMany, Rest, TooLong, RangeBackwards}
 use Rattle.dw_moves.specs.Moves.{IsBest, play}
 use Rattle.dw_moves.specs.Order.{Listed, AreListed}
 use Rattle.dw_notation.specs.Text.{text_among}
 use Rattle.dw_notation.specs.TextLines.{Found}
 use Rattle.dw_notation.specs.Problems.{Numbered, AreProblems}
 use Rattle.dw_notation.specs.declared.problems.ProblemFault.{ProblemFault}
-use Rattle.dw_notation.specs.declared.problems.ProblemFault.TheVariants.{Fen, NoFen, TwoFens, WrongGame, LineTooLong}
-use Rattle.dw_notation.specs.declared.problems.ProblemFault.TheVariants.{SectionTooLong, UnclosedTag, UnclosedComment}
-use Rattle.dw_notation.specs.declared.problems.ProblemFault.TheVariants.{TooManyProblems}
-use Rattle.dw_report.specs.Request.{number_is_chosen, Request}
+use Rattle.dw_report.specs.JsonRows.{IsMovesRow, refused_row, shown_row}
+use Rattle.dw_report.specs.Refusals.{refusal_text}
+use Rattle.dw_report.specs.Request.{number_is_chosen, writes_rows, Request}
 use Rattle.dw_report.specs.declared.settings.Command.{Command}
-use Rattle.dw_report.specs.declared.settings.Command.TheVariants.{Show, Moves, Judge, List as Lists}
+use Rattle.dw_report.specs.declared.settings.Command.TheVariants.{Show, ShowRow, Moves, MovesRow, Judge, List as Lists}
 use Rattle.dw_report.specs.JudgedText.{IsJudgedText}
 use Rattle.dw_report.specs.ListedText.{IsListedText}
-
--- the number and the name of a fault of a FEN text
-abbrev pub fen_fault_text : FenFaultKind → List ℕ
-fen_fault_text Turn = codes "1 turn"
-fen_fault_text Colon = codes "2 colon"
-fen_fault_text Colour = codes "3 colour"
-fen_fault_text Number = codes "4 number"
-fen_fault_text Twice = codes "5 twice"
-fen_fault_text SameColour = codes "6 same colour"
-fen_fault_text LastRow = codes "7 last row"
-fen_fault_text TooMany = codes "8 too many"
-fen_fault_text Rest = codes "9 rest"
-fen_fault_text TooLong = codes "10 too long"
-fen_fault_text RangeBackwards = codes "11 range backwards"
-
--- the reason for a refusal: the number and the name of its fault, and its place in a FEN text
-abbrev pub refusal_text : ProblemFault → List ℕ
-refusal_text (Fen fault) = codes "1 fen: " ++ fen_fault_text fault.what ++ codes " at " ++ decimal fault.place
-refusal_text NoFen = codes "2 no fen"
-refusal_text TwoFens = codes "3 two fens"
-refusal_text WrongGame = codes "4 wrong game"
-refusal_text LineTooLong = codes "5 line too long"
-refusal_text SectionTooLong = codes "6 section too long"
-refusal_text UnclosedTag = codes "7 unclosed tag"
-refusal_text UnclosedComment = codes "8 unclosed comment"
-refusal_text TooManyProblems = codes "9 too many problems"
 
 -- the written FEN, or the refusal
 abbrev pub found_text : Geometry → Found → List ℕ
@@ -72,23 +43,33 @@ pub record IsMovesText (g : Geometry) (p : Placement) (text : List ℕ) : Type 0
   pub is : text ≡ flat_map (move_line g p list) list
       ++ (codes "moves " ++ decimal (length list) ++ codes " taking " ++ decimal most ++ codes "\n")
 
--- the text of the command on a position
-abbrev pub IsSaid : Geometry → Command → Request → Placement → List ℕ → Type 0
-IsSaid g Show request p text = text ≡ diagram_text g p
-IsSaid g Moves request p text = IsMovesText g p text
-IsSaid g Judge request p text = IsJudgedText g p request.moves text
-IsSaid g Lists request p text = IsListedText g p request.moves request.lines request.after text
+-- the line before the text of the command: the first line, and none before a row
+abbrev pub heading : Geometry → Command → Numbered → List ℕ
+heading g command problem = if writes_rows command then [] else first_line g problem
 
--- the text after the first line: that of the command, or nothing after a refusal
-abbrev pub IsFurther : Geometry → Request → Found → List ℕ → Type 0
-IsFurther g request (Ok p) text = IsSaid g request.command request p text
-IsFurther g request (Err fault) text = text ≡ []
+-- the text of the command on the position of the problem of this number
+abbrev pub IsSaid : Geometry → Command → Request → (number : ℕ) → Placement → List ℕ → Type 0
+IsSaid g Show request number p text = text ≡ diagram_text g p
+IsSaid g ShowRow request number p text = text ≡ shown_row g number p
+IsSaid g Moves request number p text = IsMovesText g p text
+IsSaid g MovesRow request number p text = IsMovesRow g number p text
+IsSaid g Judge request number p text = IsJudgedText g p request.moves text
+IsSaid g Lists request number p text = IsListedText g p request.moves request.lines request.after text
 
--- the text of a problem: its first line, and the rest
+-- the text after the heading of a refused problem: its row, or nothing, since its first line says why
+abbrev pub refused_text : Command → (number : ℕ) → ProblemFault → List ℕ
+refused_text command number fault = if writes_rows command then refused_row number fault else []
+
+-- the text after the heading: that of the command, or of the refusal
+abbrev pub IsFurther : Geometry → Request → (number : ℕ) → Found → List ℕ → Type 0
+IsFurther g request number (Ok p) text = IsSaid g request.command request number p text
+IsFurther g request number (Err fault) text = text ≡ refused_text request.command number fault
+
+-- the text of a problem: its first line and the rest, or its row
 pub record IsProblemText (g : Geometry) (request : Request) (problem : Numbered) (text : List ℕ) : Type 0 where
   pub further : List ℕ
-  pub follows : IsFurther g request problem.found further
-  pub is : text ≡ first_line g problem ++ further
+  pub follows : IsFurther g request problem.number problem.found further
+  pub is : text ≡ heading g request.command problem ++ further
 
 -- the texts of problems, one after another
 abbrev pub AreTexts : Geometry → Request → List Numbered → List ℕ → Type 0

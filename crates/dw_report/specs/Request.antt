@@ -3,6 +3,7 @@ use Rattle.std.specs.Prelude.{ℕ, Option, option_map, List, ◌==◌, Bool, tru
 use Rattle.dw_moves.specs.Moves.{Move}
 use Rattle.dw_notation.specs.declared.problems.Form.{Form}
 use Rattle.dw_report.specs.declared.settings.Command.{Command}
+use Rattle.dw_report.specs.declared.settings.Command.TheVariants.{ShowRow, MovesRow}
 use Rattle.dw_report.specs.declared.settings.Settings.{Settings}
 
 -- the command, the form of the text, the number of moves, the only problem, the most lines, the line to list after
@@ -24,6 +25,12 @@ request_of settings = record {
   lines = settings.lines;
   after = option_map (λ line. line.items) settings.after;
 }
+
+-- whether a command writes each problem as a row of JSON
+abbrev pub writes_rows : Command → Bool
+writes_rows ShowRow = true
+writes_rows MovesRow = true
+writes_rows words = false
 
 -- whether the problem of a number is reported: all are, or the only one requested
 abbrev pub number_is_chosen : Option ℕ → ℕ → Bool

@@ -15,7 +15,7 @@ use Rattle.dw_solve.specs.declared.stop.Stop.{Stop}
 use Rattle.dw_solve.specs.declared.stop.Stop.TheVariants.{Memory, Limit}
 use Rattle.dw_solve.specs.Lines.{Line}
 use Rattle.dw_report.specs.Request.{number_is_asked, Request}
-use Rattle.dw_report.specs.Report.{IsReport, IsReportOn, IsFurther, AreTexts, first_line, chosen}
+use Rattle.dw_report.specs.Report.{IsReport, IsReportOn, IsFurther, AreTexts, heading, chosen}
 use Rattle.dw_report.specs.declared.settings.Summary.{Summary}
 use Rattle.dw_report.specs.declared.settings.RunFault.{RunFault}
 use Rattle.dw_report.specs.declared.settings.RunFault.TheVariants as ends
@@ -105,7 +105,8 @@ pub record AreLinesOf (P : List ℕ → Type 0) (lines : List ℕ) : Type 0 wher
   pub front : IsBeginning lines text
   pub whole : AreWholeLines lines
 
--- the whole texts of the chosen problems before the one of this number, its first line, and whole lines of its rest
+-- the whole texts of the chosen problems before the one of this number; its first line, or nothing before a row; and
+-- whole lines of its rest
 pub record IsPartOn (g : Geometry) (request : Request) (number : ℕ) (problems : List Numbered) (out : List ℕ) :
     Type 0 where
   pub before : List Numbered
@@ -116,8 +117,8 @@ pub record IsPartOn (g : Geometry) (request : Request) (number : ℕ) (problems 
   pub texts : List ℕ
   pub whole : AreTexts g request before texts
   pub lines : List ℕ
-  pub further : AreLinesOf (IsFurther g request problem.found) lines
-  pub is : out ≡ texts ++ (first_line g problem ++ lines)
+  pub further : AreLinesOf (IsFurther g request problem.number problem.found) lines
+  pub is : out ≡ texts ++ (heading g request.command problem ++ lines)
 
 -- a beginning of the report on some bytes, up to a line of some problem; no more was read than that problem needs
 pub record IsPart (g : Geometry) (request : Request) (read bytes out : List ℕ) : Type 0 where
@@ -147,10 +148,13 @@ RunEnds g request (Some bytes) left ended taken after (Err ends.Read) = StopsRea
 RunEnds g request (Some bytes) left ended taken after (Err ends.Write) =
     StopsAhead (λ read text out. BeginsReport g request text out) bytes left ended taken after
 
--- how a run may be stopped: `show` never; `moves` only for lack of memory; a search also at its limit, never above it
+-- how a run may be stopped: `show` never; `moves` and rows only for lack of memory; a search also at its limit, never
+-- above it
 abbrev pub MayStop : Command → ℕ → Stop → ℕ → Type 0
 MayStop asked.Show limit why expanded = ⊥
+MayStop asked.ShowRow limit why expanded = (why ≡ Memory) × (expanded ≡ 0)
 MayStop asked.Moves limit why expanded = (why ≡ Memory) × (expanded ≡ 0)
+MayStop asked.MovesRow limit why expanded = (why ≡ Memory) × (expanded ≡ 0)
 MayStop searches limit Limit expanded = expanded ≡ limit
 MayStop searches limit Memory expanded = expanded ≤ limit
 

@@ -4,6 +4,7 @@
 //! `dw_verdict`, and sources, sinks and problems from `dw_notation`; they are offered here under the same names.
 #![tactic(auto)]
 
+mod json_rows;
 mod judged;
 pub mod laws;
 mod listing;
@@ -15,6 +16,7 @@ mod text;
 
 pub use dw_notation::{problems, streams};
 pub use dw_verdict::{Judged, Verdict, judge, verdict};
+pub use json_rows::refused_line;
 pub use judged::judged_text;
 pub use move_texts::{dual_texts, each_move_text, joined_text, key_texts, try_texts};
 pub use settings::{Command, RunFault, Settings, Stop, Summary};

@@ -10,6 +10,7 @@ ghost use Rattle.dw_report.specs.Running.{AreLinesOf, IsRefused};
 ghost use Rattle.dw_report.specs.inner.Running.{TextEnds, SinkEnds, SearchesFor, IsRest, IsSound};
 ghost use Rattle.dw_report.specs.Running.{IsNoLine};
 
+use crate::json_rows::{moves_row, refused_line, shown_row, write_row};
 use crate::judged::write_judged;
 use crate::listing::write_lines;
 use crate::settings::{Command, Settings};
@@ -59,10 +60,10 @@ impl From<WriteFault> for TextFault {
 }
 
 /// Writes the text of a problem. The first write has everything known at once: the first line, and the diagram of a
-/// position that is shown. The command adds the rest, each line as soon as it is known. Returns whether the problem was
-/// refused, or the line after which its lines are listed.
+/// position that is shown. The command adds the rest, each line as soon as it is known. A row is made whole, and then
+/// written. Returns whether the problem was refused, or the line after which its lines are listed.
 ///
-/// After a stop the sink has its first line and whole lines of the rest.
+/// After a stop the sink has its first line, if it has one, and whole lines of the rest.
 pub(crate) fn write_problem<B: Board, K: Sink, M: Memo<B>, G: Guide<B>>(
     alloc: Global,
     sink: &mut K,
@@ -85,8 +86,14 @@ pub(crate) fn write_problem<B: Board, K: Sink, M: Memo<B>, G: Guide<B>>(
     let known = known_text(problem, settings.command);
     write_all(sink, known.as_str().as_bytes())?;
     match &problem.found {
-        Ok(position) => write_rest(alloc, sink, solver, settings, position),
-        Err(_) => Ok(true),
+        Ok(position) => write_rest(alloc, sink, solver, settings, problem.number, position),
+        Err(fault) => {
+            if settings.command.writes_rows() {
+                write_row(sink, refused_line(alloc, problem.number, *fault), true)
+            } else {
+                Ok(true)
+            }
+        }
     }
 }
 
@@ -97,26 +104,30 @@ fn write_rest<B: Board, K: Sink, M: Memo<B>, G: Guide<B>>(
     sink: &mut K,
     solver: &mut Solver<B, M, G>,
     settings: &Settings<B>,
+    number: u32,
     position: &Position<B>,
 ) -> Result<bool, TextFault>
     requires works { K.is_failed sink.old ≡ false }
     requires sound { IsSound B.geometry (request_of settings.now) }
-    ensures text { TextEnds (IsRest B.geometry (request_of settings.now) position.now)
-        (AreLinesOf (IsRest B.geometry (request_of settings.now) position.now)) (K.taken sink.old) (K.taken sink.new)
-        result }
+    ensures text { TextEnds (IsRest B.geometry (request_of settings.now) number position.now)
+        (AreLinesOf (IsRest B.geometry (request_of settings.now) number position.now)) (K.taken sink.old)
+        (K.taken sink.new) result }
     ensures sink { SinkEnds (K.is_failed sink.old) (K.is_failed sink.new) result }
     ensures searches { SearchesFor settings.now.command solver.old solver.new result }
     ensures refused { IfOk result (λ refused. IsTrue refused
         ↔ (settings.now.command ≡ Command.List)
         × IsNoLine B.geometry position.now settings.now.n (request_of settings.now).after) }
 {
+    crate::laws::one_report();
     solver.keeps_its_limit();
     match settings.command {
         Command::Show => Ok(false),
+        Command::ShowRow => write_row(sink, shown_row(alloc, number, position), false),
         Command::Moves => {
             write_moves(alloc, sink, position)?;
             Ok(false)
         }
+        Command::MovesRow => write_row(sink, moves_row(alloc, number, position), false),
         Command::Judge => {
             solver.forget();
             write_judged(alloc, sink, solver, position, settings.n)?;

@@ -1,6 +1,6 @@
 //! The settings of a run, and its summary.
 ghost use Rattle.std.specs.Prelude.{◌≡◌};
-ghost use Rattle.dw_report.specs.Request.{number_is_chosen, number_is_asked};
+ghost use Rattle.dw_report.specs.Request.{number_is_chosen, number_is_asked, writes_rows};
 
 use arrayvec::ArrayVec;
 use dw_board::Board;
@@ -14,13 +14,29 @@ use thiserror::Error;
 pub enum Command {
     /// The position, as a diagram.
     Show,
+    /// The position, as a row of JSON.
+    ShowRow,
     /// All legal moves in order, each with the position after it; then their number, and the number of pieces that each
     /// of them takes.
     Moves,
+    /// The same of the moves, as a row of JSON.
+    MovesRow,
     /// The verdict: whether there is a forced win, and how well; then the tries.
     Judge,
     /// The lines of the forced win in order, and whether there are more.
     List,
+}
+
+impl Command {
+    /// Returns whether the command writes each problem as a row of JSON, with no first line before it.
+    pub fn writes_rows(self) -> bool
+        ensures { result ≡ writes_rows self }
+    {
+        match self {
+            Command::ShowRow | Command::MovesRow => true,
+            Command::Show | Command::Moves | Command::Judge | Command::List => false,
+        }
+    }
 }
 
 /// The settings of a run.

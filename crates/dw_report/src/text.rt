@@ -2,7 +2,8 @@
 ghost use Rattle.std.specs.Prelude.{◌≡◌, ◌<◌, ◌++◌, length, codes, decimal, HoldsAt};
 ghost use Rattle.dw_moves.specs.Order.{AreListed};
 ghost use Rattle.dw_report.specs.inner.Running.{at_once};
-ghost use Rattle.dw_report.specs.Report.{fen_fault_text, refusal_text, first_line as line_of};
+ghost use Rattle.dw_report.specs.Refusals.{fen_fault_text, refusal_text};
+ghost use Rattle.dw_report.specs.Report.{first_line as line_of, heading as heading_of};
 ghost use Rattle.dw_report.specs.Report.{move_line as line_of_move};
 ghost use Rattle.dw_report.specs.inner.Rows.{count_line as line_of_count};
 ghost use Rattle.dw_notation.specs.Problems.{numbered};
@@ -35,20 +36,31 @@ const LINE_ROOM: usize = 254;
 /// Enough bytes for the part of any problem's text that is known at once.
 const KNOWN_ROOM: usize = LINE_ROOM + DIAGRAM_ROOM;
 
-/// Returns the part of a problem's text that is known at once: its first line, and the diagram if positions are shown.
+/// Returns the part of a problem's text that is known at once: its heading, and the diagram if positions are shown.
 pub(crate) fn known_text<B: Board>(
     problem: &Problem<B>,
     command: Command,
 ) -> ArrayString<KNOWN_ROOM>
-    ensures { result.bytes ≡ line_of B.geometry (numbered problem.now)
+    ensures { result.bytes ≡ heading_of B.geometry command (numbered problem.now)
         ++ at_once B.geometry (numbered problem.now).found command }
 {
     let mut text = ArrayString::new();
-    text.push_str(problem_line(problem).as_str());
+    text.push_str(heading(problem, command).as_str());
     if let (Ok(position), Command::Show) = (&problem.found, command) {
         text.push_str(diagram(position).as_str());
     }
     text
+}
+
+/// Returns the line before the text of the command: the first line, and none before a row.
+fn heading<B: Board>(problem: &Problem<B>, command: Command) -> ArrayString<LINE_ROOM>
+    ensures { result.bytes ≡ heading_of B.geometry command (numbered problem.now) }
+{
+    if command.writes_rows() {
+        ArrayString::new()
+    } else {
+        problem_line(problem)
+    }
 }
 
 /// Returns the first line of a problem's text: its number, and its position or why it is refused.

@@ -1,4 +1,4 @@
--- The row of JSON of `solution` for a problem.
+-- The row of JSON of `solution` for a problem, and the members of a solution in a row.
 use Rattle.std.specs.Prelude.{◌≡◌, ℕ, List, [], ◌∷◌, codes, take}
 use Rattle.json.specs.Json.{boolean, string}
 use Rattle.dw_board.specs.FenText.{written}
@@ -18,11 +18,16 @@ IsPlacedObject g one members = (move : List ℕ) × IsMoveText g one.before one.
     × (members ≡ (codes "depth", count one.depth) ∷ (codes "move", string move)
     ∷ (codes "fen", string (written g (play g one.before one.move))) ∷ [])
 
--- the row of some first lines: the verdict, whether they are cut, and the moves of their tree
-abbrev pub IsSolutionRow : Geometry → (problem : ℕ) → Heading → LinesFrom → (many : ℕ) → List ℕ → Type 0
-IsSolutionRow g problem heading first many text =
+-- the members of some first lines: whether they are cut, and the moves of their tree
+abbrev pub AreLineMembers : Geometry → LinesFrom → (many : ℕ) → List Member → Type 0
+AreLineMembers g first many members =
     (tree : Tree) × (each : List (List Member)) × IsTreeOf (take many first.lines) tree
     × AreObjects (IsPlacedObject g) (placed_moves g first.start 1 tree) each
+    × (members ≡ (codes "more", boolean (is_cut first many)) ∷ (codes "moves", objects each) ∷ [])
+
+-- the row of some first lines: the verdict, and the members of the lines
+abbrev pub IsSolutionRow : Geometry → (problem : ℕ) → Heading → LinesFrom → (many : ℕ) → List ℕ → Type 0
+IsSolutionRow g problem heading first many text =
+    (members : List Member) × AreLineMembers g first many members
     × (text ≡ row ((codes "problem", count problem) ∷ (codes "fen", string (written g first.start))
-    ∷ (codes "n", count heading.moves) ∷ (codes "verdict", string (verdict_word heading.kind))
-    ∷ (codes "more", boolean (is_cut first many)) ∷ (codes "moves", objects each) ∷ []))
+    ∷ (codes "n", count heading.moves) ∷ (codes "verdict", string (verdict_word heading.kind)) ∷ members))

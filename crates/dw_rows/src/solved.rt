@@ -1,8 +1,10 @@
-//! The row of the solution of a problem.
-ghost use Rattle.std.specs.Prelude.{◌≡◌, IfOk};
+//! The row of the solution of a problem, and the members of a solution in a row.
+ghost use Rattle.std.specs.Prelude.{◌≡◌, IfOk, List, OnOk};
 ghost use Rattle.std.specs.String.{string_bytes};
+ghost use Rattle.dw_json.specs.Rows.{Member};
+ghost use Rattle.dw_json.specs.Writing.{WritesMembers};
 ghost use Rattle.dw_moves.specs.Moves.{Legal};
-ghost use Rattle.dw_rows.specs.SolutionRow.{IsPlacedObject, IsSolutionRow};
+ghost use Rattle.dw_rows.specs.SolutionRow.{AreLineMembers, IsPlacedObject, IsSolutionRow};
 ghost use Rattle.dw_solution.specs.Telling.{placed_by};
 
 use dw_board::{Board, fen_text};
@@ -23,15 +25,28 @@ pub fn solution_row<B: Board>(
 ) -> Result<String, AllocError>
     ensures { IfOk result (λ line. IsSolutionRow B.geometry number heading first.now lines (string_bytes line)) }
 {
-    let moves = placed_moves(alloc, first, lines)?;
     let mut row = begin_row(alloc)?;
     put_number(&mut row, "problem", number.into())?;
     put_text(&mut row, "fen", fen_text(&first.position()).as_str())?;
     put_number(&mut row, "n", heading.moves.into())?;
     put_text(&mut row, "verdict", heading.kind.word())?;
-    put_flag(&mut row, "more", first.is_cut(lines))?;
-    put_objects(&mut row, "moves", moves.as_slice(), &PlacedMoves { alloc })?;
+    put_lines(alloc, &mut row, first, lines)?;
     end_row(row)
+}
+
+/// Writes the members of the first `lines` lines: whether there are more, and the moves of their tree.
+pub fn put_lines<B: Board>(
+    alloc: Global,
+    row: &mut Writer,
+    first: &FirstLines<B>,
+    lines: usize,
+) -> Result<(), AllocError>
+    ensures { OnOk result ((members : List Member) × AreLineMembers B.geometry first.now lines members
+        × WritesMembers members row.old row.new) }
+{
+    let moves = placed_moves(alloc, first, lines)?;
+    put_flag(row, "more", first.is_cut(lines))?;
+    put_objects(row, "moves", moves.as_slice(), &PlacedMoves { alloc })
 }
 
 /// Moves in their places, as objects.

@@ -1,5 +1,7 @@
--- The least number of moves within which there is a win is there, and is one.
-use Rattle.std.proofs.Common.{◌≡◌, ℕ, ◌<◌, ◌≤◌, zero, suc, refl, sym, subst, arith, ◌⊎◌, inl, inr, Some, None, List}
+-- The number of moves at which a position is judged is there, and is one.
+use Rattle.std.proofs.Common.{◌≡◌, ℕ, ◌<◌, ◌≤◌, ◌∙◌, zero, suc, refl, sym, subst, arith, ◌⊎◌, inl, inr, Some, None}
+use Rattle.std.proofs.Common.{List, Bool, true, false}
+use Rattle.std.specs.Prelude.{if◌then◌else◌}
 use Rattle.std.proofs.lemmas.Bool.{cases_lt}
 use Rattle.dw_board.specs.Geometry.{Geometry, IsBoard}
 use Rattle.dw_board.specs.Placement.{Placement}
@@ -9,7 +11,7 @@ use Rattle.dw_solve.specs.Solving.{IsLeast}
 use Rattle.dw_solve.specs.Wins.{Win}
 use Rattle.dw_verdict.specs.Verdict.{Verdict}
 use Rattle.dw_verdict.specs.VerdictLaws.{OneVerdict, TriesAreListed}
-use Rattle.dw_study.specs.Finding.{judged, IsJudgedAt, IsFinding}
+use Rattle.dw_study.specs.Finding.{judged, IsJudgedAt, IsNumberFor, IsFinding}
 
 -- no win within any number up to n
 abbrev NoneUpTo : Geometry → Placement → ℕ → Type 0
@@ -71,11 +73,28 @@ judged_only stay g p most k j (inl found) (inr none) = absurd (never stay g p mo
 judged_only stay g p most k j (inr none) (inl other) = absurd (never stay g p most j other none.0)
 judged_only stay g p most k j (inr none) (inr same) = omega (arith, none.1, same.1)
 
+number_some : WinsAreDecided → (g : Geometry) (p : Placement) (is_least : Bool) (moves : ℕ)
+    → (k : ℕ) × IsNumberFor g p is_least moves k
+number_some decided g p true moves = judged_some decided g p moves
+number_some decided g p false moves = (moves, refl)
+
+number_only : WinsStay → (g : Geometry) (p : Placement) (is_least : Bool) (moves k j : ℕ)
+    → IsNumberFor g p is_least moves k → IsNumberFor g p is_least moves j → k ≡ j
+number_only stay g p true moves k j one other = judged_only stay g p moves k j one other
+number_only stay g p false moves k j one other = one ∙ sym other
+
+-- the number of moves, once the least number is known
+pub number_for : (g : Geometry) (p : Placement) (is_least : Bool) (moves k n : ℕ) → IsJudgedAt g p moves k
+    → n ≡ (if is_least then k else moves) → IsNumberFor g p is_least moves n
+number_for g p true moves k n at same = subst (λ z. IsJudgedAt g p moves z) (sym same) at
+number_for g p false moves k n at same = same
+
 -- each position is judged in one way
 pub finding_some : WinsAreDecided → OneVerdict → TriesAreListed → (g : Geometry) → IsBoard g → (p : Placement)
-    (most : ℕ) → (k : ℕ) × (v : Verdict) × (tries : List (Move × Move)) × IsFinding g p most (judged k v tries)
-finding_some decided verdicts listed g board p most =
-    let at = judged_some decided g p most in
+    (is_least : Bool) (moves : ℕ)
+    → (k : ℕ) × (v : Verdict) × (tries : List (Move × Move)) × IsFinding g p is_least moves (judged k v tries)
+finding_some decided verdicts listed g board p is_least moves =
+    let at = number_some decided g p is_least moves in
     let verdict = verdicts.some g board p at.0 in
     let tries = listed.some g board p at.0 in
     (at.0, verdict.0, tries.0, (at.1, verdict.1, tries.1))
@@ -85,20 +104,26 @@ same_finding : (k j : ℕ) (v w : Verdict) (tries others : List (Move × Move)) 
 same_finding k j v w tries others a b c = cc
 
 -- and only in one
-pub finding_only : WinsStay → OneVerdict → TriesAreListed → (g : Geometry) → IsBoard g → (p : Placement) (most k j : ℕ)
-    (v w : Verdict) (tries others : List (Move × Move)) → IsFinding g p most (judged k v tries)
-    → IsFinding g p most (judged j w others) → judged k v tries ≡ judged j w others
-finding_only stay verdicts listed g board p most k j v w tries others one other =
-    let same = judged_only stay g p most k j one.0 other.0 in
-    let at = subst (λ z. IsFinding g p most (judged z w others)) (sym same) other in
+pub finding_only : WinsStay → OneVerdict → TriesAreListed → (g : Geometry) → IsBoard g → (p : Placement)
+    (is_least : Bool) (moves k j : ℕ) (v w : Verdict) (tries others : List (Move × Move))
+    → IsFinding g p is_least moves (judged k v tries) → IsFinding g p is_least moves (judged j w others)
+    → judged k v tries ≡ judged j w others
+finding_only stay verdicts listed g board p is_least moves k j v w tries others one other =
+    let same = number_only stay g p is_least moves k j one.0 other.0 in
+    let at = subst (λ z. IsFinding g p is_least moves (judged z w others)) (sym same) other in
     same_finding k j v w tries others same (verdicts.only g board p k v w one.1 at.1)
     (listed.only g board p k tries others one.2 at.2)
 
--- an undecided position is judged at a greater number
-pub undecided_below : WinsStay → (g : Geometry) (p : Placement) (most k j : ℕ) → (j < most) → (Win g p j → ⊥)
+below_least : WinsStay → (g : Geometry) (p : Placement) (most k j : ℕ) → (j < most) → (Win g p j → ⊥)
     → IsJudgedAt g p most k → j < k
-undecided_below stay g p most k j less none (inl found) = elim (cases_lt j k) [
+below_least stay g p most k j less none (inl found) = elim (cases_lt j k) [
   | inl below ↦ below
   | inr above ↦ absurd (none (stay.win g p k j above found.2))
 ]
-undecided_below stay g p most k j less none (inr at) = omega (arith, less, at.1)
+below_least stay g p most k j less none (inr at) = omega (arith, less, at.1)
+
+-- an undecided position is judged at a greater number
+pub undecided_below : WinsStay → (g : Geometry) (p : Placement) (is_least : Bool) (moves k j : ℕ) → (j < moves)
+    → (Win g p j → ⊥) → IsNumberFor g p is_least moves k → j < k
+undecided_below stay g p true moves k j less none at = below_least stay g p moves k j less none at
+undecided_below stay g p false moves k j less none at = omega (arith, less, at)

@@ -1,7 +1,14 @@
--- What it means that a position stays undecided, where it does not.
-use Rattle.std.proofs.Common.{◌≡◌, ℕ, ◌+◌, ◌≤◌, Option, Some, None, Result, Ok, Err, true, eqb, ap, ◌∙◌, arith}
+-- What is known once it is known whether there is a win, and what it means that a position stays undecided, where it
+-- does not.
+use Rattle.std.proofs.Common.{◌≡◌, ℕ, ◌+◌, ◌≤◌, ◌⊎◌, inl, inr, Option, Some, None, Result, Ok, Err}
+use Rattle.std.proofs.Common.{true, eqb, ap, ◌∙◌, arith}
 use Rattle.std.specs.Option.{option_eq}
-use Rattle.std.proofs.lemmas.Bool.{eqb-true}
+use Rattle.std.proofs.lemmas.Bool.{cases_lt, eqb-true}
+use Rattle.dw_board.specs.Geometry.{Geometry}
+use Rattle.dw_solve.specs.Certificates.{SaysLeast}
+use Rattle.dw_solve.specs.Facts.{AreTrue, IsDecided}
+use Rattle.dw_solve.specs.Wins.{Win}
+use Rattle.dw_study.specs.Finding.{IsJudgedAt}
 use Rattle.std.specs.Prelude.{IfSome}
 use Rattle.dw_study.specs.inner.Looking.{lowered}
 use Rattle.std.specs.Result.{IsErrAnd}
@@ -35,3 +42,25 @@ pub each_is : (each : Option ℕ) (spent same : ℕ) → option_eq eqb each (Som
     → each ≡ Some same
 each_is None spent same is e = absurd (cc)
 each_is (Some bound) spent same is e = ap Some (eqb-true bound spent is ∙ e)
+
+-- if there is a win within k moves, a memo that decides k decides each greater number
+decided_above : (g : Geometry) (c : Content) (p : Placement) (k j : ℕ) → AreTrue g c → Win g p k → k ≤ j
+    → IsDecided c p k → IsDecided c p j
+decided_above g c p k j right win more (inl known) = inl record {
+  entry = known.entry;
+  held = known.held;
+  about = known.about;
+  bound = known.bound;
+  is = known.is;
+  enough = omega (arith, more, known.enough);
+}
+decided_above g c p k j right win more (inr fails) = absurd (right.fails p k fails win)
+
+-- a memo that decides each number up to the least with a win decides each number
+pub says_on : (g : Geometry) (c : Content) (p : Placement) (most k n : ℕ) → AreTrue g c → n ≤ most
+    → IsJudgedAt g p most k → SaysLeast c p k → SaysLeast c p n
+says_on g c p most k n right within (inl found) says = λ j low high. elim (cases_lt k j) [
+  | inl above ↦ decided_above g c p k j right found.2 (omega (arith, above)) (says k found.0 (omega arith))
+  | inr below ↦ says j low below
+]
+says_on g c p most k n right within (inr none) says = λ j low high. says j low (omega (arith, high, within, none.1))

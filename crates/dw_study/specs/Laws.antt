@@ -1,5 +1,5 @@
 -- Laws of findings and of remarks, for every board.
-use Rattle.std.specs.Prelude.{◌≡◌, ◌↔◌, ℕ, ◌<◌, List, [], ◌∷◌, ◌++◌}
+use Rattle.std.specs.Prelude.{◌≡◌, ◌↔◌, ℕ, ◌<◌, Bool, List, [], ◌∷◌, ◌++◌}
 use Rattle.dw_board.specs.Geometry.{Geometry, IsBoard}
 use Rattle.dw_board.specs.Placement.{Placement}
 use Rattle.dw_board.specs.Lists.{Member}
@@ -13,13 +13,14 @@ use Rattle.dw_study.specs.Remarks.{Remark, fails, also, leaves_open, ends, AreRe
 
 -- each position has exactly one judged finding, and an undecided one has a lower number of moves
 pub record OneFinding : Type 0 where
-  pub some : (g : Geometry) → IsBoard g → (p : Placement) (most : ℕ) →
-      (k : ℕ) × (v : Verdict) × (tries : List (Move × Move)) × IsFinding g p most (judged k v tries)
-  pub only : (g : Geometry) → IsBoard g → (p : Placement) (most k j : ℕ) (v w : Verdict)
-      (tries others : List (Move × Move)) → IsFinding g p most (judged k v tries)
-      → IsFinding g p most (judged j w others) → judged k v tries ≡ judged j w others
-  pub below : (g : Geometry) (p : Placement) (most k j : ℕ) (v : Verdict) (tries : List (Move × Move))
-      → IsFinding g p most (undecided j) → IsFinding g p most (judged k v tries) → j < k
+  pub some : (g : Geometry) → IsBoard g → (p : Placement) (is_least : Bool) (moves : ℕ) →
+      (k : ℕ) × (v : Verdict) × (tries : List (Move × Move)) × IsFinding g p is_least moves (judged k v tries)
+  pub only : (g : Geometry) → IsBoard g → (p : Placement) (is_least : Bool) (moves k j : ℕ) (v w : Verdict)
+      (tries others : List (Move × Move)) → IsFinding g p is_least moves (judged k v tries)
+      → IsFinding g p is_least moves (judged j w others) → judged k v tries ≡ judged j w others
+  pub below : (g : Geometry) (p : Placement) (is_least : Bool) (moves k j : ℕ) (v : Verdict)
+      (tries : List (Move × Move)) → IsFinding g p is_least moves (undecided j)
+      → IsFinding g p is_least moves (judged k v tries) → j < k
 
 -- there is only one list of remarks on the tree of a movetext
 abbrev pub OneListOfRemarks : Type 0

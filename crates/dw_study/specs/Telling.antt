@@ -48,9 +48,9 @@ pub record StaysOpen {M B : Type 0} (content : M → Content) (p : Placement) (e
       → (bound : ℕ) × (each ≡ Some bound) × (new.expanded ≡ old.expanded + bound)
   pub known : (j k : ℕ) → SaysLeast (content old.memo) p j → answer ≡ Ok (Undecided k) → j ≤ k
 
--- The number of moves was known in time: up to some moment no more positions were expanded than the bound allows, and
--- then the memo itself said of each number up to this one whether there is a win, if it had lost nothing. What was
--- searched after that moment is the verdict.
+-- It was known in time at which number of moves a position is judged, and whether there is a win within it: up to some
+-- moment no more positions were expanded than the bound allows, and then the memo itself said of each number up to this
+-- one whether there is a win, if it had lost nothing. What was searched after that moment is the verdict.
 pub record KnownInTime {M : Type 0} (g : Geometry) (content : M → Content) (lost : M → ℕ) (p : Placement)
     (n first : ℕ) (each : Option ℕ) (old new : Solving M) (moves : ℕ) : Type 0 where
   pub then : Moment

@@ -1,4 +1,4 @@
-//! The least number of moves within which a position is won, and the verdict at it.
+//! The verdict on a position at the least number of moves within which it is won, or at a given number.
 ghost use Rattle.std.specs.Prelude.{◌≤◌, IfOk, IfSome};
 ghost use Rattle.dw_memo.specs.Content.{IsMap};
 ghost use Rattle.dw_solve.specs.Facts.{AreTrue};
@@ -13,14 +13,14 @@ use crate::slices::{Slices, Watcher};
 use dw_board::{Board, Position};
 use dw_memo::Memo;
 use dw_solve::{Guide, Solver, Stop};
-use dw_stipulation::MoveCount;
 use std::alloc::Global;
 
-/// Finds the least number of moves within which the side to move wins, and judges the position at it. If there is no
-/// win within `bounds.most` moves, it judges at that number. The answer is `Undecided` if the number is not known after
-/// `bounds.each` expansions, at least 1, also if the solver's limit is met with the last of them. The verdict and the
-/// tries have no limit but the solver's own, which stays the same. The slices start again; no answer depends on them.
-/// After a stop all bounds in the memo are right, and the call can be repeated.
+/// Finds whether the side to move wins within `bounds.moves` moves, and judges the position. If `bounds.is_least`, it
+/// judges at the least number of moves within which there is a win. Without a win, and if not `bounds.is_least`, it
+/// judges at `bounds.moves`. The answer is `Undecided` if it is not known after `bounds.each` expansions, at least 1,
+/// whether there is a win, also if the solver's limit is met with the last of them. The verdict and the tries have no
+/// limit but the solver's own, which stays the same. The slices start again; no answer depends on them. After a stop
+/// all bounds in the memo are right, and the call can be repeated.
 pub fn find<B: Board, M: Memo<B>, G: Guide<B>, W: Watcher>(
     alloc: Global,
     solver: &mut Solver<B, M, G>,
@@ -29,11 +29,12 @@ pub fn find<B: Board, M: Memo<B>, G: Guide<B>, W: Watcher>(
     slices: &mut Slices<W>,
 ) -> Result<Finding<B>, Stop>
     requires room { IfSome bounds.each (λ bound. 1 ≤ bound) }
-    ensures finding { IfOk result (λ finding. IsFinding B.geometry position.now bounds.most.value (told_by finding)) }
+    ensures finding { IfOk result (λ finding. IsFinding B.geometry position.now bounds.is_least
+        bounds.moves.value (told_by finding)) }
     ensures stays { StaysOpen M.content position.now bounds.each solver.old solver.new result }
-    ensures known { IfOk result (IsKnownInTime B.geometry M.content M.dropped position.now bounds.most.value
+    ensures known { IfOk result (IsKnownInTime B.geometry M.content M.dropped position.now bounds.moves.value
         slices.old.first bounds.each solver.old solver.new) }
-    ensures began { let within = searched_to result bounds.most.value in
+    ensures began { let within = searched_to result bounds.moves.value in
         Began B.geometry M.content M.dropped within (cut_short result within) slices.old slices.new solver.old
         solver.new result }
     ensures right { AreTrue B.geometry (M.content solver.new.memo) }
@@ -43,8 +44,8 @@ pub fn find<B: Board, M: Memo<B>, G: Guide<B>, W: Watcher>(
     let start = solver.expanded();
     slices.begin(start);
     match number_within(alloc, solver, position, bounds, slices) {
-        Ok(value) => {
-            let moves = MoveCount { value };
+        Ok(reached) => {
+            let moves = bounds.judged_at(reached);
             let judged = judge_resuming(alloc, solver, position, moves, slices)?;
             Ok(Finding::Judged { moves, judged })
         }

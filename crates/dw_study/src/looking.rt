@@ -25,7 +25,8 @@ pub(crate) struct Cut {
     pub(crate) stop: Stop,
 }
 
-/// Returns the number of moves at which a position is judged, if the expansions that `bounds` allow suffice to find it.
+/// Returns the least number of moves up to `bounds.moves` within which there is a win, or that number if there is none,
+/// if the expansions that `bounds` allow suffice to find it.
 pub(crate) fn number_within<B: Board, M: Memo<B>, G: Guide<B>, W: Watcher>(
     alloc: Global,
     solver: &mut Solver<B, M, G>,
@@ -34,7 +35,7 @@ pub(crate) fn number_within<B: Board, M: Memo<B>, G: Guide<B>, W: Watcher>(
     slices: &mut Slices<W>,
 ) -> Result<u8, Cut>
     requires room { IfSome bounds.each (λ bound. 1 ≤ bound) }
-    ensures number { IsLooked B.geometry position.now bounds.most.value result }
+    ensures number { IsLooked B.geometry position.now bounds.moves.value result }
     ensures says { IfOk result (λ moves. LostNothing M.content M.dropped solver.old solver.new
         → SaysLeast (M.content solver.new.memo) position.now moves) }
     ensures known { IfErr result (λ cut. (j : ℕ) → SaysLeast (M.content solver.old.memo) position.now j
@@ -46,7 +47,7 @@ pub(crate) fn number_within<B: Board, M: Memo<B>, G: Guide<B>, W: Watcher>(
 {
     let until = count_after(solver.expanded(), bounds.each);
     let limit = lower(solver, until);
-    let number = number(alloc, solver, position, bounds.most, slices);
+    let number = number(alloc, solver, position, bounds.moves, slices);
     raise(solver, limit);
     solver.keeps_its_facts();
     number
@@ -65,7 +66,8 @@ fn count_after(expanded: u64, each: Option<u64>) -> u64
     }
 }
 
-/// Returns the number of moves at which a position is judged, or how far a stopped search came.
+/// Returns the least number of moves within which there is a win, or `most` if there is none, or how far a stopped
+/// search came.
 fn number<B: Board, M: Memo<B>, G: Guide<B>, W: Watcher>(
     alloc: Global,
     solver: &mut Solver<B, M, G>,

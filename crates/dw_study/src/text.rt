@@ -1,5 +1,5 @@
 //! The text of a finding.
-ghost use Rattle.std.specs.Prelude.{◌≡◌, ℕ, IfOk};
+ghost use Rattle.std.specs.Prelude.{◌≡◌, ℕ, Bool, IfOk};
 ghost use Rattle.std.specs.String.{string_bytes};
 ghost use Rattle.dw_study.specs.Finding.{IsFinding};
 ghost use Rattle.dw_study.specs.FoundText.{IsFoundText};
@@ -18,7 +18,8 @@ pub fn found_text<B: Board>(
     position: &Position<B>,
     finding: &Finding<B>,
 ) -> Result<String, AllocError>
-    requires { (most : ℕ) × IsFinding B.geometry position.now most (told_by finding.now) }
+    requires { (is_least : Bool) × (moves : ℕ)
+        × IsFinding B.geometry position.now is_least moves (told_by finding.now) }
     ensures { IfOk result (λ text. IsFoundText B.geometry position.now (told_by finding.now) (string_bytes text)) }
 {
     match finding {

@@ -52,7 +52,9 @@ impl<'a> Query<'a> {
     fn command(&self) -> Option<Command> {
         match word(self.head, 2) {
             "show" => Some(Command::Show),
+            "show-row" => Some(Command::ShowRow),
             "moves" => Some(Command::Moves),
+            "moves-row" => Some(Command::MovesRow),
             "judge" => Some(Command::Judge),
             "list" => Some(Command::List),
             _ => None,

@@ -17,14 +17,17 @@ use Rattle.dw_board.specs.Geometry.{Geometry}
 use Rattle.dw_commands.specs.Ending.{EndsUnread, ending_of, outcome_of}
 use Rattle.dw_commands.specs.Reports.{EndsBefore, IsLineOf, command_for, request_for}
 use Rattle.dw_commands.specs.declared.ending.Ending.{Ending}
-use Rattle.dw_commands.specs.declared.ending.Ending.TheVariants.{NotOpened}
+use Rattle.dw_commands.specs.declared.ending.Ending.TheVariants as end
 use Rattle.dw_desk_commands.specs.Commands.{Obeys}
 use Rattle.dw_desk_commands.specs.Ending.{FailsForCause}
 use Rattle.dw_moves.specs.Moves.{Move}
 use Rattle.dw_report.specs.Running.{RunEnds, StopsRightly}
 use Rattle.dw_report.specs.declared.settings.RunFault.{RunFault}
-use Rattle.dw_report.specs.declared.settings.RunFault.TheVariants.{Write}
+use Rattle.dw_report.specs.declared.settings.RunFault.TheVariants.{Read, Stopped, Write}
 use Rattle.dw_report.specs.declared.settings.Summary.{Summary}
+use Rattle.dw_solve.specs.declared.stop.Stop.TheVariants.{Limit, Memory}
+use Rattle.dw_web.specs.declared.ended.Reason.{Reason}
+use Rattle.dw_web.specs.declared.ended.Reason.TheVariants as because
 use Rattle.dw_web.specs.declared.words.Program.{Program}
 use Rattle.dw_web.specs.declared.words.Program.TheVariants.{Report, Desk}
 
@@ -42,14 +45,14 @@ pub record Runs (g : Geometry) (args : ReportArgs) (input : List ℕ) (before af
   pub met_end : Bool
   pub ran : Result Summary RunFault
   pub runs : RunEnds g (request_for args line) (Some input) left met_end before after ran
-  pub stops : StopsRightly (command_for args.command) args.positions ran
+  pub stops : StopsRightly (command_for args.command args.json) args.positions ran
   pub cause : ran ≡ Err Write → full ≡ true
   pub ends : ending ≡ ending_of ran args.only
 
 -- a FILE cannot be opened; without one the program runs
 abbrev pub RunsUnlessFile : (Runs : Type 0) → (file : Option (Bor (List ℕ))) → (before after : Option (List ℕ))
     → Ending (Bor (List ℕ)) → Type 0
-RunsUnlessFile Runs (Some file) before after ending = (ending ≡ NotOpened file) × (after ≡ before)
+RunsUnlessFile Runs (Some file) before after ending = (ending ≡ end.NotOpened file) × (after ≡ before)
 RunsUnlessFile Runs None before after ending = Runs
 
 -- `dw` with these arguments: it ends before its run if the token of --after has a fault, or memory was refused
@@ -95,7 +98,36 @@ abbrev pub Answers : Option Program → (input : List ℕ) → (before after : O
 Answers program input before after full ending =
     Refuses before after full ending ⊎ DoesIt program input before after full ending
 
--- an ending has this exit status, and no message is written if it has none
-abbrev pub IsTold : Ending (Bor (List ℕ)) → (status message : ℕ) → Type 0
-IsTold ending status message =
-    (status ≡ (outcome_of ending).status) × ((outcome_of ending).has_message ≡ false → message ≡ 0)
+-- the reason of a run that failed
+abbrev pub fault_reason : RunFault → Reason
+fault_reason Write = because.ReportFull
+fault_reason (Stopped Memory expanded) = because.OutOfMemory
+fault_reason (Stopped Limit expanded) = because.Other
+fault_reason Read = because.Other
+
+-- the reason of an ending
+abbrev pub reason_of : {T : Type 0} → Ending T → Reason
+reason_of end.Done = because.Finished
+reason_of end.Refused = because.Finished
+reason_of (end.NoProblem number) = because.Finished
+reason_of (end.ProblemRefused fault) = because.Finished
+reason_of (end.NoCommand text) = because.ArgumentsRefused
+reason_of (end.TokenRefused fault) = because.Other
+reason_of (end.LineRefused number name place) = because.Other
+reason_of end.TooManyPositions = because.Other
+reason_of (end.NotOpened file) = because.Other
+reason_of (end.Failed fault) = fault_reason fault
+
+-- the number of a reason
+abbrev pub reason_number : Reason → ℕ
+reason_number because.Finished = 0
+reason_number because.ArgumentsRefused = 1
+reason_number because.ReportFull = 2
+reason_number because.OutOfMemory = 3
+reason_number because.Other = 4
+
+-- an ending has this exit status and this number of its reason, and no message is written if it has none
+abbrev pub IsTold : Ending (Bor (List ℕ)) → (status reason message : ℕ) → Type 0
+IsTold ending status reason message =
+    (status ≡ (outcome_of ending).status) × (reason ≡ reason_number (reason_of ending))
+    × ((outcome_of ending).has_message ≡ false → message ≡ 0)

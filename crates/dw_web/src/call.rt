@@ -14,7 +14,7 @@ use std::marker::Brand;
 ///
 /// The arguments are separated by line feeds; the first is `dw` or `dw-desk`. The input replaces standard input, the
 /// report standard output and the message standard error. A message is cut to the room for it. A FILE cannot be opened.
-/// If the report has no more room, the program ends as after a failed write.
+/// If the report has no more room, the program ends as after a failed write, and its reason is `ReportFull`.
 #[unsafe(no_mangle)]
 pub extern "C" fn dw_web_run(
     alloc: Global,
@@ -26,7 +26,7 @@ pub extern "C" fn dw_web_run(
 )
     ensures answers { (full : Bool) × (ending : Ending (Bor (List ℕ)))
         × Answers (program_in arguments.now) input.now (Some []) (Some (take ended.new.report report.new)) full ending
-        × IsTold ending ended.new.status ended.new.message
+        × IsTold ending ended.new.status ended.new.reason ended.new.message
         × (full ≡ true → ended.new.report ≡ length report.old) }
     ensures report { ended.new.report ≤ length report.old }
     ensures rest { drop ended.new.report report.new ≡ drop ended.new.report report.old }

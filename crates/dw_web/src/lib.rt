@@ -13,4 +13,4 @@ mod said;
 pub mod words;
 
 pub use call::dw_web_run;
-pub use ended::Ended;
+pub use ended::{Ended, Reason};

@@ -2,7 +2,7 @@
 ghost use Rattle.std.specs.Prelude.{◌≡◌, ◌≤◌, ℕ, Bool, true, false, Some, List, [], length, take, drop};
 ghost use Rattle.std.specs.Borrow.{Bor};
 ghost use Rattle.dw_commands.specs.declared.ending.Ending.{Ending as AnyEnding};
-ghost use Rattle.dw_web.specs.Answers.{Answers, IsTold};
+ghost use Rattle.dw_web.specs.Answers.{Answers, IsTold, reason_number};
 ghost use Rattle.dw_web.specs.Arguments.{program_in};
 
 use crate::ended::Ended;
@@ -28,7 +28,7 @@ pub(crate) fn run_within<L: Limit>(
     requires { length report.old ≡ L.limit }
     ensures answers { (full : Bool) × (ending : AnyEnding (Bor (List ℕ)))
         × Answers (program_in arguments.now) input.now (Some []) (Some (take result.report report.new)) full ending
-        × IsTold ending result.status result.message
+        × IsTold ending result.status result.reason result.message
         × (full ≡ true → result.report ≡ length report.old) }
     ensures report { result.report ≤ length report.old }
     ensures rest { drop result.report report.new ≡ drop result.report report.old }
@@ -53,7 +53,7 @@ fn answer<L: Limit>(
     ensures answers { (ending : AnyEnding (Bor (List ℕ)))
         × Answers (program_in arguments.now) input.now (Some (room.old.bytes.items)) (Some (room.new.bytes.items))
         room.new.has_failed ending
-        × IsTold ending result.status result.message }
+        × IsTold ending result.status (reason_number result.reason) result.message }
     ensures message { result.message ≤ length message.old }
 {
     match program_of(arguments) {

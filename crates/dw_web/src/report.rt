@@ -4,7 +4,7 @@ ghost use Rattle.std.specs.Borrow.{Bor};
 ghost use Rattle.std.specs.Option.{option_copied};
 ghost use Rattle.dw_commands.specs.Reports.{EndsBefore};
 ghost use Rattle.dw_commands.specs.declared.ending.Ending.{Ending as AnyEnding};
-ghost use Rattle.dw_web.specs.Answers.{DoesReport, IsTold, Refuses, Reports, Runs, RunsUnlessFile};
+ghost use Rattle.dw_web.specs.Answers.{DoesReport, IsTold, Refuses, Reports, Runs, RunsUnlessFile, reason_number};
 
 use crate::room::{Limit, Room};
 use crate::said::{Exited, refuse, tell};
@@ -30,7 +30,7 @@ pub(crate) fn run_arguments<L: Limit>(
     ensures answers { (ending : AnyEnding (Bor (List ℕ)))
         × (Refuses (Some (room.old.bytes.items)) (Some (room.new.bytes.items)) room.new.has_failed ending
         ⊎ DoesReport input.now (Some (room.old.bytes.items)) (Some (room.new.bytes.items)) room.new.has_failed ending)
-        × IsTold ending result.status result.message }
+        × IsTold ending result.status (reason_number result.reason) result.message }
     ensures message { result.message ≤ length message.old }
 {
     match arguments_of(alloc, PROGRAM, arguments) {

@@ -1,4 +1,4 @@
--- How far the search for the number of moves of a problem goes.
+-- How far the search for a win goes.
 use Rattle.std.specs.Prelude.{◌≡◌, ℕ, Option, Ok}
 use Rattle.dw_board.specs.Geometry.{Geometry}
 use Rattle.dw_board.specs.Placement.{Placement}
@@ -8,11 +8,11 @@ use Rattle.dw_solve.specs.Solving.{Solving}
 use Rattle.dw_study.specs.Telling.{StaysOpen, IsKnownInTime}
 use Rattle.dw_study.specs.declared.finding.Finding.{Finding}
 
--- It began before anything was expanded. If the number stays open, as many positions were expanded as the bound says,
--- and no more until it was known.
-pub record IsBounded {B : Type 0} (g : Geometry) (p : Placement) (most first : ℕ) (each : Option ℕ)
+-- It began before anything was expanded. If it stays open whether there is a win, as many positions were expanded as
+-- the bound says, and no more until it was known.
+pub record IsBounded {B : Type 0} (g : Geometry) (p : Placement) (moves first : ℕ) (each : Option ℕ)
     (after : Solving (AnyMemo B)) (finding : Finding B) : Type 0 where
   pub start : Solving (AnyMemo B)
   pub none : start.expanded ≡ 0
   pub stays : StaysOpen content_of p each start after (Ok finding)
-  pub known : IsKnownInTime g content_of dropped_of p most first each start after finding
+  pub known : IsKnownInTime g content_of dropped_of p moves first each start after finding

@@ -1,5 +1,6 @@
 -- The effect of the parts of a run.
-use Rattle.std.specs.Prelude.{◌≡◌, ℕ, ◌+◌, ◌≤◌, ◌<◌, List, [], ◌∷◌, ◌++◌, length, Bool, true, Option, Result, Ok, Err}
+use Rattle.std.specs.Prelude.{◌≡◌, ℕ, ◌+◌, ◌≤◌, ◌<◌, List, [], ◌∷◌, ◌++◌, length, Bool, true, false, Option, Result, Ok}
+use Rattle.std.specs.Prelude.{Err}
 use Rattle.dw_board.specs.Geometry.{Geometry}
 use Rattle.dw_board.specs.Placement.{Placement}
 use Rattle.dw_board.specs.Diagram.{diagram_text}
@@ -12,7 +13,7 @@ use Rattle.dw_solve.specs.Solving.{Solving}
 use Rattle.dw_solve.specs.declared.stop.Stop.{Stop}
 use Rattle.dw_solve.specs.declared.stop.Stop.TheVariants.{Memory, Limit}
 use Rattle.dw_report.specs.Request.{Request}
-use Rattle.dw_report.specs.Report.{chosen, IsSaid, IsFurther, first_line}
+use Rattle.dw_report.specs.Report.{chosen, IsSaid, IsFurther, heading}
 use Rattle.dw_report.specs.declared.settings.Summary.{Summary}
 use Rattle.dw_report.specs.declared.settings.RunFault.{RunFault}
 use Rattle.dw_report.specs.declared.settings.RunFault.TheVariants as ends
@@ -41,23 +42,27 @@ pub record CountsOne (g : Geometry) (request : Request) (old new : Summary) (pro
   pub refused : (count : ℕ) × AreRefused g request (chosen request.only (problem ∷ [])) count
       × (new.refused ≡ old.refused + count)
 
--- the part of a problem's text after its first line that is known at once: the diagram, if the position is shown
+-- the part of a problem's text after its heading that is known at once: the diagram, if the position is shown
 abbrev pub at_once : Geometry → Found → Command → List ℕ
 at_once g (Err fault) command = []
 at_once g (Ok p) asked.Show = diagram_text g p
+at_once g (Ok p) asked.ShowRow = []
 at_once g (Ok p) asked.Moves = []
+at_once g (Ok p) asked.MovesRow = []
 at_once g (Ok p) asked.Judge = []
 at_once g (Ok p) asked.List = []
 
 -- the part of a problem's text after that
-abbrev pub IsSaidThen : Geometry → Command → Request → Placement → List ℕ → Type 0
-IsSaidThen g asked.Show request p text = text ≡ []
-IsSaidThen g asked.Moves request p text = IsSaid g asked.Moves request p text
-IsSaidThen g asked.Judge request p text = IsSaid g asked.Judge request p text
-IsSaidThen g asked.List request p text = IsSaid g asked.List request p text
+abbrev pub IsSaidThen : Geometry → Command → Request → ℕ → Placement → List ℕ → Type 0
+IsSaidThen g asked.Show request number p text = text ≡ []
+IsSaidThen g asked.ShowRow request number p text = IsSaid g asked.ShowRow request number p text
+IsSaidThen g asked.Moves request number p text = IsSaid g asked.Moves request number p text
+IsSaidThen g asked.MovesRow request number p text = IsSaid g asked.MovesRow request number p text
+IsSaidThen g asked.Judge request number p text = IsSaid g asked.Judge request number p text
+IsSaidThen g asked.List request number p text = IsSaid g asked.List request number p text
 
-abbrev pub IsRest : Geometry → Request → Placement → List ℕ → Type 0
-IsRest g request p text = IsSaidThen g request.command request p text
+abbrev pub IsRest : Geometry → Request → ℕ → Placement → List ℕ → Type 0
+IsRest g request number p text = IsSaidThen g request.command request number p text
 
 -- the effect of writing a text: it was written; after a stop a part of it; after a fault of the sink some beginning
 abbrev pub TextEnds : {X : Type 0} → (List ℕ → Type 0) → (List ℕ → Type 0) → Option (List ℕ) → Option (List ℕ)
@@ -77,10 +82,26 @@ pub record Spends {M X : Type 0} (old new : Solving M) (result : Result X TextFa
   pub count : IsCounted old.expanded old.limit new.expanded new.limit
   pub limit : result ≡ Err (Stopped Limit) → new.expanded ≡ new.limit
 
--- nothing is searched if positions are shown or moves are listed, and only lack of memory stops that
+-- a command searches for wins
+abbrev pub searches : Command → Bool
+searches asked.Show = false
+searches asked.ShowRow = false
+searches asked.Moves = false
+searches asked.MovesRow = false
+searches asked.Judge = true
+searches asked.List = true
+
+-- nothing was searched, and only lack of memory stops that
+pub record IsStill {M X : Type 0} (old new : Solving M) (result : Result X TextFault) : Type 0 where
+  pub same : new ≡ old
+  pub memory : (why : Stop) → result ≡ Err (Stopped why) → why ≡ Memory
+
+-- nothing is searched if positions are shown or moves are listed, and nothing stops a diagram
 abbrev pub SearchesFor : {M X : Type 0} → Command → Solving M → Solving M → Result X TextFault → Type 0
 SearchesFor asked.Show old new result = (new ≡ old) × ((why : Stop) → result ≡ Err (Stopped why) → ⊥)
-SearchesFor asked.Moves old new result = (new ≡ old) × ((why : Stop) → result ≡ Err (Stopped why) → why ≡ Memory)
+SearchesFor asked.ShowRow old new result = IsStill old new result
+SearchesFor asked.Moves old new result = IsStill old new result
+SearchesFor asked.MovesRow old new result = IsStill old new result
 SearchesFor asked.Judge old new result = Spends old new result
 SearchesFor asked.List old new result = Spends old new result
 
@@ -94,8 +115,8 @@ abbrev pub StopsSearch : ℕ → Stop → ℕ → Type 0
 StopsSearch limit Limit expanded = expanded ≡ limit
 StopsSearch limit Memory expanded = expanded ≤ limit
 
--- the first line of a problem, and whole lines of what follows it
+-- the heading of a problem, and whole lines of what follows it
 pub record IsProblemPart (g : Geometry) (request : Request) (problem : Numbered) (out : List ℕ) : Type 0 where
   pub lines : List ℕ
-  pub are : AreLinesOf (IsFurther g request problem.found) lines
-  pub is : out ≡ first_line g problem ++ lines
+  pub are : AreLinesOf (IsFurther g request problem.number problem.found) lines
+  pub is : out ≡ heading g request.command problem ++ lines

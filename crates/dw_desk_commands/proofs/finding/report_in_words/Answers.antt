@@ -11,7 +11,7 @@ pub returns-clause-text : goal.returns-clause-text
 returns-clause-text g c =
     let geo = g.B.Board.geometry in
     let taken = g.K.Sink.taken in
-    line_and_more geo (SaysFound geo c.args.query.now.most.value c.args.query.now.each) (numbered c.args.problem.now)
+    line_and_more geo (SaysFound geo c.args.query.now) (numbered c.args.problem.now)
     c.in-Ok.position
     c.is_undecided.result (string_bytes c.in_ok-text.text) (taken c.args.sink.now) (taken c.write_all.new.sink)
     (taken c.write_all-2.new.sink)

@@ -14,13 +14,13 @@ returns-clause-bounded g c =
       | then-is_some+in_ok-renew w ↦ ap (λ d. d.solver.expanded) w.desk-is ∙ w.in_ok-renew.ensures
       | else-is_some w ↦ absurd (true≢false (sym given ∙ w.if-is_some.false))
     ] in
-    if_given c.args.query.now.each c.is_some.result (IsBounded geo c.args.position.now c.args.query.now.most.value
+    if_given c.args.query.now.each c.is_some.result (IsBounded geo c.args.position.now c.args.query.now.moves.value
     c.args.slices.now.first c.args.query.now.each c.find-finding.new.solver c.in_ok-finding.field-0) c.is_some.ensures
     (λ given. record {
       start = c.begin.new.self.solver;
       none = c.begin.ensures.count ∙ fresh given;
       stays = c.in_ok-finding.ensures.stays;
       known = subst (λ z. IsKnownInTime geo content_of dropped_of c.args.position.now
-          c.args.query.now.most.value z c.args.query.now.each c.begin.new.self.solver c.find-finding.new.solver
+          c.args.query.now.moves.value z c.args.query.now.each c.begin.new.self.solver c.find-finding.new.solver
           c.in_ok-finding.field-0) c.begin.ensures.first c.in_ok-finding.ensures.known;
     })

@@ -1,4 +1,4 @@
-use Rattle.std.proofs.Common.{◌∙◌, ◌∷◌, []}
+use Rattle.std.proofs.Common.{◌++◌, ◌∙◌, ◌∷◌, []}
 use Rattle.std.specs.Prelude.{codes}
 use Rattle.json.specs.Json.{string}
 use Rattle.dw_json.specs.Rows.{Member, count, row}
@@ -13,9 +13,13 @@ returns g c =
     let first = begun_more [] (number ∷ []) _ _ c.in_ok-row.ensures c.in_ok-put_number.ensures in
     let second = begun_more (number ∷ []) (fen ∷ []) _ _ first c.in_ok-put_text.ensures in
     let third = begun_more (number ∷ fen ∷ []) found.0 _ _ second found.2 in
-    if_ok c.end_row.result (c.end_row.ensures (number ∷ fen ∷ found.0) third) (λ line is. (
+    let more = c.in_ok-put_solution.ensures in
+    let fourth = begun_more (number ∷ fen ∷ found.0) more.0 _ _ third more.2 in
+    if_ok c.end_row.result (c.end_row.ensures (number ∷ fen ∷ found.0 ++ more.0) fourth) (λ line is. (
       found.0,
+      more.0,
       found.1,
+      more.1,
       is ∙ (λ i. row ((codes "problem", count (c.into.ensures i))
-          ∷ (codes "fen", string ((c.as_str.ensures.value ∙ c.fen_text.ensures) i)) ∷ found.0)),
+          ∷ (codes "fen", string ((c.as_str.ensures.value ∙ c.fen_text.ensures) i)) ∷ found.0 ++ more.0)),
     ))

@@ -9,15 +9,11 @@ headed kind moves = record { kind = kind; moves = moves }
 
 pub returns-clause-solved : goal.returns-clause-solved
 returns-clause-solved g c =
-    let geo = g.B.Board.geometry in
     let n = c.args.moves.value in
-    let lines = c.lines_exist.ensures.some geo g.met.B.Board.numbers c.args.position.now n in
     record {
       verdict = said_by c.args.verdict.now;
       is_verdict = c.requires.verdict;
       heads = ap (λ z. headed z n) c.kind_of.ensures;
-      lines = lines.0;
-      are_lines = lines.1;
-      are_first = c.in_ok-first.ensures.lines lines.0 lines.1;
+      are_first = c.in_ok-first.ensures.lines;
       is = c.in_ok-movetext.ensures;
     }

@@ -1,5 +1,6 @@
-use Rattle.std.proofs.Common.{[], ◌∷◌, refl, ap, ◌∙◌, subst, arith, Err}
+use Rattle.std.proofs.Common.{[], ◌∷◌, refl, sym, ap, ◌∙◌, subst, arith, Err}
 use Rattle.std.specs.Io.KnownBytes.{Appends}
+use Rattle.std.specs.String.{string_bytes}
 use Rattle.std.proofs.lemmas.Result.{err_from_is_err_and}
 use Rattle.dw_notation.specs.Problems.{numbered}
 use Rattle.dw_notation.specs.Writes.{StopsShort}
@@ -7,8 +8,8 @@ use Rattle.dw_report.specs.Request.{request_of}
 use Rattle.dw_report.specs.Report.{IsProblemText}
 use Rattle.dw_report.specs.inner.Running.{IsProblemPart, SinkEnds}
 use Rattle.dw_report.proofs.SearchLemmas.{searches_none, sink_not_stopped}
-use Rattle.dw_report.proofs.WritingLemmas.{at_sink, known_short, problem_ends}
-use Rattle.dw_report.proofs.FaultLemmas.{sink_failed, ok_not_stopped}
+use Rattle.dw_report.proofs.WritingLemmas.{at_sink, known_short, problem_ends, refused_row_behind}
+use Rattle.dw_report.proofs.FaultLemmas.{sink_failed, refused_all, searches_row}
 use Rattle.dw_report.proofs.problem.write_problem.Goals as goal
 
 pub returns-in_err-write_all-clause-text : goal.returns-in_err-write_all-clause-text
@@ -39,9 +40,27 @@ returns-in-Ok-clause-text g c =
 pub returns-in-Ok-clause-refused : goal.returns-in-Ok-clause-refused
 returns-in-Ok-clause-refused g c = rw c.in-Ok.is c.write_rest.ensures.refused
 
-pub returns-in-Err-clause-searches : goal.returns-in-Err-clause-searches
-returns-in-Err-clause-searches g c = searches_none c.args.settings.now.command _ _ _ refl c.keeps_its_limit.ensures
-    (ok_not_stopped _)
+pub returns-then-writes_rows-clause-text : goal.returns-then-writes_rows-clause-text
+returns-then-writes_rows-clause-text g c =
+    let line = c.as_bytes.ensures.value ∙ (c.as_str.ensures.value ∙ c.known_text-known.ensures) in
+    refused_row_behind string_bytes g.B.Board.geometry (request_of c.args.settings.now) (numbered c.args.problem.now)
+    c.in-Err.fault _ _ _ c.refused_line.result c.write_row.result c.in-Err.is
+    (sym c.writes_rows.ensures ∙ c.if-writes_rows.true) c.refused_line.ensures
+    (subst (Appends _ _) line c.in_ok-write_all.ensures.ok) c.write_row.ensures.text
+
+pub returns-then-writes_rows-clause-searches : goal.returns-then-writes_rows-clause-searches
+returns-then-writes_rows-clause-searches g c =
+    searches_row c.args.settings.now.command c.args.solver.now c.write_row.result
+    (sym c.writes_rows.ensures ∙ c.if-writes_rows.true) c.write_row.ensures.memory
+
+pub returns-then-writes_rows-clause-refused : goal.returns-then-writes_rows-clause-refused
+returns-then-writes_rows-clause-refused g c =
+    rw c.in-Err.is (refused_all c.write_row.result c.write_row.ensures.refused)
+
+pub returns-then-writes_rows-clause-sink : goal.returns-then-writes_rows-clause-sink
+returns-then-writes_rows-clause-sink g c =
+    subst (λ z. SinkEnds z (g.K.Sink.is_failed c.write_row.new.sink) c.write_row.result)
+    c.in_ok-write_all.ensures.kept c.write_row.ensures.sink
 
 pub returns-in_err-write_all-clause-sink : goal.returns-in_err-write_all-clause-sink
 returns-in_err-write_all-clause-sink g c =

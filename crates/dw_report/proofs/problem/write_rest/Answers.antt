@@ -1,4 +1,4 @@
-use Rattle.std.proofs.Common.{◌≡◌, ◌∙◌, List, [], ℕ, sym, subst, arith, refl}
+use Rattle.std.proofs.Common.{◌≡◌, ◌∙◌, List, [], ℕ, ap, sym, subst, arith, refl}
 use Rattle.std.proofs.KnownBytes.{Appends-nil}
 use Rattle.std.proofs.lemmas.Result.{err_from_is_err_and}
 use Rattle.dw_notation.specs.Writes.{Writes}
@@ -6,37 +6,45 @@ use Rattle.dw_report.specs.Request.{request_of}
 use Rattle.dw_report.specs.declared.settings.Command.{Command}
 use Rattle.dw_report.specs.Running.{AreLinesOf}
 use Rattle.dw_report.specs.inner.Running.{TextEnds, IsSaidThen}
-use Rattle.dw_report.specs.declared.settings.Command.TheVariants.{Moves, Judge, Show, List as Lists}
+use Rattle.dw_report.specs.declared.settings.Command.TheVariants.{Moves, MovesRow, Judge, Show, ShowRow, List as Lists}
 use Rattle.dw_report.proofs.SearchLemmas.{same_fault, searches_none}
 use Rattle.dw_report.proofs.FaultLemmas.{fault_same, sink_same, spends_same, ok_not_stopped, spends_ok, searches_for}
-use Rattle.dw_report.proofs.FaultLemmas.{searches_moves, refused_none, refused_lists, spends_after}
+use Rattle.dw_report.proofs.FaultLemmas.{searches_moves, refused_none, refused_lists, refused_row}
+use Rattle.dw_report.proofs.FaultLemmas.{searches_row, spends_after}
+use Rattle.dw_report.proofs.WritingLemmas.{row_ends}
+use Rattle.dw_report.specs.Request.{writes_rows}
+use Rattle.std.specs.String.{string_bytes}
 use Rattle.dw_report.proofs.problem.write_rest.Goals as goal
 
 pub returns-in_ok-write_moves-in-Moves-clause-text : goal.returns-in_ok-write_moves-in-Moves-clause-text
 returns-in_ok-write_moves-in-Moves-clause-text g c =
     let request = request_of c.args.settings.now in
-    let said : Command → List ℕ → Type 0 = λ z. IsSaidThen g.B.Board.geometry z request c.args.position.now in
+    let said : Command → List ℕ → Type 0 = λ z. IsSaidThen g.B.Board.geometry z request c.args.number
+    c.args.position.now in
     subst (λ z. Writes (said z) (g.K.Sink.taken c.args.sink.now) (g.K.Sink.taken c.write_moves.new.sink))
     (sym c.in-Moves.is) c.in_ok-write_moves-in-Moves.ensures.text
 
 pub returns-in_ok-write_judged-in-Judge-clause-text : goal.returns-in_ok-write_judged-in-Judge-clause-text
 returns-in_ok-write_judged-in-Judge-clause-text g c =
     let request = request_of c.args.settings.now in
-    let said : Command → List ℕ → Type 0 = λ z. IsSaidThen g.B.Board.geometry z request c.args.position.now in
+    let said : Command → List ℕ → Type 0 = λ z. IsSaidThen g.B.Board.geometry z request c.args.number
+    c.args.position.now in
     subst (λ z. Writes (said z) (g.K.Sink.taken c.args.sink.now) (g.K.Sink.taken c.write_judged.new.sink))
     (sym c.in-Judge.is) c.in_ok-write_judged-in-Judge.ensures.text
 
 pub returns-in-List-clause-text : goal.returns-in-List-clause-text
 returns-in-List-clause-text g c =
     let request = request_of c.args.settings.now in
-    let said : Command → List ℕ → Type 0 = λ z. IsSaidThen g.B.Board.geometry z request c.args.position.now in
+    let said : Command → List ℕ → Type 0 = λ z. IsSaidThen g.B.Board.geometry z request c.args.number
+    c.args.position.now in
     subst (λ z. TextEnds (said z) (AreLinesOf (said z)) (g.K.Sink.taken c.args.sink.now)
     (g.K.Sink.taken c.write_lines.new.sink) c.write_lines.result) (sym c.in-List.is) c.write_lines.ensures.text
 
 pub returns-in_err-write_moves-in-Moves-clause-text : goal.returns-in_err-write_moves-in-Moves-clause-text
 returns-in_err-write_moves-in-Moves-clause-text g c =
     let request = request_of c.args.settings.now in
-    let said : Command → List ℕ → Type 0 = λ z. IsSaidThen g.B.Board.geometry z request c.args.position.now in
+    let said : Command → List ℕ → Type 0 = λ z. IsSaidThen g.B.Board.geometry z request c.args.number
+    c.args.position.now in
     let old = g.K.Sink.taken c.args.sink.now in
     let new = g.K.Sink.taken c.write_moves.new.sink in
     let why = err_from_is_err_and c.from_residual.result c.from_residual.ensures.1 in
@@ -56,7 +64,8 @@ returns-in_err-write_moves-in-Moves-clause-sink g c =
 pub returns-in_err-write_judged-in-Judge-clause-text : goal.returns-in_err-write_judged-in-Judge-clause-text
 returns-in_err-write_judged-in-Judge-clause-text g c =
     let request = request_of c.args.settings.now in
-    let said : Command → List ℕ → Type 0 = λ z. IsSaidThen g.B.Board.geometry z request c.args.position.now in
+    let said : Command → List ℕ → Type 0 = λ z. IsSaidThen g.B.Board.geometry z request c.args.number
+    c.args.position.now in
     let old = g.K.Sink.taken c.args.sink.now in
     let new = g.K.Sink.taken c.write_judged.new.sink in
     let why = err_from_is_err_and c.from_residual-in_err-write_judged-in-Judge.result
@@ -120,7 +129,8 @@ pub returns-in-Show-clause-text : goal.returns-in-Show-clause-text
 returns-in-Show-clause-text g c =
     let request = request_of c.args.settings.now in
     let old = g.K.Sink.taken c.args.sink.now in
-    let said : Command → List ℕ → Type 0 = λ z. IsSaidThen g.B.Board.geometry z request c.args.position.now in
+    let said : Command → List ℕ → Type 0 = λ z. IsSaidThen g.B.Board.geometry z request c.args.number
+    c.args.position.now in
     subst (λ z. Writes (said z) old old) (sym c.in-Show.is)
     (record { text = []; is = refl; wrote = Appends-nil old })
 
@@ -144,3 +154,43 @@ returns-in_ok-write_judged-in-Judge-clause-refused g c =
 pub returns-in-List-clause-refused : goal.returns-in-List-clause-refused
 returns-in-List-clause-refused g c =
     refused_lists _ c.args.settings.now.command c.write_lines.result c.in-List.is c.write_lines.ensures.refused
+
+pub returns-in-ShowRow-clause-text : goal.returns-in-ShowRow-clause-text
+returns-in-ShowRow-clause-text g c =
+    let geo = g.B.Board.geometry in
+    let request = request_of c.args.settings.now in
+    let p = c.args.position.now in
+    row_ends string_bytes geo request c.args.number p ShowRow (g.K.Sink.taken c.args.sink.now)
+    (g.K.Sink.taken c.write_row.new.sink) c.shown_row.result c.write_row.result c.in-ShowRow.is
+    (c.one_report.ensures.texts geo g.met.B.Board.numbers request c.requires.sound.lines) c.shown_row.ensures refl
+    c.write_row.ensures.text
+
+pub returns-in-ShowRow-clause-searches : goal.returns-in-ShowRow-clause-searches
+returns-in-ShowRow-clause-searches g c =
+    searches_row c.args.settings.now.command c.args.solver.now c.write_row.result (ap writes_rows c.in-ShowRow.is)
+    c.write_row.ensures.memory
+
+pub returns-in-ShowRow-clause-refused : goal.returns-in-ShowRow-clause-refused
+returns-in-ShowRow-clause-refused g c =
+    refused_row _ c.args.settings.now.command c.write_row.result
+    (λ e. let bad : ShowRow ≡ Lists = sym c.in-ShowRow.is ∙ e in cc) c.write_row.ensures.refused
+
+pub returns-in-MovesRow-clause-text : goal.returns-in-MovesRow-clause-text
+returns-in-MovesRow-clause-text g c =
+    let geo = g.B.Board.geometry in
+    let request = request_of c.args.settings.now in
+    let p = c.args.position.now in
+    row_ends string_bytes geo request c.args.number p MovesRow (g.K.Sink.taken c.args.sink.now)
+    (g.K.Sink.taken c.write_row-in-MovesRow.new.sink) c.moves_row.result c.write_row-in-MovesRow.result c.in-MovesRow.is
+    (c.one_report.ensures.texts geo g.met.B.Board.numbers request c.requires.sound.lines) c.moves_row.ensures refl
+    c.write_row-in-MovesRow.ensures.text
+
+pub returns-in-MovesRow-clause-searches : goal.returns-in-MovesRow-clause-searches
+returns-in-MovesRow-clause-searches g c =
+    searches_row c.args.settings.now.command c.args.solver.now c.write_row-in-MovesRow.result
+    (ap writes_rows c.in-MovesRow.is) c.write_row-in-MovesRow.ensures.memory
+
+pub returns-in-MovesRow-clause-refused : goal.returns-in-MovesRow-clause-refused
+returns-in-MovesRow-clause-refused g c =
+    refused_row _ c.args.settings.now.command c.write_row-in-MovesRow.result
+    (λ e. let bad : MovesRow ≡ Lists = sym c.in-MovesRow.is ∙ e in cc) c.write_row-in-MovesRow.ensures.refused

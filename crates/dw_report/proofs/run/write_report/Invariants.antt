@@ -2,7 +2,7 @@ use Rattle.std.proofs.Common.{◌≡◌, ◌≤◌, ◌-◌, false}
 use Rattle.dw_notation.specs.Reading.{EndIsTrue, lender, source_of}
 use Rattle.dw_notation.specs.inner.Readers.{reader_of}
 use Rattle.dw_report.specs.Request.{request_of}
-use Rattle.dw_report.specs.declared.settings.Command.TheVariants.{Moves}
+use Rattle.dw_report.specs.inner.Running.{searches}
 use Rattle.dw_report.proofs.RunLemmas.{SoFar}
 use Rattle.dw_report.proofs.run.write_report.Given as goal
 
@@ -20,7 +20,7 @@ invariant-problems g l =
       source : source.is_failed (source_of l.problems) ≡ false;
       sink : sink.is_failed l.sink ≡ false;
       limit : l.solver.limit ≡ l.initial.solver.limit;
-      still : l.settings.command ≡ Moves → l.solver.expanded ≡ 0;
+      still : searches l.settings.command ≡ false → l.solver.expanded ≡ 0;
       read : l.summary.problems ≡ (reader_of l.problems).handed;
       shown : l.summary.shown ≤ l.summary.problems;
       refused : l.summary.refused ≤ l.summary.shown;
