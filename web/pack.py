@@ -3,9 +3,10 @@
 
     web/pack.py MODULE VERSION OUTPUT
 
-MODULE is the WebAssembly module, which is compressed, VERSION the line at the foot of the page. The scripts stand one
-after another in one block, those that others import first; the names at their top level have to differ. The page's
-policy names the checksums of its script and of its style, so that nothing else runs, and nothing is fetched.
+MODULE is the WebAssembly module, which is compressed, VERSION the line at the foot of the page. Those scripts that run
+the module stand in package/, the others in js/. They stand one after another in one block, those that others import
+first; the names at their top level have to differ. early.js comes before them, in front of the module. The page's
+policy names the checksums of its scripts and of its style, so that nothing else runs, and nothing is fetched.
 """
 import base64
 import hashlib
@@ -15,10 +16,17 @@ import sys
 import zlib
 
 HERE = pathlib.Path(__file__).resolve().parent
-IMPORT = re.compile(r"^import \{[^}]*\} from '\./(\w+)\.js';\n", re.MULTILINE)
+PACKAGE = HERE.parent / "package"
+IMPORT = re.compile(r"^import \{[^}]*\} from '(?:\./|\.\./\.\./package/)(\w+)\.js';\n", re.MULTILINE)
 DECLARED = re.compile(r"^(?:export )?(?:async )?(?:function\*?|class|const|let) (\w+)", re.MULTILINE)
-POLICY = "default-src 'none'; script-src '{script}' 'wasm-unsafe-eval'; style-src '{style}'; worker-src blob:; " \
-    "img-src data:; base-uri 'none'; form-action 'none'"
+POLICY = "default-src 'none'; script-src '{early}' '{script}' 'wasm-unsafe-eval'; style-src '{style}'; " \
+    "worker-src blob:; img-src data:; base-uri 'none'; form-action 'none'"
+
+
+def text_of(name):
+    """The script of this name: one of the page, or one that the package has too."""
+    own = HERE / "js" / f"{name}.js"
+    return (own if own.exists() else PACKAGE / f"{name}.js").read_text()
 
 
 def in_order(name, seen):
@@ -26,7 +34,7 @@ def in_order(name, seen):
     if name in seen:
         return []
     seen.add(name)
-    text = (HERE / "js" / f"{name}.js").read_text()
+    text = text_of(name)
     return [other for needed in IMPORT.findall(text) for other in in_order(needed, seen)] + [name]
 
 
@@ -34,7 +42,7 @@ def bundle(name, call):
     """One script of all that are needed, which calls one of their functions."""
     parts, names = [], {}
     for part in in_order(name, set()):
-        text = (HERE / "js" / f"{part}.js").read_text()
+        text = text_of(part)
         several = "".join(re.findall(r"^const (\w+ = [^;=(]*, \w+ = [^;]*);", text, re.MULTILINE))
         for declared in DECLARED.findall(text) + re.findall(r", (\w+) = ", several):
             assert declared not in names, f"{declared} stands in {names[declared]}.js and in {part}.js"
@@ -53,9 +61,11 @@ def checksum(text):
 
 def page(module, version):
     style, script = (HERE / "style.css").read_text(), bundle("main", "void start();")
+    early = (HERE / "js" / "early.js").read_text()
     parts = {
-        "policy": POLICY.format(script=checksum(script), style=checksum(style)),
+        "policy": POLICY.format(early=checksum(early), script=checksum(script), style=checksum(style)),
         "style": style,
+        "early": early,
         "version": version,
         "module": base64.b64encode(zlib.compress(module, 9)).decode(),
         "worker": bundle("worker", "work();"),

@@ -1,21 +1,25 @@
-/** What all parts of the page share: the position, the words, the workers. */
+/** What all parts of the page share: the problem, the position on the board, the answers, the words, the workers. */
+import { Book } from './book.js';
 import { History } from './history.js';
 import { textIn } from './languages.js';
 import { emptyBoard, fenOf, isSame, positionOf } from './position.js';
 import { Rules } from './rules.js';
 
 /**
+ * @typedef {import('./book.js').Entry} Entry
  * @typedef {import('./position.js').Position} Position
  * @typedef {import('./languages.js').Language} Language
  * @typedef {import('./languages.js').Key} Key
- * @typedef {import('./workers.js').Workers} Workers
+ * @typedef {import('../../package/workers.js').Workers} Workers
+ * @typedef {'edited' | 'looked' | 'spoken' | 'answered' | 'read'} Change The problem is another; the position on the
+ *     board is; the language is; an answer is; a FEN text was read.
  */
 
 /** The state of the page. Whoever wants to know of a change listens to it. */
 export class App extends EventTarget {
     /**
      * @param {Workers} searches Workers for much that may take long, as many as there are processors.
-     * @param {Workers} solver Workers for the one question that the reader waits for.
+     * @param {Workers} solver Workers for the questions that the reader waits for.
      * @param {Workers} quick A worker for what is answered at once.
      */
     constructor(searches, solver, quick) {
@@ -23,19 +27,21 @@ export class App extends EventTarget {
         this.searches = searches;
         this.solver = solver;
         this.rules = new Rules((words, input) => quick.ask(words, input));
-        this.quick = quick;
+        this.book = new Book();
         /** @type {Language} */
         this.language = 'en';
-        /** @type {History<Position>} */
+        /** @type {History<Position>} The problem, and those before. */
         this.history = new History(emptyBoard(10), isSame);
-        /** @type {Position | null} A position that is looked at: one of a solution or of a play. */
+        /** @type {Position | null} A later position on the board: one of a solution or of a play. */
         this.looked = null;
-        /** @type {{file: Uint8Array, number: number, fen: string} | null} The game of a file that was set up last. */
-        this.source = null;
         /** Whether moves are played on the board. */
         this.isPlaying = false;
-        /** @type {() => Promise<string>} Why `dw` refuses what is on the board or in its text, once it has said so. */
+        /** Why `dw` refuses what stands in the field of the FEN text, or an empty text. */
+        this.refused = '';
+        /** @type {() => Promise<string>} The same, once `dw` has read what stands there now. */
         this.fault = () => Promise.resolve('');
+        /** @type {(position: Position) => string | null} The collection's game of this position, if any. */
+        this.gameOf = () => null;
     }
 
     /** The position on the board. */
@@ -48,6 +54,33 @@ export class App extends EventTarget {
         return fenOf(this.position);
     }
 
+    /** Whether the board shows a later position of a solution, on which nothing can be changed. */
+    get isReplay() {
+        return this.looked !== null && !this.isPlaying;
+    }
+
+    /** The position that questions are about: what is played, or else the problem. */
+    get subject() {
+        return this.isPlaying ? this.position : this.history.now;
+    }
+
+    /**
+     * The entry whose answer is shown: of the position that is played, if it was asked of that; else of the problem.
+     * @param {(entry: Entry) => unknown} has
+     */
+    shown(has) {
+        const played = this.isPlaying && this.looked ? this.book.find(this.looked) : null;
+        return played && has(played) ? played : this.book.of(this.history.now);
+    }
+
+    /**
+     * Whether an entry is that of the position on the board.
+     * @param {Entry} entry
+     */
+    isOnBoard(entry) {
+        return isSame(entry.position, this.position);
+    }
+
     /**
      * A text in the language of the page.
      * @param {Key} key
@@ -58,17 +91,16 @@ export class App extends EventTarget {
     }
 
     /**
-     * Changes the position on the board; it can be undone.
+     * Changes the problem; it can be undone.
      * @param {Position} position
      */
     edit(position) {
-        if (this.looked) this.history.put(this.looked);
         this.looked = null;
         this.history.put(position);
         this.tell('edited');
     }
 
-    /** Takes back the last change, or does it again. */
+    /** Takes back the last change of the problem, or does it again. */
     undo() {
         this.looked = null;
         this.history.undo();
@@ -82,41 +114,34 @@ export class App extends EventTarget {
     }
 
     /**
-     * Looks at a position of a solution or of a play, or again at the one that was set up.
+     * Shows a position of a solution or of a play on the board, or the problem again.
      * @param {string | null} fen
      */
     look(fen) {
-        this.looked = fen === null ? null : positionOf(fen, this.history.now.rows);
+        const position = fen === null ? null : positionOf(fen, this.history.now.rows);
+        this.looked = position && !isSame(position, this.history.now) ? position : null;
         this.tell('looked');
     }
 
-    /** The position that is looked at becomes the one that was set up, so that one may ask of it. */
+    /** A later position of a solution becomes the problem, so that one may ask of it. */
     take() {
-        if (!this.looked) return;
-        this.history.put(this.looked);
-        this.looked = null;
-        this.tell('looked');
+        if (this.looked && this.isReplay) this.edit(this.looked);
     }
 
-    /** The problem that is worked on: what is played, or else what was set up. */
-    get problem() {
-        return this.isPlaying ? this.position : this.history.now;
+    /** The board shows the position again that questions are about. */
+    returnToSubject() {
+        if (this.isReplay) this.look(null);
     }
 
-    /** The board shows the problem again that is worked on: what is played, or else what was set up. */
-    returnToProblem() {
-        if (this.isPlaying) this.take();
-        else if (this.looked) this.look(null);
-    }
-
-    /** @param {'edited' | 'looked' | 'spoken' | 'solved'} what */
+    /** @param {Change} what */
     tell(what) {
+        if (what === 'edited' || what === 'looked') this.book.stopOthers([this.history.now, this.position]);
         this.dispatchEvent(new Event(what));
     }
 
     /**
      * Listens to changes.
-     * @param {('edited' | 'looked' | 'spoken' | 'solved')[]} kinds
+     * @param {Change[]} kinds
      * @param {() => void} act
      */
     on(kinds, act) {

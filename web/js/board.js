@@ -1,5 +1,6 @@
 /** The board on the page: squares that are clicked, pieces that are dragged, a cursor that keys move. */
 import { draw, make } from './dom.js';
+import { Dragging } from './drag.js';
 import { squareAt, squareBeside, squareCount } from './squares.js';
 
 /**
@@ -13,11 +14,9 @@ import { squareAt, squareBeside, squareCount } from './squares.js';
  *   place: (square: number, piece: Piece) => void,
  *   name: (square: number, piece: Piece | undefined) => string,
  * }} Actions
- * @typedef {{isTurned: boolean, isEdited: boolean, sources: Set<number>, targets: Set<number>, chosen: number}} Look
+ * @typedef {{isTurned: boolean, isEdited: boolean, sources: Set<number>, targets: Set<number>, chosen: number,
+ *   faulty: Set<number>}} Look
  */
-
-/** How many points a finger moves before it drags. */
-const DRAGS = 6;
 
 /** The picture of a piece. */
 export function pieceOf(/** @type {Piece} */ piece) {
@@ -39,14 +38,25 @@ export class BoardView {
         this.squares = new Map();
         /** @type {Position | null} */
         this.position = null;
-        this.look = { isTurned: false, isEdited: true, sources: new Set(), targets: new Set(), chosen: 0 };
+        /** @type {Look} */
+        this.look = {
+            isTurned: false, isEdited: true, sources: new Set(), targets: new Set(), chosen: 0, faulty: new Set(),
+        };
         this.cursor = 1;
-        this.isDragged = false;
+        this.dragging = new Dragging(host, {
+            pieceAt: (target) => this.pieceAt(target),
+            lift: (square) => this.lift(square),
+            drop: (from, at) => this.drop(from, at),
+        });
         host.addEventListener('click', (event) => this.onClick(event));
         host.addEventListener('contextmenu', (event) => this.onErase(event));
-        host.addEventListener('pointerdown', (event) => this.onPress(event));
         host.addEventListener('keydown', (event) => this.onKey(event));
         host.addEventListener('focusin', ({ target }) => this.moveCursor(this.squareOf(target)));
+    }
+
+    /** The keys go to the square of the cursor. */
+    focus() {
+        this.squares.get(this.cursor)?.focus();
     }
 
     /** @param {EventTarget | null} target */
@@ -74,7 +84,7 @@ export class BoardView {
      * @param {HTMLElement} element
      */
     showSquare(square, element) {
-        const piece = this.position?.pieces.get(square), { sources, targets, chosen, isEdited } = this.look;
+        const piece = this.position?.pieces.get(square), { sources, targets, chosen, isEdited, faulty } = this.look;
         if (element.dataset.piece !== piece) {
             element.querySelector('.piece')?.remove();
             if (piece) {
@@ -88,6 +98,9 @@ export class BoardView {
         element.classList.toggle('source', sources.has(square));
         element.classList.toggle('target', targets.has(square));
         element.classList.toggle('chosen', chosen === square);
+        element.classList.toggle('faulty', faulty.has(square));
+        if (faulty.has(square)) element.setAttribute('aria-invalid', 'true');
+        else element.removeAttribute('aria-invalid');
         element.setAttribute('aria-label', this.actions.name(square, piece));
     }
 
@@ -129,8 +142,7 @@ export class BoardView {
     /** @param {MouseEvent} event */
     onClick(event) {
         const square = this.squareOf(event.target);
-        if (square && !this.isDragged) this.actions.click(square);
-        this.isDragged = false;
+        if (square && !this.dragging.hasDragged()) this.actions.click(square);
     }
 
     /** @param {MouseEvent} event */
@@ -138,7 +150,8 @@ export class BoardView {
         const square = this.squareOf(event.target);
         if (!square || !this.look.isEdited) return;
         event.preventDefault();
-        this.actions.erase(square);
+        // (a finger that holds a piece calls for no menu)
+        if (!this.dragging.isHeld) this.actions.erase(square);
     }
 
     /** @param {KeyboardEvent} event */
@@ -160,45 +173,23 @@ export class BoardView {
         event.preventDefault();
     }
 
-    /** @param {PointerEvent} event */
-    onPress(event) {
-        const from = this.squareOf(event.target), piece = this.position?.pieces.get(from);
-        this.isDragged = false;
-        if (!from || !piece || !this.look.isEdited || event.button !== 0) return;
-        /** @type {SVGElement | null} */
-        let shadow = null;
-        const follow = (/** @type {PointerEvent} */ at) => {
-            if (at.pointerId !== event.pointerId) return;
-            if (!shadow && Math.hypot(at.clientX - event.clientX, at.clientY - event.clientY) < DRAGS) return;
-            shadow ??= this.lift(from, piece);
-            shadow.style.transform = `translate(${at.clientX}px, ${at.clientY}px) translate(-50%, -50%)`;
-        };
-        const drop = (/** @type {PointerEvent} */ at) => {
-            if (at.pointerId !== event.pointerId) return;
-            removeEventListener('pointermove', follow);
-            removeEventListener('pointerup', drop);
-            removeEventListener('pointercancel', drop);
-            this.squares.get(from)?.classList.remove('lifted');
-            if (!shadow) return;
-            shadow.remove();
-            this.isDragged = true;
-            setTimeout(() => { this.isDragged = false; }, 50);
-            if (at.type === 'pointerup') this.put(from, at);
-        };
-        addEventListener('pointermove', follow);
-        addEventListener('pointerup', drop);
-        addEventListener('pointercancel', drop);
+    /**
+     * The square of a piece that can be dragged.
+     * @param {EventTarget | null} target
+     */
+    pieceAt(target) {
+        const square = this.squareOf(target);
+        return this.look.isEdited && this.position?.pieces.has(square) ? square : 0;
     }
 
     /**
      * A picture of a piece that follows the pointer.
      * @param {number} from
-     * @param {Piece} piece
      */
-    lift(from, piece) {
+    lift(from) {
         const square = /** @type {HTMLElement} */ (this.squares.get(from));
         square.classList.add('lifted');
-        const shadow = pieceOf(piece);
+        const shadow = pieceOf(/** @type {Piece} */ (square.dataset.piece));
         shadow.classList.add('shadow');
         shadow.style.width = `${square.clientWidth}px`;
         document.body.append(shadow);
@@ -206,11 +197,13 @@ export class BoardView {
     }
 
     /**
-     * Puts a piece down: on a square, or off the board.
+     * Puts a piece down where the pointer goes up: on a square, or off the board.
      * @param {number} from
-     * @param {PointerEvent} at
+     * @param {PointerEvent | null} at
      */
-    put(from, at) {
+    drop(from, at) {
+        this.squares.get(from)?.classList.remove('lifted');
+        if (!at || !this.look.isEdited) return;
         const to = this.squareOf(document.elementFromPoint(at.clientX, at.clientY));
         const box = this.host.getBoundingClientRect();
         const isBeside = at.clientX < box.left || at.clientX > box.right;

@@ -1,43 +1,54 @@
-/** The changes that `mend` makes: their order, and their texts in the language of the page. */
+/** The changes that `mend` makes: found by comparing positions, in their order, with their texts. */
 
 /**
+ * @typedef {import('./position.js').Position} Position
+ * @typedef {import('./position.js').Piece} Piece
  * @typedef {import('./languages.js').Key} Key
  * @typedef {(key: Key, ...values: (string | number)[]) => string} Say
+ * @typedef {{kind: number, square: number, to: number, piece: Piece}} Change The kind is its place in `KINDS`. `to` is
+ *     the new square of a piece, or 0; `piece` is the piece that is taken away, put, set or made.
  */
 
-/** The order in which `mend` goes through the changes. */
-const KINDS = [/^without (\d+)$/, /^with [WB]K?(\d+)$/, /^(\d+) to (\d+)$/, /^(\d+) as/];
+/** The kinds of changes in the order in which they are made. */
+const KINDS = { without: 0, with: 1, to: 2, as: 3 };
+
+/** The order of the pieces that are put on one square, and how each is written. */
+const PIECES = /** @type {Piece[]} */ (['w', 'W', 'b', 'B']), WRITTEN = { w: 'W', W: 'WK', b: 'B', B: 'BK' };
 
 /**
- * Where a change stands in that order.
- * @param {string} change
+ * The change that makes one position of another.
+ * @param {Position} before
+ * @param {Position} after
+ * @returns {Change}
  */
-function rank(change) {
-    const kind = KINDS.findIndex((form) => form.test(change)), said = KINDS[kind]?.exec(change) ?? [];
-    const piece = ['with WK', 'with BK', 'with W', 'with B'].findIndex((start) => change.startsWith(start));
-    return [kind, Number(said[1] ?? 0), Number(said[2] ?? [1, 3, 0, 2][piece] ?? 0)];
+export function changeOf(before, after) {
+    const gone = [...before.pieces].filter(([square]) => !after.pieces.has(square));
+    const come = [...after.pieces].filter(([square]) => !before.pieces.has(square));
+    const [[left, taken] = [0, null]] = gone, [[reached, put] = [0, null]] = come;
+    if (taken && put) return { kind: KINDS.to, square: left, to: reached, piece: put };
+    if (taken) return { kind: KINDS.without, square: left, to: 0, piece: taken };
+    if (put) return { kind: KINDS.with, square: reached, to: 0, piece: put };
+    const made = [...after.pieces].find(([square, piece]) => before.pieces.get(square) !== piece);
+    const [square, piece] = made ?? [0, /** @type {Piece} */ ('w')];
+    return { kind: KINDS.as, square, to: 0, piece };
 }
 
 /**
  * Compares two changes: below 0 if the first comes before the second.
- * @param {string} a
- * @param {string} b
+ * @param {Change} a
+ * @param {Change} b
  */
-export function inOrder(a, b) {
-    const left = rank(a), right = rank(b);
-    return left[0] - right[0] || left[1] - right[1] || left[2] - right[2];
-}
+export const inOrder = (a, b) => a.kind - b.kind || a.square - b.square || a.to - b.to
+    || PIECES.indexOf(a.piece) - PIECES.indexOf(b.piece);
 
 /**
  * A change in the language of the page.
- * @param {string} change
+ * @param {Change} change
  * @param {Say} say
  */
-export function changeText(change, say) {
-    const kind = KINDS.findIndex((form) => form.test(change)), [, one = '', two = ''] = KINDS[kind]?.exec(change) ?? [];
-    if (kind === 0) return say('changeWithout', one);
-    if (kind === 1) return say('changeWith', change.slice('with '.length));
-    if (kind === 2) return say('changeTo', one, two);
-    if (kind === 3) return say(change.endsWith('king') ? 'changeKing' : 'changeMan', one);
-    return change;
+export function changeText({ kind, square, to, piece }, say) {
+    if (kind === KINDS.without) return say('changeWithout', square);
+    if (kind === KINDS.with) return say('changeWith', `${WRITTEN[piece]}${square}`);
+    if (kind === KINDS.to) return say('changeTo', square, to);
+    return say(piece === 'W' || piece === 'B' ? 'changeKing' : 'changeMan', square);
 }

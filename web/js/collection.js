@@ -4,10 +4,11 @@ import { valueOf } from './pdn.js';
 /**
  * @typedef {import('./pdn.js').Tag} Tag
  * @typedef {import('./squares.js').Rows} Rows
- * @typedef {'sound' | 'dual' | 'cooked' | 'unsolvable' | 'undecided'} Verdict
+ * @typedef {import('./answers.js').Verdict} Verdict
  * @typedef {{verdict: Verdict, n?: number, shortest?: number, keys?: string[], at?: string, choices?: string[],
- *   tries?: [string, string][], no_win_in?: number}} Row What `find --json` says.
- * @typedef {{number: number, rows: Rows, fen: string, tags: Tag[], refused: string, row: Row | null}} Item
+ *   tries?: [string, string][], no_win_in?: number}} Judged What `find` says.
+ * @typedef {{id: string, rows: Rows, fen: string, tags: Tag[], movetext: string, refused: string, row: Judged | null}}
+ *     Item A problem. If it is refused, `fen` is empty, and `movetext` has its whole section as it stands.
  */
 
 /** The verdicts in their order. */
@@ -20,7 +21,7 @@ const ORDER = ['sound', 'dual', 'cooked', 'unsolvable', 'undecided', 'open', 're
 export const stateOf = (item) => (item.refused ? 'refused' : item.row?.verdict ?? 'open');
 
 /**
- * The title of an item: what its tags say of event and author.
+ * The title of an item: what its tags say of event, author and date.
  * @param {Item} item
  */
 export const titleOf = ({ tags }) =>
@@ -47,3 +48,23 @@ export function chosen(items, filter, sort) {
  * @param {Item[]} items
  */
 export const decided = (items) => items.filter(({ row }) => row && row.verdict !== 'undecided');
+
+/**
+ * Whether a search for a win in up to so many moves may tell more of an item than is known.
+ * @param {Item} item
+ * @param {number} most
+ */
+export function isOpen(item, most) {
+    const state = stateOf(item);
+    return state === 'open' || state === 'undecided' || (state === 'unsolvable' && (item.row?.n ?? 0) < most);
+}
+
+/**
+ * The boards of the items, each with its items.
+ * @param {Item[]} items
+ */
+export function byBoard(items) {
+    const boards = /** @type {Rows[]} */ ([10, 8]);
+    return boards.map((rows) => ({ rows, items: items.filter((item) => item.rows === rows) }))
+        .filter((board) => board.items.length > 0);
+}

@@ -1,15 +1,16 @@
 /** Comparing an author's solution with the truth. */
-import { byId, control, make, reveal, unbroken } from './dom.js';
-import { movesOf, rowsOf, solutionFault, summaryOf } from './answers.js';
-import { textOf } from './engine.js';
+import { failureText, namePosition } from './answer_view.js';
+import { faultOf, movesOf, rowsOf, summaryOf } from './answers.js';
+import { Task } from './book.js';
+import { byId, control, fill, make, reveal, unbroken } from './dom.js';
+import { reportOf, textOf } from '../../package/engine.js';
 import { keyOf } from './languages.js';
 import { positionOf } from './position.js';
 import { boardOf } from './rules.js';
-import { reportOf } from './search.js';
-import { Stopped } from './workers.js';
 
 /**
  * @typedef {import('./app.js').App} App
+ * @typedef {import('./book.js').Entry} Entry
  * @typedef {import('./answers.js').Remark} Remark
  * @typedef {import('./answers.js').Checked} Checked
  */
@@ -17,76 +18,170 @@ import { Stopped } from './workers.js';
 /** The longest movetext, in bytes, and how much of it is shown around a fault. */
 const LARGEST_GAME = 1_048_576, AROUND = 60;
 
-/**
- * Brings the comparison to life.
- * @param {App} app
- */
-export function comparing(app) {
-    /** @type {AbortController | null} */
-    let running = null;
-    /** @type {Checked | null} */
-    let checked = null;
-    let failed = '', typed = '', inText = 1;
-    const field = control('movetext', HTMLTextAreaElement);
-    const stop = control('stop-compare', HTMLButtonElement), go = control('compare', HTMLButtonElement);
+/** Whether a text is a whole game, with tags. */
+const isGame = (/** @type {string} */ text) => /^\s*\[/.test(text);
 
-    /** Compares what stands in the field; a whole game brings its own position, and is the first of its text. */
-    async function compareField() {
-        const isGame = /^\s*\[/.test(field.value);
-        app.returnToProblem();
-        if (!isGame && await app.fault()) {
-            checked = null;
-            failed = app.say('faultFirst');
-            show();
-            return;
-        }
-        const text = field.value, games = isGame ? await app.rules.count(text, app.position.rows) : 1;
-        await compare(isGame ? text : `[FEN "${app.fen}"]${text}`, 1, isGame ? '' : text, games);
+/** The comparison. */
+export class Comparing {
+    /** @param {App} app */
+    constructor(app) {
+        this.app = app;
+        this.field = control('movetext', HTMLTextAreaElement);
+        /** @type {import('./languages.js').Key | null} Why nothing was compared. */
+        this.blocked = null;
+        byId('compare').addEventListener('click', () => void this.compareField());
+        byId('compare-own').addEventListener('click', () => this.compareOwn());
+        byId('stop-compare').addEventListener('click', () => {
+            this.entry.compare?.stop();
+            this.draw();
+        });
+        byId('movetext-file').addEventListener('change', () => void this.open());
+        this.field.addEventListener('input', () => this.unblock());
+        app.on(['edited', 'looked', 'read'], () => { this.blocked = null; });
+        app.on(['edited', 'looked', 'spoken', 'answered', 'read'], () => this.draw());
+        this.draw();
+    }
+
+    /** The entry whose comparison is shown, if it is one of the text in the field, or of the file's game. */
+    get entry() {
+        return this.app.shown((entry) => this.isOfText(entry));
     }
 
     /**
-     * Compares the solution of one game of a file, or of a text that was typed.
-     * @param {string | Uint8Array} games
-     * @param {number} number
-     * @param {string} text The movetext alone, if it was typed.
-     * @param {number} count How many games the text has that was typed.
+     * Whether an entry has a comparison of what is asked now.
+     * @param {Entry} entry
      */
-    async function compare(games, number, text = '', count = 1) {
-        running?.abort();
-        const controller = new AbortController(), { signal } = controller, { rows } = app.position;
-        running = controller;
-        checked = null;
-        failed = '';
-        typed = text;
-        inText = count;
-        stop.disabled = false;
-        go.disabled = true;
-        show();
-        try {
-            const words = ['dw-desk', 'check', '--json', ...boardOf(rows), '--problem', String(number)];
-            const [row] = rowsOf(reportOf(await app.solver.ask(words, games, signal)));
-            if (running !== controller) return;
-            checked = row ?? null;
-            if (!text && checked?.fen) app.edit(positionOf(checked.fen, rows));
-        } catch (error) {
-            if (running !== controller) return;
-            failed = error instanceof Stopped ? app.say('stoppedEarly') : app.say('failed', String(error));
-        }
-        stop.disabled = true;
-        go.disabled = false;
-        running = null;
-        show();
+    isOfText({ compare }) {
+        return compare !== null && (compare.question.isOwn || compare.question.text === this.field.value);
     }
 
-    /** @param {string[]} moves */
-    async function playOut(moves) {
-        const played = await app.rules.follow(checked?.fen ?? app.fen, moves, app.position.rows);
-        app.look(played[played.length - 1]?.fen ?? null);
+    /** The text is another: what is searched of the one before has no use. */
+    unblock() {
+        const { compare } = this.app.book.of(this.app.subject);
+        if (compare && !compare.question.isOwn && compare.question.text !== this.field.value) compare.stop();
+        this.blocked = null;
+        this.draw();
+    }
+
+    /** @param {import('./languages.js').Key} why */
+    block(why) {
+        this.blocked = why;
+        this.draw();
+    }
+
+    /** Compares what stands in the field; a whole game brings its own position, and is the first of its text. */
+    async compareField() {
+        const { app } = this, text = this.field.value, { rows } = app.position;
+        app.returnToSubject();
+        if (!isGame(text)) {
+            if (await app.fault()) {
+                this.block('faultFirst');
+                return;
+            }
+            const entry = app.book.of(app.subject);
+            await this.compare(entry, `[FEN "${entry.fen}"]${text}`, { text, isOwn: false, count: 1 });
+            return;
+        }
+        const problems = await app.rules.problems(text, rows);
+        if (this.field.value !== text) return;
+        const fen = problems[0]?.fen;
+        if (fen) app.edit(positionOf(fen, rows));
+        await this.compare(app.book.of(app.subject), text, { text, isOwn: false, count: problems.length });
+    }
+
+    /** Compares the solution of the file with which the problem came. */
+    compareOwn() {
+        const { app } = this, text = app.gameOf(app.history.now);
+        if (text === null) return;
+        app.returnToSubject();
+        void this.compare(app.book.of(app.history.now), text, { text, isOwn: true, count: 1 });
+    }
+
+    /**
+     * Compares the first game of a text with the truth.
+     * @param {Entry} entry The entry of its position.
+     * @param {string} games
+     * @param {import('./book.js').CompareQuestion} question
+     */
+    async compare(entry, games, question) {
+        const { app } = this, words = ['dw-desk', 'check', '--json', '--problem', '1'];
+        entry.compare?.stop();
+        /** @type {NonNullable<Entry['compare']>} */
+        const task = new Task(question, null);
+        entry.compare = task;
+        app.tell('answered');
+        await task.work(async (signal) => {
+            const asking = [...words, ...boardOf(entry.position.rows)];
+            return /** @type {Checked} */ (rowsOf(reportOf(await app.solver.ask(asking, games, signal)))[0]);
+        }).finally(() => app.tell('answered'));
+    }
+
+    /** Opens a file with a solution, and compares it. */
+    async open() {
+        const input = control('movetext-file', HTMLInputElement), file = input.files?.[0];
+        input.value = '';
+        if (!file) return;
+        if (file.size > LARGEST_GAME) {
+            this.block('tooLargeGame');
+            return;
+        }
+        this.field.value = textOf(new Uint8Array(await file.arrayBuffer()));
+        void this.compareField();
+    }
+
+    draw() {
+        const { app, entry } = this, compare = this.isOfText(entry) ? entry.compare : null;
+        const checked = compare?.result ?? null, [kind, text] = checked ? this.verdict(checked) : ['', ''];
+        control('stop-compare', HTMLButtonElement).disabled = !compare?.isRunning;
+        control('compare', HTMLButtonElement).disabled = Boolean(compare?.isRunning);
+        reveal('compare-own', app.gameOf(app.history.now) !== null);
+        const place = byId('compared'), said = compare?.isRunning ? app.say('searching')
+            : compare?.phase === 'stopped' ? app.say('stoppedEarly') : failureText(app, compare?.why ?? null);
+        place.textContent = this.blocked ? app.say(this.blocked) : text || said;
+        place.dataset.kind = this.blocked ? '' : kind;
+        place.dataset.line = checked && !this.blocked ? summaryOf(checked) : '';
+        byId('compared-lines').textContent = place.dataset.line;
+        namePosition(app, 'compared-of', compare && !this.blocked && !checked?.refused ? entry : null);
+        const shown = this.blocked ? null : checked, count = compare?.question.count ?? 1;
+        const fault = this.fault(shown?.solution_refused ?? '', compare?.question.text ?? '');
+        fill('compared-fault', [shown, app.language], () => fault);
+        reveal('compared-fault', fault.length > 0);
+        byId('compared-first').textContent = compare?.question.isOwn ? app.say('comparedFile')
+            : app.say('firstOnly', count);
+        reveal('compared-first', shown !== null && (count > 1 || Boolean(compare?.question.isOwn)));
+        fill('remarks', [entry, shown, app.language], () =>
+            (shown?.remarks ?? []).map((remark) => this.item(entry, remark)));
+    }
+
+    /**
+     * What is said of the whole solution, and of which kind that is.
+     * @param {Checked} checked
+     */
+    verdict({ refused, solution_refused: unread, holds, win, n, remarks = [] }) {
+        const { app } = this;
+        if (refused || unread) return ['refused', app.say('sayRefused')];
+        if (!holds) return ['fails', app.say(win ? 'sayFails' : 'sayNoWin', n)];
+        return remarks.length ? ['but', app.say('sayHoldsBut', n)] : ['holds', app.say('sayHolds', n)];
+    }
+
+    /**
+     * Where a typed solution cannot be read, and why.
+     * @param {string} unread
+     * @param {string} text
+     */
+    fault(unread, text) {
+        const fault = faultOf(unread);
+        if (!fault || isGame(text)) return [];
+        const why = keyOf(`movetext${fault.number}`), bytes = new TextEncoder().encode(text);
+        const before = new TextDecoder().decode(bytes.subarray(0, fault.place - 1));
+        const rest = text.slice(before.length, before.length + AROUND), [word] = /^\S*/.exec(rest) ?? [''];
+        const shown = [before.slice(-AROUND), make('mark', {}, word || '␣'), rest.slice(word.length)];
+        return [make('code', {}, ...shown), make('span', {}, why ? this.app.say(why) : '')];
     }
 
     /** A remark as a sentence. */
-    function sentence(/** @type {Remark} */ { kind, line, moves, refutation = '' }) {
-        const where = movesOf(line).length ? line : app.say('start');
+    sentence(/** @type {Remark} */ { kind, line, moves, refutation = '' }) {
+        const { app } = this, where = movesOf(line).length ? line : app.say('start');
         if (kind === 'fails') return app.say('remarkFails', [line, ...moves].filter(Boolean).join(' '), refutation);
         if (kind === 'also') return app.say('remarkAlso', where, moves.join(', '));
         if (kind === 'open') return app.say('remarkOpen', where, moves.join(', '));
@@ -94,74 +189,20 @@ export function comparing(app) {
     }
 
     /** A remark; its button shows the position that it speaks of. */
-    function item(/** @type {Remark} */ remark) {
+    item(/** @type {Entry} */ entry, /** @type {Remark} */ remark) {
         const { moves, kind, line } = remark, isBad = kind === 'fails' || kind === 'ends';
         const path = kind === 'fails' ? [...movesOf(line), ...moves] : movesOf(line);
         const data = { 'data-kind': kind, 'data-line': line, 'data-moves': moves.join(', ') };
         const button = make('button', { type: 'button', class: `remark ${kind}`, ...data },
             make('span', { class: 'sign', 'aria-hidden': 'true' }, isBad ? '✗' : '!'), ' ',
-            make('span', {}, ...unbroken(sentence(remark))));
-        button.addEventListener('click', () => void playOut(path));
+            make('span', {}, ...unbroken(this.sentence(remark))));
+        button.addEventListener('click', () => void this.playOut(entry, path));
         return make('li', {}, button);
     }
 
-    /** What is said of the whole solution, and of which kind that is. */
-    function verdict(/** @type {Checked} */ { refused, solution_refused: unread, holds, win, n, remarks = [] }) {
-        if (refused || unread) return ['refused', app.say('sayRefused')];
-        if (!holds) return ['fails', app.say(win ? 'sayFails' : 'sayNoWin', n)];
-        return remarks.length ? ['but', app.say('sayHoldsBut', n)] : ['holds', app.say('sayHolds', n)];
+    /** @param {Entry} entry @param {string[]} moves */
+    async playOut(entry, moves) {
+        const { app } = this, played = await app.rules.follow(entry.fen, moves, entry.position.rows);
+        if (this.entry === entry) app.look(played[played.length - 1]?.fen ?? null);
     }
-
-    /** Where a typed solution cannot be read, and why. */
-    function faultPlace(/** @type {string} */ unread) {
-        const fault = solutionFault(unread);
-        if (!fault || !typed) return [];
-        const why = keyOf(`movetext${fault.number}`), bytes = new TextEncoder().encode(typed);
-        const before = new TextDecoder().decode(bytes.subarray(0, fault.place - 1));
-        const rest = typed.slice(before.length, before.length + AROUND), [word] = /^\S*/.exec(rest) ?? [''];
-        const shown = [before.slice(-AROUND), make('mark', {}, word || '␣'), rest.slice(word.length)];
-        return [make('code', {}, ...shown), make('span', {}, why ? app.say(why) : '')];
-    }
-
-    function show() {
-        const place = byId('compared'), [kind, text] = checked ? verdict(checked) : ['', ''];
-        place.textContent = text || failed || (running ? app.say('searching') : '');
-        place.dataset.kind = kind;
-        place.dataset.line = checked ? summaryOf(checked) : '';
-        byId('compared-lines').textContent = place.dataset.line;
-        const unread = checked?.solution_refused ?? '';
-        byId('compared-fault').replaceChildren(...faultPlace(unread));
-        reveal('compared-fault', Boolean(unread && typed));
-        byId('compared-first').textContent = app.say('firstOnly', inText);
-        reveal('compared-first', checked !== null && inText > 1);
-        byId('remarks').replaceChildren(...(checked?.remarks ?? []).map(item));
-    }
-
-    go.addEventListener('click', () => void compareField());
-    byId('compare-own').addEventListener('click', () => {
-        app.returnToProblem();
-        if (app.source) void compare(app.source.file, app.source.number);
-    });
-    app.on(['edited'], () => {
-        reveal('compare-own', app.source !== null && app.source.fen === app.fen);
-        if (running || (checked && checked.fen === app.fen)) return;
-        checked = null;
-        failed = '';
-        show();
-    });
-    stop.addEventListener('click', () => running?.abort());
-    byId('movetext-file').addEventListener('change', async () => {
-        const input = control('movetext-file', HTMLInputElement), file = input.files?.[0];
-        input.value = '';
-        if (!file) return;
-        if (file.size > LARGEST_GAME) {
-            checked = null;
-            failed = app.say('tooLargeGame');
-            show();
-            return;
-        }
-        field.value = textOf(new Uint8Array(await file.arrayBuffer()));
-        void compareField();
-    });
-    app.on(['spoken'], show);
 }

@@ -58,6 +58,22 @@ export function reveal(id, isShown) {
     byId(id).hidden = !isShown;
 }
 
+/** @type {WeakMap<Element, unknown[]>} What elements were filled for. */
+const filled = new WeakMap();
+
+/**
+ * Fills an element for some values, unless it is filled for them already: so the focus in it stays.
+ * @param {string} id
+ * @param {unknown[]} values
+ * @param {() => (Node | string)[]} parts
+ */
+export function fill(id, values, parts) {
+    const host = byId(id), before = filled.get(host);
+    if (before?.length === values.length && values.every((value, i) => value === before[i])) return;
+    filled.set(host, values);
+    host.replaceChildren(...parts());
+}
+
 /**
  * Marks the cards of a position, and no others.
  * @param {ParentNode} host

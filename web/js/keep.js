@@ -1,4 +1,5 @@
-/** What is kept: the position in the address, the list and the settings in the browser. */
+/** What is kept: the position in the address, the settings in the browser. */
+import { movesIn } from './number.js';
 
 /**
  * @typedef {import('./squares.js').Rows} Rows
@@ -16,7 +17,7 @@ export function addressIn(hash) {
     for (const part of hash.replace(/^#/, '').split('&')) {
         const at = part.indexOf('='), value = decoded(part.slice(at + 1));
         if (part.startsWith('fen=')) said.fen = value;
-        if (part.startsWith('n=') && Number(value) >= 1 && Number(value) <= 20) said.n = Math.round(Number(value));
+        if (part.startsWith('n=')) said.n = movesIn(value) || undefined;
         if (part.startsWith('rows=')) said.rows = value === '8' ? 8 : 10;
     }
     return said;
@@ -72,5 +73,14 @@ export class Store {
             this.isKept = false;
         }
         return this.isKept;
+    }
+
+    /**
+     * Keeps more under a name, beside what is there.
+     * @param {string} name
+     * @param {object} more
+     */
+    change(name, more) {
+        return this.put(name, { ...this.get(name), ...more });
     }
 }

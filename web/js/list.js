@@ -1,64 +1,57 @@
-/** The collection on the page: opened, judged, shown, saved. */
-import { breathe, byId, control, make, markCards, piecewise, reveal, save } from './dom.js';
-import { eachLine, rowsOf } from './answers.js';
-import { chosen, decided, stateOf, titleOf } from './collection.js';
-import { diagramOf } from './diagram.js';
-import { textOf } from './engine.js';
-import { gameOf, GameReader } from './pdn.js';
-import { positionOf } from './position.js';
-import { boardOf } from './rules.js';
-import { bytesOf, reportOf } from './search.js';
-import { Stopped } from './workers.js';
+/** The collection on the page: opened, judged, saved. */
+import { Cards } from './cards.js';
+import { decided, stateOf } from './collection.js';
+import { byId, control, reveal, save } from './dom.js';
+import { judgeAll } from './judging.js';
+import { isPdn, problemsIn } from './open.js';
+import { hasMoves } from './pdn.js';
+import { fenOf, positionOf } from './position.js';
+import { gameFiles, ownGame, pageFiles, rowFiles } from './saving.js';
+import { Work } from './work.js';
 
 /**
  * @typedef {import('./app.js').App} App
  * @typedef {import('./collection.js').Item} Item
- * @typedef {import('./squares.js').Rows} Rows
+ * @typedef {import('./number.js').MovesField} MovesField
+ * @typedef {import('./problems.js').Problems} Problems
+ * @typedef {import('./saving.js').SavedFile} SavedFile
  */
 
 /** The largest file, in bytes. */
 const LARGEST = 10_000_000;
 
-/** The longest list that is kept: browsers keep some megabytes for a page. */
-const LONGEST = 5000;
+/** How long the page waits for more changes of another window, in milliseconds. */
+const SETTLING = 200;
 
-/** How many problems are shown at first and with each further call, and how many at a stroke. */
-const PAGE = 200, STROKE = 10;
-
-/** How many positions a problem may take when all are judged: first few, then more for those that stay open. */
-const EACH = [300_000, 10_000_000];
-
-/** The word for what a problem counts as. */
-const STATES = /** @type {const} */ ({
-    sound: 'sound', dual: 'dualWord', cooked: 'cooked', unsolvable: 'unsolvable', undecided: 'undecided',
-    refused: 'refused', open: 'notJudged',
-});
+/** What asks for the list to have a problem. */
+const NEEDY = ['judge-all', 'save-pdn', 'save-page', 'save-json', 'forget'];
 
 /** The list. */
 export class ListView {
     /**
      * @param {App} app
-     * @param {import('./keep.js').Store} store
+     * @param {Problems} problems
+     * @param {MovesField} most
      */
-    constructor(app, store) {
+    constructor(app, problems, most) {
         this.app = app;
-        this.store = store;
-        /** @type {Item[]} */
-        this.items = store.get('list') ?? [];
-        /** @type {AbortController | null} */
-        this.running = null;
-        this.shown = PAGE;
-        this.drawing = 0;
-        this.said = '';
-        this.judged = this.items.filter((item) => item.row || item.refused).length;
-        /** @type {Item[]} The list that was emptied last, until there is another. */
-        this.emptied = [];
-        /** @type {Map<number, HTMLElement>} */
-        this.cards = new Map();
-        /** @type {{file: Uint8Array, before: number, count: number}[]} The files of games that were opened. */
-        this.files = [];
+        this.problems = problems;
+        this.most = most;
+        this.items = problems.load();
+        this.work = new Work(app, () => this.showState());
+        /** @type {string} The name of the card that was clicked last. */
+        this.chosen = '';
+        this.cards = new Cards(app, (item) => this.choose(item));
+        app.gameOf = (position) => {
+            const fen = fenOf(position);
+            const fits = this.items.filter((item) => item.fen === fen && hasMoves(item.movetext));
+            const found = fits.find(({ id }) => id === this.chosen) ?? fits[0];
+            return found ? ownGame(found) : null;
+        };
         this.listen();
-        this.show();
+        this.listenToOthers();
+        app.on(['spoken'], () => this.showState());
+        void this.show();
     }
 
     listen() {
@@ -79,17 +72,45 @@ export class ListView {
             event.preventDefault();
             void this.add();
         });
-        on('judge-all', () => void this.judgeAll());
-        on('judge-stop', () => this.running?.abort());
-        on('save-pdn', () => void this.savePdn());
-        on('save-page', () => void this.savePage());
-        on('save-json', () => void this.saveJson());
-        on('forget', () => this.forget());
-        for (const id of ['filter', 'sort']) byId(id).addEventListener('change', () => this.show());
-        const mosts = ['most', 'judge-most'].map((id) => control(id, HTMLInputElement));
-        mosts.forEach((most, i) => most.addEventListener('change', () => { mosts[1 - i].value = most.value; }));
-        this.app.on(['spoken'], () => this.show());
-        this.app.on(['edited'], () => markCards(byId('list'), this.app.fen));
+        on('judge-all', () => void this.judge());
+        on('judge-stop', () => this.work.stop());
+        on('save-pdn', () => void this.save((signal) =>
+            gameFiles(this.app, this.items, { keepsMoves: control('keep-moves', HTMLInputElement).checked, signal })));
+        on('save-page', () => void this.save((signal) => pageFiles(this.app, this.items, signal),
+            this.items.length));
+        on('save-json', () => void this.save(async () => rowFiles(this.items)));
+        on('forget', () => void this.forget());
+        on('bring-back', () => void this.bringBack());
+    }
+
+    /** Takes over what other windows do to the list. */
+    listenToOthers() {
+        let timer = 0;
+        this.problems.onChange(() => {
+            clearTimeout(timer);
+            timer = window.setTimeout(() => {
+                const unkept = this.items.filter(({ id }) => !this.problems.kept.has(id));
+                const known = new Map(this.items.map((item) => [item.id, item]));
+                const kept = this.problems.load().map((item) => {
+                    const own = known.get(item.id);
+                    return own ? Object.assign(own, { row: item.row ?? own.row }) : item;
+                });
+                this.items = [...kept, ...unkept];
+                void this.show();
+            }, SETTLING);
+        });
+    }
+
+    /**
+     * A problem of the list becomes the one on the board.
+     * @param {Item} item
+     */
+    choose(item) {
+        const { app } = this, position = positionOf(item.fen, item.rows), entry = app.book.of(position);
+        this.chosen = item.id;
+        if (item.row?.n && !entry.moves) entry.mendMoves = String(item.row.n);
+        app.edit(position);
+        byId('board').scrollIntoView({ block: 'nearest' });
     }
 
     /**
@@ -97,330 +118,126 @@ export class ListView {
      * @param {File} file
      */
     async open(file) {
-        const { app } = this;
         byId('tab-collection').click();
         if (file.size > LARGEST) {
-            this.tell(app.say('tooLarge'));
+            this.work.tell('tooLarge');
             return;
         }
-        const bytes = new Uint8Array(await file.arrayBuffer());
-        await this.take(bytes, /\.pdn$/i.test(file.name) || textOf(bytes.slice(0, 4096)).trimStart().startsWith('['));
-    }
-
-    /**
-     * @param {Uint8Array} bytes
-     * @param {boolean} isPdn
-     */
-    async take(bytes, isPdn) {
-        const { app } = this, { rows } = app.position;
-        const form = isPdn ? ['--pdn'] : [];
-        this.tell(app.say('searching'));
+        this.work.tell('searching');
         byId('list').dataset.state = 'reading';
         try {
-            const words = (/** @type {string} */ command) => ['dw-desk', command, ...boardOf(rows), ...form];
-            const [games, found] = await Promise.all([
-                app.searches.ask([...words('solution'), '-n', '1', '--lines', '1'], bytes),
-                app.searches.ask([...words('find'), '--json', '--most', '1'], bytes),
-            ]);
-            const reader = new GameReader(), more = /** @type {Item[]} */ ([]);
-            await piecewise(eachLine(bytesOf(games)), (line) => reader.add(line));
-            await piecewise(eachLine(bytesOf(found)), (line) => {
-                const { fen = '', refused = '' } = JSON.parse(line), number = more.length + 1;
-                const tags = refused ? [] : reader.games[more.length]?.tags ?? [];
-                more.push({ number, rows, fen, tags, refused, row: null });
-            });
-            this.tell('');
-            this.beginAnew();
-            const before = this.items.length;
-            if (before) await piecewise(more, (item) => { item.number += before; });
-            if (isPdn) this.files.push({ file: bytes, before, count: more.length });
-            this.put(this.items.concat(more));
+            const bytes = new Uint8Array(await file.arrayBuffer());
+            const content = { bytes, isGames: isPdn(file.name, bytes) };
+            const found = await problemsIn(this.app, content, this.problems.namer());
+            this.work.tell();
+            await this.take(found);
         } catch (error) {
-            this.tell(app.say('failed', String(error)));
+            this.work.tellFailure(error);
         }
     }
 
-    /** Adds the position on the board, with a title and an author. */
+    /** Adds the position that questions are about, with a title and an author. */
     async add() {
         const { app } = this;
-        /** @type {import('./pdn.js').Tag[]} */
-        const tags = [];
-        const title = control('add-title', HTMLInputElement).value.trim();
-        const author = control('add-author', HTMLInputElement).value.trim();
-        if (title) tags.push(['Event', title]);
-        if (author) tags.push(['White', author]);
+        const value = (/** @type {string} */ id) => control(id, HTMLInputElement).value.trim();
+        const tags = /** @type {import('./pdn.js').Tag[]} */ ([['Event', value('add-title')],
+            ['White', value('add-author')]].filter(([, text]) => text));
         if (await app.fault()) {
-            this.tell(app.say('faultFirst'));
+            this.work.tell('faultFirst');
             return;
         }
         control('add-title', HTMLInputElement).value = '';
-        this.tell('');
-        const { rows } = app.position;
-        this.beginAnew();
-        const number = this.items.length + 1;
-        this.put([...this.items, { number, rows, fen: app.fen, tags, refused: '', row: null }]);
+        this.work.tell();
+        const { rows } = app.position, id = this.problems.namer()();
+        await this.take([{ id, rows, fen: app.fen, tags, movetext: '', refused: '', row: null }]);
     }
 
-    /** Before an empty list gets a problem: what was emptied will not come back. */
-    beginAnew() {
-        if (this.items.length === 0) this.files = [];
+    /**
+     * Adds problems to the list.
+     * @param {Item[]} more
+     */
+    async take(more) {
+        this.items = this.items.concat(more);
+        const shown = this.show();
+        await this.problems.add(more);
+        this.showState();
+        await shown;
     }
 
-    /** Empties the list, or brings it back if that was the last that happened to it. */
-    forget() {
-        const { items, emptied } = this;
-        this.put(items.length ? [] : emptied);
-        this.emptied = items;
-        this.tell('');
-        this.showForget();
-    }
-
-    showForget() {
-        const isBack = this.items.length === 0 && this.emptied.length > 0;
-        byId('forget').textContent = this.app.say(isBack ? 'bringBack' : 'forget');
-    }
-
-    /** @param {string} text */
-    tell(text) {
-        this.said = text;
+    /** Empties the list. It can be brought back until another is emptied. */
+    async forget() {
+        const { items } = this;
+        this.work.stop();
+        this.items = [];
+        const emptied = this.problems.empty(items);
+        this.work.tell();
+        await Promise.all([emptied, this.show()]);
         this.showState();
     }
 
-    /**
-     * Takes another list.
-     * @param {Item[]} items
-     */
-    put(items) {
-        this.running?.abort();
-        this.items = items;
-        this.emptied = [];
-        this.judged = items.filter((item) => item.row || item.refused).length;
-        this.shown = PAGE;
-        this.keep();
-        this.show();
+    /** Brings the list back that was emptied last. */
+    async bringBack() {
+        const back = await this.problems.restore();
+        this.items = [...back, ...this.items].sort((a, b) => (a.id < b.id ? -1 : 1));
+        await this.show();
     }
 
-    keep() {
-        const isKept = this.items.length <= LONGEST && this.store.put('list', this.items);
-        byId('kept').textContent = this.app.say(isKept ? 'kept' : 'notKept');
-    }
-
-    /**
-     * Judges all problems, in the background, over all processors; those that take long come again at the end.
-     * Answers whether it was not stopped.
-     */
-    async judgeAll() {
-        const { app } = this;
-        this.running?.abort();
-        const running = new AbortController();
-        this.running = running;
-        const most = control('judge-most', HTMLInputElement).value;
-        control('judge-all', HTMLButtonElement).disabled = true;
-        control('judge-stop', HTMLButtonElement).disabled = false;
-        reveal('list-progress', true);
-        byId('list').dataset.state = 'judging';
-        const judge = async (/** @type {Item} */ item, /** @type {number} */ each) => {
-            const words = ['dw-desk', 'find', '--json', ...boardOf(item.rows), '--most', most, '--each', String(each)];
-            const [row] = rowsOf(reportOf(await app.searches.ask(words, `${item.fen}\n`, running.signal)));
-            if (!item.row) this.judged += 1;
+    /** Judges all problems of which more may be told. Answers whether that was not stopped. */
+    async judge() {
+        const most = this.most.ask();
+        if (!most) return false;
+        const told = (/** @type {Item} */ item, /** @type {NonNullable<Item['row']>} */ row) => {
+            if (!this.items.includes(item)) return;
             item.row = row;
-            this.showCard(item);
+            this.problems.put(item);
+            this.cards.showState(item);
             this.showState();
         };
-        this.tell(app.say('searching'));
-        try {
-            for (const each of EACH) {
-                const open = this.items.filter((item) => ['open', 'undecided'].includes(stateOf(item)));
-                await Promise.all(open.map((item) => judge(item, each)));
-            }
-            this.tell('');
-        } catch (error) {
-            running.abort();
-            this.tell(error instanceof Stopped ? app.say('stoppedEarly') : app.say('failed', String(error)));
-        }
-        if (this.running !== running) return false;
-        control('judge-all', HTMLButtonElement).disabled = false;
-        control('judge-stop', HTMLButtonElement).disabled = true;
-        reveal('list-progress', false);
-        this.keep();
+        byId('list').dataset.state = 'judging';
+        const isDone = await this.work.run('searching', (signal) =>
+            judgeAll(this.app, this.items, { most, signal, told }));
         await this.show();
-        return !running.signal.aborted;
-    }
-
-    /** Judges what was not judged yet; answers whether that was not stopped. */
-    async judgeRest() {
-        return this.items.some((item) => stateOf(item) === 'open') ? this.judgeAll() : true;
-    }
-
-    /** Saves all problems as games with their solutions; those that are undecided have none. */
-    async savePdn() {
-        if (!await this.judgeRest()) return;
-        const games = await this.batch((item) => {
-            const game = gameOf(item.tags, item.fen), n = item.row?.n;
-            if (!n) return Promise.resolve(game);
-            const words = ['dw-desk', 'solution', '--pdn', ...boardOf(item.rows), '-n', String(n)];
-            return this.app.searches.ask(words, game, this.running?.signal).then(reportOf);
-        });
-        if (games) this.saveAs('problems.pdn', games.join(''), 'text/plain');
-    }
-
-    /** Saves a page to be printed, as the program writes it: for each board that there are problems of. */
-    async savePage() {
-        if (!await this.judgeRest()) return;
-        const { app } = this, all = decided(this.items);
-        const boards = /** @type {Rows[]} */ ([10, 8]).filter((rows) => all.some((item) => item.rows === rows));
-        for (const rows of boards) {
-            const items = all.filter((item) => item.rows === rows);
-            const most = Math.max(...items.map((item) => item.row?.n ?? 1));
-            const words = ['dw-desk', 'page', '--pdn', ...boardOf(rows), '--most', String(most), '--lang', app.language,
-                '--title', app.say('title'), '--numbers'];
-            const games = items.map((item) => gameOf(item.tags, item.fen)).join('');
-            const write = () => app.searches.ask(words, games, this.running?.signal).then(reportOf);
-            const pages = await this.batch(write, true);
-            if (!pages) return;
-            this.saveAs(rows === boards[0] ? 'problems.html' : 'problems-8.html', pages[0], 'text/html');
-        }
-        const left = this.items.length - all.length;
-        if (left) this.tell([boards.length ? this.said : '', app.say('leftOut', left)].filter(Boolean).join('. '));
-    }
-
-    /** Saves what is known of each problem, one line of JSON each. */
-    async saveJson() {
-        if (!await this.judgeRest()) return;
-        const lines = this.items.map(({ number, fen, refused, row }) =>
-            JSON.stringify(refused ? { problem: number, refused }
-                : Object.assign({ problem: number }, row ?? { fen }, { problem: number })));
-        this.saveAs('problems.json', lines.map((line) => `${line}\n`).join(''), 'application/json');
+        return isDone;
     }
 
     /**
-     * @param {string} name
-     * @param {string} content
-     * @param {string} type
+     * Saves files, once all problems are judged.
+     * @param {(signal: AbortSignal) => Promise<SavedFile[]>} write
+     * @param {number} [count] How many problems there should be in them, if those that are left out are to be told.
      */
-    saveAs(name, content, type) {
-        byId('list').dataset.saved = name;
-        save(name, content, type);
-        this.tell(this.app.say('saved', name));
-    }
-
-    /**
-     * Writes a text for each problem that is not refused, or one for all.
-     * @param {(item: Item) => Promise<string>} write
-     * @param {boolean} isOne
-     */
-    async batch(write, isOne = false) {
-        this.running?.abort();
-        this.running = new AbortController();
-        control('judge-stop', HTMLButtonElement).disabled = false;
-        this.tell(this.app.say('saving'));
-        try {
-            const items = this.items.filter((item) => !item.refused);
-            return await Promise.all((isOne ? items.slice(0, 1) : items).map(write));
-        } catch (error) {
-            this.tell(error instanceof Stopped ? this.app.say('stoppedEarly') : this.app.say('failed', String(error)));
-            return null;
-        } finally {
-            control('judge-stop', HTMLButtonElement).disabled = true;
-        }
+    async save(write, count = 0) {
+        if (this.items.some((item) => stateOf(item) === 'open') && !await this.judge()) return;
+        /** @type {SavedFile[]} */
+        let files = [];
+        if (!await this.work.run('saving', async (signal) => { files = await write(signal); })) return;
+        for (const { name, content, type } of files) save(name, content, type);
+        const names = files.map(({ name }) => name).join(', '), left = count ? count - decided(this.items).length : 0;
+        byId('list').dataset.saved = files[0]?.name ?? '';
+        this.work.say(() => [names ? this.app.say('saved', names) : '', left ? this.app.say('leftOut', left) : '']
+            .filter(Boolean).join('. '));
     }
 
     /** Shows the list anew. */
     async show() {
-        this.cards.clear();
-        byId('list').replaceChildren();
-        byId('list').dataset.count = String(this.items.length);
         this.showState();
-        this.showForget();
-        await this.draw(0);
-    }
-
-    /**
-     * Shows more of the list.
-     * @param {HTMLElement} more The button that asks for it.
-     */
-    async showMore(more) {
-        const from = this.shown;
-        this.shown += PAGE;
-        more.remove();
-        await this.draw(from);
-    }
-
-    /**
-     * Draws the cards from one on, some at a stroke.
-     * @param {number} from
-     */
-    async draw(from) {
-        const drawing = ++this.drawing, host = byId('list');
-        const filter = control('filter', HTMLSelectElement).value, sort = control('sort', HTMLSelectElement).value;
-        const items = chosen(this.items, filter, sort), shown = items.slice(0, this.shown);
-        for (let at = from; at < shown.length; at += STROKE) {
-            host.append(...shown.slice(at, at + STROKE).map((item) => this.card(item)));
-            await breathe();
-            if (drawing !== this.drawing) return;
-        }
-        if (items.length > shown.length) host.append(this.moreButton(shown.length, items.length));
-        host.dataset.state = 'done';
-        markCards(host, this.app.fen);
-    }
-
-    /**
-     * @param {number} shown
-     * @param {number} all
-     */
-    moreButton(shown, all) {
-        const { app } = this;
-        const text = `${app.say('showMore')} (${app.say('shownOf', shown, all)})`;
-        const more = make('button', { type: 'button', class: 'more' }, text);
-        more.addEventListener('click', () => void this.showMore(more));
-        // Who scrolls to the end sees more without a click.
-        new IntersectionObserver((entries, observer) => {
-            if (!entries.some(({ isIntersecting }) => isIntersecting)) return;
-            observer.disconnect();
-            if (more.isConnected) void this.showMore(more);
-        }, { rootMargin: '400px' }).observe(more);
-        return more;
-    }
-
-    /** @param {Item} item */
-    card(item) {
-        const { app } = this;
-        const data = { 'data-number': String(item.number), 'data-fen': item.fen };
-        const body = make('button', { type: 'button', class: 'card', ...data });
-        if (item.refused) body.disabled = true;
-        else body.append(diagramOf(positionOf(item.fen, item.rows), item.fen));
-        body.append(make('span', { class: 'card-title' }, `${item.number}. ${titleOf(item)}`),
-            make('span', { class: 'card-state' }));
-        body.addEventListener('click', () => {
-            const game = this.files.find(({ before, count }) => item.number > before && item.number <= before + count);
-            app.source = game ? { file: game.file, number: item.number - game.before, fen: item.fen } : null;
-            app.edit(positionOf(item.fen, item.rows));
-            if (item.row?.n) control('mend-n', HTMLInputElement).value = String(item.row.n);
-            byId('board').scrollIntoView({ block: 'nearest' });
-        });
-        this.cards.set(item.number, body);
-        this.showCard(item);
-        return body;
-    }
-
-    /**
-     * Shows what is known of a problem.
-     * @param {Item} item
-     */
-    showCard(item) {
-        const { app } = this, card = this.cards.get(item.number), place = card?.querySelector('.card-state');
-        if (!card || !place) return;
-        const state = stateOf(item), n = item.row?.n;
-        card.dataset.state = state;
-        const word = app.say(STATES[state]);
-        const turn = app.say(item.fen.startsWith('B') ? 'blackToMove' : 'whiteToMove');
-        place.textContent = item.refused ? `${word}: ${item.refused}` : `${turn}. ${word}${n ? ` (${n})` : ''}`;
+        this.app.tell('answered');
+        await this.cards.show(this.items);
     }
 
     showState() {
-        const { app, items, judged, said } = this;
-        control('list-progress', HTMLProgressElement).value = items.length ? judged / items.length : 0;
-        const counts = items.length ? app.say('listState', items.length, judged) : '';
+        const { app, items, problems, work } = this, count = items.length;
+        const judged = items.filter((item) => item.row || item.refused).length;
+        control('list-progress', HTMLProgressElement).value = count ? judged / count : 0;
+        reveal('list-progress', work.isRunning);
+        const said = work.said(), empty = said ? '' : app.say('emptyList');
+        const counts = count ? app.say('listState', count, judged) : empty;
         byId('list-state').textContent = [said, counts].filter(Boolean).join('; ');
+        for (const id of NEEDY) control(id, HTMLButtonElement).disabled = count === 0;
+        if (work.isRunning) control('judge-all', HTMLButtonElement).disabled = true;
+        control('judge-stop', HTMLButtonElement).disabled = !work.isRunning;
+        const kept = items.filter(({ id }) => problems.kept.has(id)).length;
+        byId('kept').textContent = kept === count && (count || problems.isAllowed) ? app.say('kept')
+            : kept ? app.say('fullStore', kept, count) : app.say('notKept');
+        reveal('bring-back', problems.hasEmptied);
     }
 }

@@ -1,27 +1,31 @@
 /** The page: makes its parts, and brings them together. */
+import { AnswerView } from './answer_view.js';
 import { App } from './app.js';
-import { comparing } from './compare.js';
-import { byId, chooseOne, control, copyText } from './dom.js';
-import { improving } from './improve.js';
-import { addressIn, addressOf, Store } from './keep.js';
+import { Comparing } from './compare.js';
+import { byId, chooseOne, control } from './dom.js';
+import { followText } from './fen_field.js';
+import { Improving } from './improve.js';
+import { Store } from './keep.js';
 import { keyOf, languageOf } from './languages.js';
+import { Link } from './link.js';
 import { ListView } from './list.js';
+import { MovesField, movesIn } from './number.js';
 import { Play } from './play.js';
-import { fenOf, positionOf } from './position.js';
-import { setUp } from './setup.js';
+import { Problems } from './problems.js';
+import { SetUp } from './setup.js';
 import { Solving } from './solve.js';
-import { Workers } from './workers.js';
+import { Workers } from '../../package/workers.js';
 
-/** The position that a new reader sees. */
-const EXAMPLE = 'W:W27,32,38:B18';
+/** How many moves are asked for at first. */
+const USUAL_MOVES = 8;
 
-/** Makes workers that have the module. */
+/** Compiles the module, once for all workers, and answers what makes a worker that has it. */
 async function makerOfWorkers() {
     const text = (/** @type {string} */ id) => document.getElementById(id)?.textContent ?? '';
     const letters = atob(text('module')), packed = new Uint8Array(letters.length);
     for (let i = 0; i < letters.length; i++) packed[i] = letters.charCodeAt(i);
     const stream = new Blob([packed]).stream().pipeThrough(new DecompressionStream('deflate'));
-    const module = await new Response(stream).arrayBuffer();
+    const module = await WebAssembly.compile(await new Response(stream).arrayBuffer());
     const address = URL.createObjectURL(new Blob([text('worker')], { type: 'text/javascript' }));
     return () => {
         const worker = new Worker(address);
@@ -51,72 +55,66 @@ function speak(app) {
 }
 
 /**
- * The position, the number of moves and the board of the address, before those that were kept.
+ * The language of the page: the one that was chosen last, or that of the browser.
  * @param {App} app
- * @param {import('./keep.js').Store} store
+ * @param {Store} store
  */
-async function begin(app, store) {
-    const said = addressIn(location.hash), kept = store.get('position') ?? {};
-    const asked = said.fen === undefined ? { ...kept, ...said } : said;
-    const rows = asked.rows === 8 ? 8 : 10;
-    for (const id of ['most', 'judge-most']) if (asked.n) control(id, HTMLInputElement).value = String(asked.n);
-    const text = asked.fen ?? EXAMPLE, { fen, refused } = await app.rules.read(text, rows);
-    const position = positionOf(refused ? 'W:W:B' : fen, rows);
-    if (!document.documentElement.dataset.ready) app.history.now = position;
-    app.edit(position);
-    if (!refused) return;
-    control('fen', HTMLInputElement).value = text;
-    byId('fen').dispatchEvent(new Event('input'));
-}
-
-/**
- * Keeps the problem in the address and in the browser.
- * @param {App} app
- * @param {import('./keep.js').Store} store
- */
-function keepPosition(app, store) {
-    const { problem } = app, n = Number(control('most', HTMLInputElement).value) || 8;
-    const address = { fen: fenOf(problem), n, rows: problem.rows };
-    history.replaceState(null, '', addressOf(address));
-    store.put('position', address);
-}
-
-/** Starts the page. */
-export async function start() {
-    const make = await makerOfWorkers(), store = new Store(() => localStorage);
-    const processors = Math.max(1, navigator.hardwareConcurrency || 2);
-    const app = new App(new Workers(make, processors), new Workers(make, 2), new Workers(make, 1));
-    const settings = store.get('settings') ?? {};
-    app.language = languageOf([settings.language ?? '', ...navigator.languages]);
+function chooseLanguage(app, store) {
     const languages = control('language', HTMLSelectElement);
+    app.language = languageOf([store.get('settings')?.language ?? '', ...navigator.languages]);
     languages.value = app.language;
     languages.addEventListener('change', () => {
         app.language = languageOf([languages.value]);
-        store.put('settings', { language: app.language });
+        store.change('settings', { language: app.language });
         speak(app);
     });
-    const play = new Play(app);
-    setUp(app, play);
-    new Solving(app);
-    comparing(app);
-    improving(app);
-    new ListView(app, store);
+}
+
+/** One of the panels is shown. */
+function chooseTab() {
     const tabs = /** @type {HTMLElement[]} */ ([...document.querySelectorAll('[role=tab]')]);
     chooseOne(tabs, (tab) => {
         for (const other of tabs) byId(other.getAttribute('aria-controls') ?? '').hidden = other !== tab;
     }, 'aria-selected');
+}
+
+/**
+ * The number of moves of the collection, which is kept.
+ * @param {App} app
+ * @param {Store} store
+ */
+function movesOfList(app, store) {
+    const most = new MovesField(app, 'judge-most');
+    most.set(movesIn(String(store.get('settings')?.most ?? '')) || USUAL_MOVES);
+    most.field.addEventListener('change', () => {
+        if (most.value) store.change('settings', { most: most.value });
+    });
+    return most;
+}
+
+/** Starts the page. */
+export async function start() {
+    const maker = makerOfWorkers(), store = new Store(() => localStorage);
+    const processors = Math.max(1, navigator.hardwareConcurrency || 2);
+    const app = new App(new Workers(maker, processors), new Workers(maker, 2), new Workers(maker, 1));
+    chooseLanguage(app, store);
+    const most = new MovesField(app, 'most'), play = new Play(app), link = new Link(app, store, most);
+    new SetUp(app, play);
+    followText(app);
+    const solving = new Solving(app, most);
+    new AnswerView(app, solving);
+    new Comparing(app);
+    new Improving(app, new MovesField(app, 'mend-n'));
+    new ListView(app, new Problems(() => localStorage), movesOfList(app, store));
+    chooseTab();
     speak(app);
-    app.on(['edited', 'looked', 'solved'], () => keepPosition(app, store));
-    byId('most').addEventListener('change', () => keepPosition(app, store));
-    await begin(app, store);
-    addEventListener('hashchange', () => {
-        if (addressIn(location.hash).fen !== undefined) void begin(app, store);
+    await maker.catch((error) => {
+        byId('state').textContent = app.say('failed', String(error));
+        throw error;
     });
-    byId('share').addEventListener('click', async () => {
-        const isCopied = await copyText(location.href);
-        byId('shared').textContent = isCopied ? app.say('linkCopied') : location.href;
-        byId('shared').hidden = false;
-    });
-    app.on(['edited', 'looked', 'spoken'], () => { byId('shared').hidden = true; });
+    await link.begin();
     document.documentElement.dataset.ready = 'true';
+    app.tell('answered');
+    // (the page's first script holds what was asked before)
+    dispatchEvent(new Event('ready'));
 }

@@ -1,8 +1,10 @@
 /** Playing from the position on the board: legal moves are those that `dw` lists. */
 import { byId, control, make, reveal } from './dom.js';
+import { fenOf } from './position.js';
 
 /**
  * @typedef {import('./app.js').App} App
+ * @typedef {import('./book.js').Line} Line
  * @typedef {import('./answers.js').Legal} Legal
  */
 
@@ -18,85 +20,143 @@ const startOf = ({ move }) => squaresIn(move)[0];
 /** @param {Legal} legal */
 const endOf = ({ move }) => squaresIn(move)[squaresIn(move).length - 1];
 
-/** A play, move by move. */
+/** @param {Line} line */
+const endOfLine = ({ first, played }) => played[played.length - 1]?.fen ?? first;
+
+/** A play, move by move. The moves are kept with the problem. */
 export class Play {
     /** @param {App} app */
     constructor(app) {
         this.app = app;
-        this.isOn = false;
-        /** @type {string} The position where it began. */
-        this.first = '';
-        /** @type {string} The position to which it has come. */
-        this.here = '';
-        /** @type {Legal[]} */
-        this.played = [];
-        /** @type {Legal[]} */
-        this.legal = [];
+        /** @type {Legal[] | null} The legal moves on the board, once they are known. */
+        this.legal = null;
+        /** The position of which they are. */
+        this.legalIn = '';
         this.chosen = 0;
-        byId('take-back').addEventListener('click', () => void this.goTo(this.played.slice(0, -1)));
-        byId('play-start').addEventListener('click', () => void this.goTo([]));
-        app.on(['edited'], () => void this.begin());
-        app.on(['looked'], () => {
-            if (app.fen !== this.here) void this.begin();
-        });
+        byId('take-back').addEventListener('click', () => this.takeBack());
+        byId('play-start').addEventListener('click', () => this.goBack(this.line.played.length));
+        app.on(['edited', 'looked', 'read'], () => this.follow());
         app.on(['spoken'], () => this.show());
     }
 
+    get isOn() {
+        return this.app.isPlaying;
+    }
+
+    /** The moves that were played from the problem. */
+    get line() {
+        const { app } = this, entry = app.book.of(app.history.now);
+        entry.line ??= { first: fenOf(app.history.now), played: [], undone: [] };
+        return entry.line;
+    }
+
     /**
-     * Begins to play, or ends it.
+     * Begins to play, or ends it. A play goes on from where it was, if the board does not show another position.
      * @param {boolean} isOn
      */
     turn(isOn) {
-        this.isOn = this.app.isPlaying = isOn;
-        void this.begin();
-        this.app.tell('looked');
+        const { app } = this;
+        app.isPlaying = isOn;
+        if (isOn && !app.looked) app.look(endOfLine(this.line));
+        else app.tell('looked');
     }
 
-    /** Begins from the position on the board. */
-    async begin() {
-        if (!this.isOn) return;
-        this.first = this.here = this.app.fen;
-        await this.goTo([]);
+    /** The board shows another position. The start takes all moves back; any other begins a play anew. */
+    follow() {
+        const { app } = this;
+        if (this.legalIn !== app.fen || !this.isOn) {
+            this.chosen = 0;
+            reveal('choice', false);
+        }
+        if (this.isOn && app.fen !== endOfLine(this.line)) {
+            if (app.fen === this.line.first) this.takeMovesBack(this.line.played.length);
+            else app.book.of(app.history.now).line = { first: app.fen, played: [], undone: [] };
+        }
+        this.show();
+        void this.learn();
+    }
+
+    /** Asks for the legal moves on the board. Until they are known no square can be clicked. */
+    async learn() {
+        const { app } = this, { fen } = app, { rows } = app.position;
+        if (!this.isOn || (this.legal && this.legalIn === fen)) return;
+        this.legal = null;
+        this.legalIn = fen;
+        if (await app.fault()) return;
+        const legal = await app.rules.legal(fen, rows);
+        if (this.legalIn !== fen || app.fen !== fen || !this.isOn) return;
+        this.legal = legal;
+        app.tell('answered');
+        this.show();
     }
 
     /**
-     * Goes to the position after some moves. Until its moves are known no square can be clicked.
-     * @param {Legal[]} played
+     * Plays a move.
+     * @param {Legal} legal
      */
-    async goTo(played) {
-        this.played = played;
-        this.legal = [];
-        this.chosen = 0;
-        this.app.tell('looked');
-        const fen = played[played.length - 1]?.fen ?? this.first;
-        const [legal] = await this.app.rules.legal([fen], this.app.position.rows);
-        if (this.played !== played) return;
-        this.legal = legal;
-        this.here = fen;
-        this.app.look(fen);
-        this.show();
+    play(legal) {
+        const { line } = this, again = line.undone[line.undone.length - 1];
+        line.undone = again?.fen === legal.fen ? line.undone.slice(0, -1) : [];
+        line.played = [...line.played, legal];
+        this.app.look(legal.fen);
+    }
+
+    /** Whether a move can be taken back, or played again. */
+    get canTakeBack() {
+        return this.isOn && this.line.played.length > 0;
+    }
+
+    get canReplay() {
+        return this.isOn && this.line.undone.length > 0;
+    }
+
+    takeBack() {
+        this.goBack(1);
+    }
+
+    /**
+     * Takes moves back, and shows the position before them.
+     * @param {number} count
+     */
+    goBack(count) {
+        this.takeMovesBack(count);
+        this.app.look(endOfLine(this.line));
+    }
+
+    /** @param {number} count */
+    takeMovesBack(count) {
+        const { line } = this, kept = Math.max(line.played.length - count, 0);
+        line.undone = [...line.undone, ...line.played.slice(kept).reverse()];
+        line.played = line.played.slice(0, kept);
+    }
+
+    /** Plays the move again that was taken back last. */
+    replay() {
+        const { undone } = this.line, move = undone[undone.length - 1];
+        if (move) this.play(move);
     }
 
     /** What is marked on the board: pieces that can move, and where the chosen one can go. */
     marks() {
-        const sources = new Set(this.isOn ? this.legal.map(startOf) : []);
+        const legal = this.isOn && this.legalIn === this.app.fen ? this.legal ?? [] : [];
         const targets = new Set(this.fromChosen().map(endOf));
-        return { sources, targets, chosen: this.isOn ? this.chosen : 0 };
+        return { sources: new Set(legal.map(startOf)), targets, chosen: this.isOn ? this.chosen : 0 };
     }
 
     fromChosen() {
-        return this.isOn && this.chosen ? this.legal.filter((legal) => startOf(legal) === this.chosen) : [];
+        return this.isOn && this.chosen ? (this.legal ?? []).filter((legal) => startOf(legal) === this.chosen) : [];
     }
 
     /** @param {number} square */
     click(square) {
+        if (!this.legal || this.legalIn !== this.app.fen) return;
         const moves = this.fromChosen().filter((legal) => endOf(legal) === square);
         reveal('choice', false);
-        if (moves.length === 1) void this.goTo([...this.played, moves[0]]);
+        if (moves.length === 1) this.play(moves[0]);
         else if (moves.length > 1) this.offer(moves);
         else {
             this.chosen = this.legal.some((legal) => startOf(legal) === square) && square !== this.chosen ? square : 0;
-            this.app.tell('looked');
+            this.app.tell('answered');
         }
     }
 
@@ -107,10 +167,7 @@ export class Play {
     offer(moves) {
         const buttons = moves.map((legal) => {
             const button = make('button', { type: 'button', 'data-move': legal.move }, legal.move);
-            button.addEventListener('click', () => {
-                reveal('choice', false);
-                void this.goTo([...this.played, legal]);
-            });
+            button.addEventListener('click', () => this.play(legal));
             return button;
         });
         byId('choice').replaceChildren(make('span', {}, this.app.say('choice')), ...buttons);
@@ -121,15 +178,15 @@ export class Play {
     /** Shows what was played. */
     show() {
         if (!this.isOn) return;
-        const { app } = this, side = app.position.turn === 'W' ? 'white' : 'black';
-        const end = this.legal.length ? '' : app.say('noMoves', app.say(side));
-        const first = this.first.startsWith('B') ? 1 : 0;
-        const text = this.played.map(({ move }, i) => {
-            const ply = i + first;
+        const { app } = this, { first, played } = this.line, side = app.position.turn === 'W' ? 'white' : 'black';
+        const isOver = this.legalIn === app.fen && this.legal?.length === 0;
+        const start = first.startsWith('B') ? 1 : 0;
+        const text = played.map(({ move }, i) => {
+            const ply = i + start;
             return `${ply % 2 ? (i ? '' : `${(ply + 1) / 2}... `) : `${ply / 2 + 1}. `}${move}`;
         });
-        byId('played').textContent = [...text, end].filter(Boolean).join(' ');
-        control('take-back', HTMLButtonElement).disabled = this.played.length === 0;
-        control('play-start', HTMLButtonElement).disabled = this.played.length === 0;
+        byId('played').textContent = [...text, ...(isOver ? [app.say('noMoves', app.say(side))] : [])].join(' ');
+        control('take-back', HTMLButtonElement).disabled = played.length === 0;
+        control('play-start', HTMLButtonElement).disabled = played.length === 0;
     }
 }

@@ -1,14 +1,17 @@
 /** What the page asks `dw` of positions: legal moves, faults. No rule of the game is known here. */
-import { textOf } from './engine.js';
-import { legalIn, linesOf, problemsIn } from './answers.js';
+import { rowsOf } from './answers.js';
+import { textOf } from '../../package/engine.js';
 import { tagLine } from './pdn.js';
 
 /**
  * @typedef {import('./answers.js').Legal} Legal
+ * @typedef {import('./answers.js').Row} Row
  * @typedef {import('./squares.js').Rows} Rows
- * @typedef {import('./tree.js').Node} Node
- * @typedef {(words: string[], input: string | Uint8Array) => Promise<import('./engine.js').Answer>} Ask
+ * @typedef {(words: string[], input: string | Uint8Array) => Promise<import('../../package/engine.js').Answer>} Ask
  */
+
+/** How many positions are remembered with their moves. */
+const MOST_KNOWN = 10_000;
 
 /**
  * The option for the board.
@@ -26,41 +29,50 @@ export class Rules {
     }
 
     /**
+     * The rows that a command of `dw` writes of each problem.
+     * @param {'show' | 'moves'} command
+     * @param {string[]} options
+     * @param {string} input
+     */
+    async rows(command, options, input) {
+        const { report } = await this.ask(['dw', command, '--json', ...options], input);
+        return rowsOf(textOf(report));
+    }
+
+    /**
      * What `dw` reads a FEN text as: its own text of the position, or why it refuses it.
      * @param {string} text
      * @param {Rows} rows
      */
     async read(text, rows) {
-        const words = ['dw', 'moves', '--pdn', ...boardOf(rows)];
-        const { report } = await this.ask(words, `${tagLine(['FEN', text])}\n`);
-        const [problem] = problemsIn(textOf(report));
-        return problem;
+        const [row] = await this.rows('show', ['--pdn', ...boardOf(rows)], `${tagLine(['FEN', text])}\n`);
+        const { fen = '', refused = '' } = /** @type {Row} */ (row);
+        return { fen, refused };
     }
 
     /**
-     * How many problems a PDN text has.
+     * The problems of a PDN text.
      * @param {string} text
      * @param {Rows} rows
+     * @returns {Promise<Row[]>}
      */
-    async count(text, rows) {
-        const { report } = await this.ask(['dw', 'show', '--pdn', ...boardOf(rows)], text);
-        return problemsIn(textOf(report)).length;
+    problems(text, rows) {
+        return this.rows('show', ['--pdn', ...boardOf(rows)], text);
     }
 
     /**
-     * The legal moves of positions, each with the position after it.
-     * @param {string[]} fens
+     * The legal moves of a position, each with the position after it.
+     * @param {string} fen
      * @param {Rows} rows
      */
-    async legal(fens, rows) {
-        const asked = [...new Set(fens)].filter((fen) => !this.known.has(`${rows} ${fen}`));
-        if (asked.length) {
-            if (this.known.size > 10_000) this.known.clear();
-            const lines = asked.map((fen) => `${fen}\n`).join('');
-            const { report } = await this.ask(['dw', 'moves', ...boardOf(rows)], lines);
-            legalIn(textOf(report)).forEach((moves, i) => this.known.set(`${rows} ${asked[i]}`, moves));
-        }
-        return fens.map((fen) => this.known.get(`${rows} ${fen}`) ?? []);
+    async legal(fen, rows) {
+        const name = `${rows} ${fen}`, known = this.known.get(name);
+        if (known) return known;
+        const [{ moves = [] }] = await this.rows('moves', boardOf(rows), `${fen}\n`);
+        const legal = moves.map((/** @type {[string, string]} */ [move, after]) => ({ move, fen: after }));
+        if (this.known.size > MOST_KNOWN) this.known.clear();
+        this.known.set(name, legal);
+        return /** @type {Legal[]} */ (legal);
     }
 
     /**
@@ -73,39 +85,11 @@ export class Rules {
         /** @type {Legal[]} */
         const played = [];
         for (const move of moves) {
-            const [legal] = await this.legal([played[played.length - 1]?.fen ?? fen], rows);
+            const legal = await this.legal(played[played.length - 1]?.fen ?? fen, rows);
             const next = legal.find((other) => other.move === move);
             if (!next) break;
             played.push(next);
         }
         return played;
     }
-
-    /**
-     * Puts the position after each move into a tree, where it is not there.
-     * @param {Node} tree
-     * @param {Rows} rows
-     */
-    async fill(tree, rows) {
-        for (let row = [tree]; row.length; row = row.flatMap((node) => node.next)) {
-            const open = row.filter((node) => node.next.some((next) => !next.fen));
-            const legal = await this.legal(open.map((node) => node.fen), rows);
-            open.forEach((node, i) => {
-                for (const next of node.next) {
-                    next.fen ||= legal[i].find((other) => other.move === next.move)?.fen ?? '';
-                }
-            });
-        }
-    }
-}
-
-/**
- * Whether the program knows a command, or an option of it.
- * @param {Ask} ask
- * @param {string[]} words
- * @param {string} option
- */
-export async function knows(ask, words, option = '') {
-    const { status, report } = await ask([...words, '--help'], '');
-    return status === 0 && linesOf(textOf(report)).some((line) => line.includes(option));
 }

@@ -6,9 +6,6 @@
  * @typedef {{depth: number, move: string, fen: string}} Step
  */
 
-/** Words of a movetext that look like moves. */
-const RESULTS = new Set(['2-0', '0-2', '1-1', '0-0', '1-0', '0-1']);
-
 /**
  * The beginning of a tree: no move.
  * @param {string} fen
@@ -41,30 +38,6 @@ export function treeOf(fen, steps) {
     for (const { depth, move, fen: after } of steps) {
         path.length = depth;
         path.push(grow(path[depth - 1], move, after));
-    }
-    return tree;
-}
-
-/**
- * The tree of a movetext as the program writes it. The positions are not told there.
- * @param {string} fen
- * @param {string} text
- */
-export function treeIn(fen, text) {
-    const tree = root(fen);
-    /** @type {Node[]} */
-    const outer = [];
-    let here = tree;
-    const plain = text.replace(/\{[^}]*\}/g, ' ').replace(/[()]/g, ' $& ');
-    for (const word of plain.split(/\s+/)) {
-        if (word === '(') {
-            outer.push(here);
-            here = here.parent ?? tree;
-        } else if (word === ')') {
-            here = outer.pop() ?? tree;
-        } else if (/^\d+(-\d+|(x\d+)+)$/.test(word) && !RESULTS.has(word)) {
-            here = here.next.find((node) => node.move === word) ?? grow(here, word, '');
-        }
     }
     return tree;
 }

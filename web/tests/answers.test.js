@@ -1,39 +1,32 @@
 import assert from 'node:assert/strict';
 import test from 'node:test';
-import {
-    eachLine, fenFault, foundIn, legalIn, mendedIn, movesOf, problemsIn, rowsOf, solutionFault, summaryOf,
-} from '../js/answers.js';
+import { eachLine, faultOf, foundOf, mendedIn, movesOf, rowsOf, summaryOf } from '../js/answers.js';
+
+/** @param {object} row */
+const found = (row) => foundOf(/** @type {import('../js/answers.js').FoundRow} */ ({ problem: 1, fen: 'x', ...row }));
 
 test('verdicts', () => {
-    const [dual] = problemsIn('problem 1: W:W10,16,48:B13\n'
-        + 'dual in 3: 1. 10-5 13-18 2. 5-28 18-22 3. 28x6 / 28x11 / 28x17\n'
-        + 'try 10-4 refuted by 13-19\n');
-    assert.equal(dual.fen, 'W:W10,16,48:B13');
-    assert.deepEqual(dual.found, {
+    assert.deepEqual(found({
+        n: 3, verdict: 'dual', keys: ['10-5'], at: '1. 10-5 13-18 2. 5-28 18-22', choices: ['28x6', '28x11', '28x17'],
+        tries: [['10-4', '13-19']],
+    }), {
         line: 'dual in 3: 1. 10-5 13-18 2. 5-28 18-22 3. 28x6 / 28x11 / 28x17', verdict: 'dual', n: 3, shortest: 3,
         keys: ['10-5'], at: ['10-5', '13-18', '5-28', '18-22'], choices: ['28x6', '28x11', '28x17'],
         tries: [['10-4', '13-19']],
     });
-    assert.deepEqual(foundIn(['cooked in 2, shortest 1: 41-37, 45-40'])?.keys, ['41-37', '45-40']);
-    assert.equal(foundIn(['cooked in 2, shortest 1: 41-37, 45-40'])?.shortest, 1);
-    assert.deepEqual(foundIn(['sound in 2: 45-40'])?.keys, ['45-40']);
-    assert.deepEqual(foundIn(['unsolvable in 2', 'try 10-4 refuted by 13-19'])?.tries, [['10-4', '13-19']]);
-    assert.equal(foundIn(['undecided, no win in 7'])?.n, 7);
-    assert.equal(foundIn(['something else']), null);
-    assert.equal(foundIn([]), null);
+    const cooked = found({ n: 2, verdict: 'cooked', shortest: 1, keys: ['41-37', '45-40'], tries: [] });
+    assert.deepEqual([cooked.line, cooked.shortest], ['cooked in 2, shortest 1: 41-37, 45-40', 1]);
+    assert.equal(found({ n: 2, verdict: 'sound', keys: ['45-40'], tries: [] }).line, 'sound in 2: 45-40');
+    assert.equal(found({ n: 2, verdict: 'unsolvable', keys: [], tries: [] }).line, 'unsolvable in 2');
+    const open = found({ verdict: 'undecided', no_win_in: 7 });
+    assert.deepEqual([open.n, open.line], [7, 'undecided, no win in 7']);
 });
 
-test('refusals', () => {
-    const [problem] = problemsIn('problem 1: refused: 1 fen: 5 twice at 8\n');
-    assert.equal(problem.refused, '1 fen: 5 twice at 8');
-    assert.deepEqual(fenFault(problem.refused), { number: 5, name: 'twice', place: 8 });
-    assert.deepEqual(fenFault('1 fen: 7 last row at 4'), { number: 7, name: 'last row', place: 4 });
-    assert.equal(fenFault('5 line too long'), null);
-});
-
-test('legal moves', () => {
-    const text = 'problem 1: W:W32:B28\n32x23 B:W23:B\nmoves 1 taking 1\nproblem 2: W:W:B\nmoves 0 taking 0\n';
-    assert.deepEqual(legalIn(text), [[{ move: '32x23', fen: 'B:W23:B' }], []]);
+test('faults', () => {
+    assert.deepEqual(faultOf('1 fen: 5 twice at 8'), { number: 5, name: 'twice', place: 8 });
+    assert.deepEqual(faultOf('1 fen: 7 last row at 4'), { number: 7, name: 'last row', place: 4 });
+    assert.deepEqual(faultOf('2 no such move at 5'), { number: 2, name: 'no such move', place: 5 });
+    assert.equal(faultOf('5 line too long'), null);
 });
 
 test('what is said of a solution', () => {
@@ -44,8 +37,6 @@ test('what is said of a solution', () => {
     assert.equal(summaryOf({ ...row, refused: '2 no fen' }), 'refused: 2 no fen');
     assert.equal(summaryOf({ ...row, solution_refused: '2 no such move at 5' }),
         'solution refused: 2 no such move at 5');
-    assert.deepEqual(solutionFault('2 no such move at 5'), { number: 2, name: 'no such move', place: 5 });
-    assert.equal(solutionFault('something else'), null);
 });
 
 test('neighbours', () => {

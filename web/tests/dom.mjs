@@ -16,10 +16,20 @@ class Text {
 /** One part of a selector: a name, an id, classes, attributes. */
 const PART = /^([a-z]+)|#([\w-]+)|\.([\w-]+)|\[([\w-]+)(?:="?([^"\]]*)"?)?\]/gi;
 
-function isOne(element, selector) {
+/** The parts of selectors that were taken apart. */
+const taken = new Map();
+
+function partsOf(selector) {
+    const known = taken.get(selector);
+    if (known) return known;
     const parts = [...selector.trim().matchAll(PART)];
     if (parts.map(([part]) => part).join('') !== selector.trim()) throw new Error(`another selector: ${selector}`);
-    return parts.every(([, tag, id, name, attribute, value]) => {
+    taken.set(selector, parts);
+    return parts;
+}
+
+function isOne(element, selector) {
+    return partsOf(selector).every(([, tag, id, name, attribute, value]) => {
         if (tag) return element.tagName.toLowerCase() === tag;
         if (id) return element.id === id;
         if (name) return element.classList.contains(name);
@@ -80,6 +90,7 @@ export class Element {
     getAttribute(name) { return this.attributes.get(name) ?? null; }
     hasAttribute(name) { return this.attributes.has(name); }
     removeAttribute(name) { this.attributes.delete(name); }
+    toggleAttribute(name, isOn) { this.flag(name, isOn); }
 
     put(at, nodes) {
         const made = nodes.map((node) => (typeof node === 'string' ? new Text(node) : node));
@@ -110,7 +121,15 @@ export class Element {
     contains2(other) { return Boolean(other.parentElement) && this.contains(other.parentElement); }
     matches(selector) { return isOne(this, selector); }
     closest(selector) { return this.matches(selector) ? this : this.parentElement?.closest(selector) ?? null; }
-    all() { return this.children.flatMap((child) => [child, ...child.all()]); }
+    all(found = []) {
+        for (const child of this.childNodes) {
+            if (!(child instanceof Element)) continue;
+            found.push(child);
+            child.all(found);
+        }
+        return found;
+    }
+
     querySelectorAll(selector) { return this.all().filter((element) => element.matches(selector)); }
     querySelector(selector) { return this.querySelectorAll(selector)[0] ?? null; }
 
@@ -160,7 +179,7 @@ const dashed = (name) => `data-${name.replace(/[A-Z]/g, (letter) => `-${letter.t
 const KINDS = {
     button: class HTMLButtonElement extends Element {}, input: class HTMLInputElement extends Element {},
     select: class HTMLSelectElement extends Element {}, textarea: class HTMLTextAreaElement extends Element {},
-    progress: class HTMLProgressElement extends Element {},
+    progress: class HTMLProgressElement extends Element {}, form: class HTMLFormElement extends Element {},
 };
 const EMPTY = new Set(['meta', 'link', 'input', 'path', 'circle', 'br']);
 
@@ -197,7 +216,14 @@ export function openPage() {
     document.activeElement = document.body;
     document.createElement = made;
     document.createElementNS = (_, tag) => made(tag);
-    document.getElementById = (id) => document.documentElement.querySelector(`#${id}`);
+    const known = new Map();
+    document.getElementById = (id) => {
+        const before = known.get(id);
+        if (before?.id === id && before.isConnected) return before;
+        const found = document.documentElement.querySelector(`#${id}`);
+        known.set(id, found);
+        return found;
+    };
     document.querySelector = (selector) => document.documentElement.querySelector(selector);
     document.querySelectorAll = (selector) => document.documentElement.querySelectorAll(selector);
     document.elementFromPoint = () => null;
@@ -207,6 +233,14 @@ export function openPage() {
     const windowEvents = made('window');
     globalThis.addEventListener = windowEvents.addEventListener.bind(windowEvents);
     globalThis.removeEventListener = windowEvents.removeEventListener.bind(windowEvents);
+    // (what the page does after a long while keeps no test waiting)
+    const later = globalThis.setTimeout;
+    globalThis.setTimeout = (act, after, ...more) => {
+        const timer = later(act, after, ...more);
+        if (after > 1000) timer.unref();
+        return timer;
+    };
+    globalThis.dispatchEvent = (event) => windowEvents.fire(event.type);
     globalThis.window = globalThis;
     globalThis.CSS = { escape: (text) => text };
     globalThis.matchMedia = () => ({ matches: false });
@@ -214,4 +248,19 @@ export function openPage() {
     globalThis.location = { hash: '', href: 'file:///board.html' };
     globalThis.history = { replaceState: (_, __, hash) => { location.hash = hash; } };
     return { document, window: windowEvents };
+}
+
+/** What a browser keeps for a page, up to so many letters. */
+export class Storage {
+    constructor(room = 5_000_000) {
+        Object.defineProperty(this, 'room', { value: room, writable: true });
+    }
+
+    getItem(name) { return Object.hasOwn(this, name) ? this[name] : null; }
+    removeItem(name) { delete this[name]; }
+    setItem(name, value) {
+        const others = Object.entries(this).filter(([key]) => key !== name).flat().join('');
+        if (others.length + name.length + value.length > this.room) throw new Error('full');
+        this[name] = String(value);
+    }
 }

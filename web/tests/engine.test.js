@@ -1,7 +1,7 @@
 import assert from 'node:assert/strict';
 import test from 'node:test';
-import { Engine, textOf } from '../js/engine.js';
-import { work } from '../js/worker.js';
+import { bytesOf, Engine, Failed, REASON, reportOf, textOf } from '../../package/engine.js';
+import { work } from '../../package/worker.js';
 
 /** An engine whose program writes its input in capitals, as far as there is room. */
 function engine() {
@@ -26,6 +26,7 @@ function engine() {
             bytes.set(written, Number(report));
             bytes.set(said, Number(message));
             view.setUint8(end, isFull ? 3 : 0);
+            view.setUint8(end + 1, isFull ? REASON.full : REASON.ended);
             view.setBigUint64(end + 8, BigInt(written.length), true);
             view.setBigUint64(end + 16, BigInt(said.length), true);
         },
@@ -34,22 +35,24 @@ function engine() {
 }
 
 test('a program gets its input, and its report is taken', () => {
-    const { status, report, message } = engine().run(['dw', 'show'], 'abc');
-    assert.deepEqual([status, textOf(report), message], [0, 'ABC', '']);
+    const answer = engine().run(['dw', 'show'], 'abc');
+    assert.deepEqual([answer.status, answer.reason, reportOf(answer), answer.message], [0, REASON.ended, 'ABC', '']);
 });
 
 test('a report without room is asked for again, with more', () => {
     const input = 'a'.repeat(2_000_000);
     assert.equal(engine().run(['dw'], input).report.length, input.length);
-    const { status, report, message } = engine().attempt(['dw'], 'abcdef', { room: 2 });
-    assert.deepEqual([status, textOf(report), message], [3, 'AB', 'dw: write failed\n']);
+    const answer = engine().attempt(['dw'], 'abcdef', { room: 2 });
+    assert.deepEqual([answer.status, answer.reason, textOf(answer.report)], [3, REASON.full, 'AB']);
+    assert.throws(() => bytesOf(answer), Failed);
 });
 
 test('want of memory is told', () => {
-    assert.deepEqual(engine().run(['dw'], 'abc', 10).message, 'no memory for the input\n');
+    const answer = engine().run(['dw'], 'abc', 10);
+    assert.deepEqual([answer.status, answer.reason], [3, REASON.memory]);
 });
 
-test('what is no UTF-8 is read as Latin-1', () => {
+test('what is no UTF-8 is read as windows-1252', () => {
     assert.equal(textOf(new Uint8Array([0xe9, 0x41])), 'éA');
     assert.equal(textOf(new TextEncoder().encode('éA')), 'éA');
 });
@@ -64,7 +67,7 @@ test('a worker takes the module, and tells what fails', async () => {
         postMessage: (/** @type {never} */ answer) => told.push(answer),
     });
     work();
-    const module = new Uint8Array([0, 0x61, 0x73, 0x6d, 1, 0, 0, 0]);
+    const module = await WebAssembly.compile(new Uint8Array([0, 0x61, 0x73, 0x6d, 1, 0, 0, 0]));
     await listeners[0]({ data: { module } });
     await listeners[0]({ data: { number: 7, words: ['dw'], input: '' } });
     assert.equal(told[0].number, 7);

@@ -6,7 +6,7 @@
    as `Engine.attempt` takes them. With `bytes` in place of `words` the arguments are these bytes, in base 64. */
 import { readFileSync } from 'node:fs';
 import { createInterface } from 'node:readline';
-import { Engine } from '../js/engine.js';
+import { Engine } from '../../package/engine.js';
 
 const engine = new Engine(await WebAssembly.compile(readFileSync(process.argv[2])));
 

@@ -1,7 +1,7 @@
 import assert from 'node:assert/strict';
 import test from 'node:test';
 import { deflateSync } from 'node:zlib';
-import { openPage } from './dom.mjs';
+import { openPage, Storage } from './dom.mjs';
 import { answerOf, DUAL } from './programs.mjs';
 
 const { document, window } = openPage();
@@ -19,20 +19,13 @@ class Worker {
     terminate() {}
 }
 
-const storage = new Map();
-Object.assign(globalThis, {
-    Worker,
-    localStorage: {
-        getItem: (name) => storage.get(name) ?? null,
-        setItem: (name, value) => void storage.set(name, value),
-    },
-});
+Object.assign(globalThis, { Worker, localStorage: new Storage() });
 Object.defineProperty(globalThis, 'navigator', { configurable: true, value: {
     languages: ['en-US'], hardwareConcurrency: 4, clipboard: { writeText: async (text) => void saved.push(text) },
 } });
 URL.createObjectURL = (blob) => (saved.push(blob), 'blob:x');
 URL.revokeObjectURL = () => {};
-at('module').textContent = deflateSync(Buffer.from('module')).toString('base64');
+at('module').textContent = deflateSync(Buffer.from([0, 0x61, 0x73, 0x6d, 1, 0, 0, 0])).toString('base64');
 const { start } = await import('../js/main.js');
 location.hash = `#fen=${DUAL}&n=4`;
 await start();
@@ -137,18 +130,19 @@ test('a problem is solved; its solution is gone through; each first move is told
     await fenIs('B:W17,27:B');
     at('tries').querySelectorAll('.move')[1].click();
     await fenIs('W:W:B38');
-    at('first-move').click();
+    at('to-start').click();
     at('ask-firsts').click();
     await until(() => at('firsts').children.length === 3);
+    assert.equal(at('firsts-title').textContent, 'What each first move does in 2 moves');
     assert.match(at('firsts').textContent, /27-21 refuted by 18x38.*32-28 wins in 2/);
     at('copy').click();
-    await until(() => saved.some((one) => typeof one === 'string' && one.startsWith('[Event')));
+    await until(() => saved.some((one) => typeof one === 'string' && one.startsWith('[GameType')));
     at('certificate').click();
     await until(() => at('state').textContent === 'Written: certificate.txt');
     at('exact').checked = true;
     at('solve').click();
     await until(() => at('state').dataset.state === 'done');
-    assert.match(at('verdict').dataset.line, /^cooked in 3, shortest 2/);
+    assert.equal(at('verdict').dataset.line, 'cooked in 3, shortest 2: 27-22, 32-28');
     at('exact').checked = false;
 });
 
@@ -191,9 +185,10 @@ test('a printed solution is compared', async () => {
 });
 
 test('a problem is improved', async () => {
+    set('mend-n', '2', 'input');
     at('mend-go').click();
     await until(() => at('mend').dataset.state === 'done');
-    assert.equal(at('mend-state').textContent, '1 sound of 64 tried');
+    assert.equal(at('mend-state').textContent, 'Win in 2: 1 sound of 64 tried');
     assert.equal(at('mend').textContent, 'without 2732-28');
     set('language', 'nl');
     assert.equal(at('mend').textContent, 'zonder 2732-28');
@@ -206,11 +201,11 @@ test('a problem is improved', async () => {
 });
 
 test('a file of problems is listed, judged, saved, emptied and brought back', async () => {
-    const bytes = new TextEncoder().encode(`[Event "<b>"]\n[FEN "${DUAL}"]\n\n*\n\n[FEN "x"]\n\n*\n\n`);
+    const bytes = new TextEncoder().encode(`[Event "<b>"]\n[FEN "${DUAL}"]\n\n1. 32-28 *\n\n[FEN "x"]\n\n*\n\n`);
     at('file').files = [{ name: 'a.pdn', size: bytes.length, arrayBuffer: async () => bytes.buffer }];
     at('file').fire('change');
     await until(() => at('list').dataset.count === '2' && at('list').dataset.state === 'done');
-    assert.match(at('list').textContent, /^1\. E0White to play. Not judged2\. Refused: 1 fen: 1 turn at 1$/);
+    assert.match(at('list').textContent, /^1\. <b>White to play. Not judged2\. Refused: 1 fen: 1 turn at 1$/);
     for (const [kind, name] of [['pdn', 'problems.pdn'], ['page', 'problems.html'], ['json', 'problems.json']]) {
         at(`save-${kind}`).click();
         await until(() => at('list').dataset.saved === name);
@@ -226,8 +221,8 @@ test('a file of problems is listed, judged, saved, emptied and brought back', as
     await until(() => at('list').children.length === 1);
     set('filter', '');
     at('forget').click();
-    await until(() => at('list').dataset.count === '0');
-    at('forget').click();
+    await until(() => at('list').dataset.count === '0' && !at('bring-back').hidden);
+    at('bring-back').click();
     await until(() => at('list').children.length === 3);
     at('list').querySelector('.card').click();
     await until(() => !at('compare-own').hidden);

@@ -9,9 +9,16 @@ const LEGAL = {
     'B:W22,32:B18': [['18x38', 'W:W:B38']],
     'W:WK46:B28': [['46x32', 'B:WK32:B'], ['46x32', 'B:WK32:B']],
 };
-const FOUND = 'dual in 2: 1. 32-28 18-22 2. 27x18 / 28x17';
-const ROW = { n: 2, verdict: 'dual', keys: ['32-28'], at: '1. 32-28 18-22', choices: ['27x18', '28x17'], tries: [] };
+const ROW = {
+    n: 2, verdict: 'dual', keys: ['32-28'], at: '1. 32-28 18-22', choices: ['27x18', '28x17'],
+    tries: [['27-22', '18x38']],
+};
+const COOKED = { n: 3, verdict: 'cooked', shortest: 2, keys: ['27-22', '32-28'], tries: [] };
 const MOVETEXT = '{dual in 2} 1. 32-28 18-22 (1... 18-23 2. 28x19) 2. 27x18 (2. 28x17) 2-0';
+const STEPS = [
+    [1, '32-28', 'B:W27,28:B18'], [2, '18-22', 'W:W27,28:B22'], [3, '27x18', 'B:W18,28:B'], [3, '28x17', 'B:W17,27:B'],
+    [2, '18-23', 'W:W27,28:B23'], [3, '28x19', 'B:W19,27:B'],
+].map(([depth, move, fen]) => ({ depth, move, fen }));
 
 const line = (value) => `${JSON.stringify(value)}\n`;
 
@@ -22,9 +29,6 @@ function problems(input) {
         : text.split('\n').filter(Boolean);
     return fens.map((fen) => (/^[WB]:WK?[\dK,]*:BK?[\dK,]*$/.test(fen) ? { fen } : { refused: '1 fen: 1 turn at 1' }));
 }
-
-const sections = (input, write) => problems(input).map(({ fen, refused }, i) =>
-    (refused ? `problem ${i + 1}: refused: ${refused}\n` : `problem ${i + 1}: ${fen}\n${write(fen)}`)).join('');
 
 const rows = (input, write) => problems(input).map(({ fen, refused }, i) =>
     line(refused ? { problem: i + 1, refused } : { problem: i + 1, fen, ...write(fen) })).join('');
@@ -38,19 +42,15 @@ function moves(input, part) {
 }
 
 function report(words, input) {
-    const [program, command] = words, isJson = words.includes('--json');
+    const [, command] = words, solved = words.includes('--solution') ? { more: false, moves: STEPS } : {};
     const part = Number((words[words.indexOf('--part') + 1] ?? '').split('/')[0]) || 0;
-    if (words.includes('--help')) return command === 'moves' ? '--json\n' : '--lines\n';
-    if (program === 'dw' && command === 'moves') {
-        return sections(input, (fen) => (LEGAL[fen] ?? []).map((legal) => `${legal.join(' ')}\n`).join(''));
+    if (command === 'show') return rows(input, () => ({}));
+    if (command === 'moves' && words[0] === 'dw') {
+        return rows(input, (fen) => ({ taking: 0, moves: LEGAL[fen] ?? [] }));
     }
-    if (command === 'judge') return sections(input, () => 'cooked in 3, shortest 2: 27-22, 32-28\n');
-    if (command === 'find') {
-        return isJson ? rows(input, () => ROW) : sections(input, () => `${FOUND}\ntry 27-22 refuted by 18x38\n`);
-    }
+    if (command === 'find') return rows(input, () => ({ ...(words.includes('-n') ? COOKED : ROW), ...solved }));
     if (command === 'solution') {
-        return problems(input).map(({ fen, refused }, i) =>
-            `[Event "E${i}"]\n${refused ? '' : `[FEN "${fen}"]\n`}\n${MOVETEXT}\n\n`).join('');
+        return problems(input).map(({ fen }) => `[GameType "20"]\n[FEN "${fen}"]\n\n${MOVETEXT}\n\n`).join('');
     }
     if (command === 'check') {
         const open = { kind: 'open', line: '1. 32-28', moves: ['18-23'] };
@@ -68,5 +68,5 @@ function report(words, input) {
 
 /** What a program answers. */
 export function answerOf(words, input) {
-    return { status: 0, report: new TextEncoder().encode(report(words, input)), message: '' };
+    return { status: 0, reason: 0, report: new TextEncoder().encode(report(words, input)), message: '' };
 }

@@ -1,9 +1,9 @@
 import assert from 'node:assert/strict';
 import test from 'node:test';
-import { chosen, decided, stateOf, titleOf } from '../js/collection.js';
+import { byBoard, chosen, decided, isOpen, stateOf, titleOf } from '../js/collection.js';
 import { addressIn, addressOf, Store } from '../js/keep.js';
 import { KEYS, keyOf, languageOf, LANGUAGES, textIn } from '../js/languages.js';
-import { gameOf, GameReader, tagLine, valueOf } from '../js/pdn.js';
+import { closed, commentsOf, gameOf, hasMoves, resultOf, sectionsOf, tagLine, valueOf } from '../js/pdn.js';
 
 test('each text is there in each language, with the same marks', () => {
     for (const key of KEYS) {
@@ -22,21 +22,34 @@ test('the language of the browser comes first', () => {
     assert.equal(languageOf(['de']), 'en');
 });
 
-test('games are written and read', () => {
-    const game = gameOf([['Event', 'A "b" \\ c\nd'], ['White', 'X']], 'W:W27:B18');
-    assert.equal(game, '[Event "A \\"b\\" \\\\ c d"]\n[White "X"]\n[FEN "W:W27:B18"]\n\n*\n\n');
-    const reader = new GameReader(), refused = '[Event "problem 2: refused: 2 no fen"]\n\n*\n\n';
-    for (const line of `${game}${refused}`.split('\n')) reader.add(line);
-    const read = reader.games;
-    assert.deepEqual(read.map(({ tags, fen }) => [tags, fen]), [
-        [[['Event', 'A "b" \\ c d'], ['White', 'X']], 'W:W27:B18'], [[['Event', 'problem 2: refused: 2 no fen']], '']]);
-    assert.equal(valueOf(read[0].tags, 'event'), 'A "b" \\ c d');
+test('games are written, and cut out of a text again', () => {
+    /** @type {import('../js/pdn.js').Tag[]} */
+    const tags = [['Event', 'A "b" \\ c\nd'], ['Result', '*'], ['FEN', 'x']];
+    const game = gameOf(tags, '1. 32-28 {why [not]} 2-0');
+    assert.equal(game, '[Event "A \\"b\\" \\\\ c d"]\n[Result "2-0"]\n[FEN "x"]\n\n1. 32-28 {why [not]} 2-0\n\n');
+    const [first, second, ...others] = [...sectionsOf(`; {[} ${game}[FEN "y" [Site "z"]\n{a`)];
+    assert.equal(first.movetext, '1. 32-28 {why [not]} 2-0');
+    assert.deepEqual(first.tags, [['Event', 'A "b" \\ c d'], ['Result', '2-0'], ['FEN', 'x']]);
+    assert.deepEqual([second.tags, second.movetext, second.whole], [[], '{a', '[FEN "y" [Site "z"]\n{a']);
+    assert.equal(others.length, 1);
+    assert.equal(closed(second.whole), `${second.whole} }`);
+    assert.equal(closed('1. 32-28'), '1. 32-28');
+    assert.equal(valueOf(first.tags, 'event'), 'A "b" \\ c d');
     assert.equal(tagLine(['FEN', 'x']), '[FEN "x"]');
+    assert.deepEqual([...sectionsOf('nothing')], []);
+});
+
+test('a movetext has moves, comments and a result', () => {
+    assert.deepEqual(['', '*', '{1. 32-28} *', '1. 32-28', '(x)'].map(hasMoves), [false, false, false, true, true]);
+    assert.equal(resultOf('1. 32-28 2-0 {end}'), '2-0');
+    assert.equal(resultOf('1. 32-28'), '');
+    assert.equal(commentsOf('{a} 1. 32-28 {b c} *'), '{a} {b c}');
 });
 
 test('addresses', () => {
     assert.deepEqual(addressIn('#fen=W:W27,32:B18&n=3'), { fen: 'W:W27,32:B18', n: 3 });
-    assert.deepEqual(addressIn('#fen=W%3AW27%3AB18&n=99&rows=8&x'), { fen: 'W:W27:B18', rows: 8 });
+    for (const n of ['99', '-3', '0', '2.5', '']) assert.equal(addressIn(`#fen=x&n=${n}`).n, undefined);
+    assert.deepEqual(addressIn('#fen=W%3AW27%3AB18&rows=8&x'), { fen: 'W:W27:B18', rows: 8 });
     assert.deepEqual(addressIn('#fen=%'), { fen: '%' });
     assert.equal(addressOf({ fen: 'W:W27:B18', n: 4, rows: 8 }), '#fen=W:W27:B18&n=4&rows=8');
     assert.deepEqual(addressIn(addressOf({ fen: 'W:W27:B18', n: 4, rows: 10 })), { fen: 'W:W27:B18', n: 4 });
@@ -55,6 +68,9 @@ test('what cannot be kept is not kept, and the page goes on', () => {
     const store = new Store(() => storage);
     assert.equal(store.put('list', [1]), true);
     assert.deepEqual(store.get('list'), [1]);
+    store.change('settings', { a: 1 });
+    store.change('settings', { b: 2 });
+    assert.deepEqual(store.get('settings'), { a: 1, b: 2 });
 });
 
 test('lists are filtered and sorted', () => {
@@ -62,13 +78,18 @@ test('lists are filtered and sorted', () => {
     const items = /** @type {import('../js/collection.js').Item[]} */ ([
         { rows, fen: 'a', tags: [['Event', 'e'], ['White', 'w']], refused: '', row: { verdict: 'cooked', n: 2 } },
         { rows, fen: '', tags: [], refused: '2 no fen', row: null },
-        { rows, fen: 'c', tags: [], refused: '', row: { verdict: 'sound', n: 5 } },
+        { rows: 8, fen: 'c', tags: [], refused: '', row: { verdict: 'sound', n: 5 } },
         { rows, fen: 'd', tags: [], refused: '', row: null },
-    ].map((item, i) => ({ ...item, number: i + 1 })));
-    assert.deepEqual(decided(items).map(({ number }) => number), [1, 3]);
-    assert.deepEqual(items.map(stateOf), ['cooked', 'refused', 'sound', 'open']);
+        { rows, fen: 'e', tags: [], refused: '', row: { verdict: 'unsolvable', n: 4 } },
+    ].map((item, i) => ({ ...item, id: String(i + 1), movetext: '' })));
+    const ids = (/** @type {import('../js/collection.js').Item[]} */ some) => some.map(({ id }) => id).join('');
+    assert.equal(ids(decided(items)), '135');
+    assert.deepEqual(items.map(stateOf), ['cooked', 'refused', 'sound', 'open', 'unsolvable']);
     assert.equal(titleOf(items[0]), 'e, w');
-    assert.deepEqual(chosen(items, '', 'verdict').map(({ number }) => number), [3, 1, 4, 2]);
-    assert.deepEqual(chosen(items, '', 'moves').map(({ number }) => number), [1, 3, 2, 4]);
-    assert.deepEqual(chosen(items, 'sound', 'number').map(({ number }) => number), [3]);
+    assert.equal(ids(chosen(items, '', 'verdict')), '31542');
+    assert.equal(ids(chosen(items, '', 'moves')), '15324');
+    assert.equal(ids(chosen(items, 'sound', 'number')), '3');
+    assert.equal(ids(items.filter((item) => isOpen(item, 4))), '4');
+    assert.equal(ids(items.filter((item) => isOpen(item, 5))), '45');
+    assert.deepEqual(byBoard(items).map(({ rows: board, items: own }) => [board, own.length]), [[10, 4], [8, 1]]);
 });

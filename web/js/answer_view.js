@@ -1,0 +1,216 @@
+/** The answer to what was asked of a problem, as it stands in the book. */
+import { byId, control, fill, make, reveal, unbroken } from './dom.js';
+import { REASON } from '../../package/engine.js';
+import { SolutionView } from './solution.js';
+
+/**
+ * @typedef {import('./app.js').App} App
+ * @typedef {import('./book.js').Entry} Entry
+ * @typedef {import('./answers.js').Found} Found
+ * @typedef {import('./solve.js').Solving} Solving
+ */
+
+/** A sign for each verdict, beside its colour. */
+const SIGNS = { sound: '✓', dual: '≈', cooked: '✗', unsolvable: '∅', undecided: '?' };
+
+/**
+ * Why a task failed, in the language of the page.
+ * @param {App} app
+ * @param {import('../../package/engine.js').Failed | null} why
+ */
+export function failureText(app, why) {
+    if (!why) return '';
+    return why.reason === REASON.memory ? app.say('noMemory') : app.say('failed', why.message);
+}
+
+/**
+ * Names the position that an answer belongs to, and says whether it is another than that on the board.
+ * @param {App} app
+ * @param {string} id
+ * @param {Entry | null} entry
+ */
+export function namePosition(app, id, entry) {
+    const place = byId(id), isElsewhere = entry !== null && !app.isOnBoard(entry);
+    place.hidden = entry === null;
+    place.dataset.fen = entry?.fen ?? '';
+    place.classList.toggle('elsewhere', isElsewhere);
+    place.textContent = entry ? app.say(isElsewhere ? 'answerElsewhere' : 'answerOf', entry.fen) : '';
+}
+
+/** Draws the panel of answers. It keeps no answer: what it draws depends on the board and on the book alone. */
+export class AnswerView {
+    /**
+     * @param {App} app
+     * @param {Solving} solving
+     */
+    constructor(app, solving) {
+        this.app = app;
+        this.solving = solving;
+        this.view = new SolutionView(byId('solution'), (node) => app.look(node.parent ? node.fen : null),
+            (count) => app.say('unfold', count));
+        for (const [id, step] of /** @type {const} */ ([
+            ['to-start', 'start'], ['previous-move', 'back'], ['next-move', 'on'],
+        ])) byId(id).addEventListener('click', () => this.view.step(step));
+        app.on(['edited', 'looked', 'spoken', 'answered', 'read'], () => this.draw());
+        this.draw();
+    }
+
+    draw() {
+        const { app } = this, { entry } = this.solving, found = entry.solve?.result?.found ?? null;
+        this.drawState(entry);
+        namePosition(app, 'answer-of', entry.solve ? entry : null);
+        reveal('answer', Boolean(found));
+        const tree = entry.solve?.result?.tree ?? null;
+        if (this.view.tree !== tree) this.view.show(tree);
+        if (!app.looked) this.view.leave();
+        if (!found) return;
+        this.drawVerdict(entry, found);
+        this.drawDual(entry, found);
+        this.drawTries(entry, found);
+        reveal('solution-part', Boolean(tree));
+        byId('solution-more').textContent = app.say('moreLines');
+        reveal('solution-more', entry.solve?.result?.isMore ?? false);
+        this.drawFirsts(entry);
+    }
+
+    /**
+     * How far the questions are, or how they ended.
+     * @param {Entry} entry
+     */
+    drawState(entry) {
+        const { app } = this, { solve, firsts, certificate, note } = entry, place = byId('state');
+        // (until the page is ready it says that it is loading)
+        if (!document.documentElement.dataset.ready && !solve) return;
+        const running = [solve, firsts, certificate].filter((task) => task?.isRunning);
+        const { isAsking, isBlocked } = this.solving, isSearching = running.length > 0 || isAsking;
+        control('solve', HTMLButtonElement).disabled = Boolean(solve?.isRunning) || isAsking;
+        control('stop', HTMLButtonElement).disabled = running.length === 0;
+        if (isBlocked && app.refused) {
+            place.dataset.state = 'stopped';
+            place.textContent = app.say('faultFirst');
+            return;
+        }
+        place.dataset.state = isSearching ? 'searching' : solve?.state ?? 'idle';
+        const timed = (/** @type {'searchingFirsts' | 'writingCertificate'} */ key, /** @type {string} */ seconds) =>
+            `${app.say(key)}, ${app.say('seconds', seconds)}`;
+        const parts = isSearching ? [
+            solve?.isRunning ? this.searchText(solve) : isAsking ? app.say('searching') : '',
+            firsts?.isRunning ? timed('searchingFirsts', firsts.seconds) : '',
+            certificate?.isRunning ? timed('writingCertificate', certificate.seconds) : '',
+        ] : [
+            note ? app.say(note.key, ...note.values) : solve ? this.endText(solve) : '',
+            ...[firsts, certificate].map((task) => (task?.phase === 'stopped' ? app.say('stoppedEarly')
+                : failureText(app, task?.why ?? null))),
+        ];
+        place.textContent = [...new Set(parts)].filter(Boolean).join(' ');
+    }
+
+    /** @param {NonNullable<Entry['solve']>} solve */
+    searchText({ progress: { noWinIn, expanded }, seconds }) {
+        const { app } = this;
+        return [
+            app.say('searching'), noWinIn ? app.say('noWinYet', noWinIn) : '',
+            expanded ? app.say('expanded', expanded.toLocaleString(app.language)) : '', app.say('seconds', seconds),
+        ].filter(Boolean).join(', ');
+    }
+
+    /** @param {NonNullable<Entry['solve']>} solve */
+    endText({ phase, progress: { noWinIn }, seconds, why }) {
+        const { app } = this;
+        if (phase === 'done') return app.say('done', seconds);
+        if (phase === 'failed') return failureText(app, why);
+        return noWinIn ? app.say('stopped', noWinIn) : app.say('stoppedEarly');
+    }
+
+    /**
+     * The verdict as a sentence.
+     * @param {Entry} entry
+     * @param {Found} found
+     */
+    sentence({ position }, { verdict, n, keys, shortest }) {
+        const { app } = this, side = app.say(position.turn === 'W' ? 'white' : 'black'), moves = keys.join(', ');
+        if (verdict === 'sound') return app.say('saySound', side, n, moves);
+        if (verdict === 'dual') return app.say('sayDual', side, n, moves);
+        if (verdict === 'unsolvable') return app.say('sayUnsolvable', side, n);
+        return shortest < n ? app.say('sayShorter', side, n, shortest, moves) : app.say('sayCooked', side, n, moves);
+    }
+
+    /**
+     * @param {Entry} entry
+     * @param {Found} found
+     */
+    drawVerdict(entry, found) {
+        const verdict = byId('verdict'), text = this.sentence(entry, found);
+        byId('about').textContent = verdict.dataset.line = found.line;
+        verdict.dataset.verdict = found.verdict;
+        const sign = make('span', { class: 'sign', 'aria-hidden': 'true' }, SIGNS[found.verdict]);
+        fill('verdict', [text], () => [sign, ' ', ...unbroken(text)]);
+    }
+
+    /**
+     * Where a dual stands, with its choices.
+     * @param {Entry} entry
+     * @param {Found} found
+     */
+    drawDual(entry, found) {
+        const isDual = found.verdict === 'dual';
+        reveal('dual', isDual);
+        if (!isDual) return;
+        fill('dual', [entry, found, this.app.language], () => [
+            ...unbroken(this.app.say('sayChoice', found.at.join(' '))), ' ',
+            ...found.choices.flatMap((move, i) => [i ? ' / ' : '', this.jump(entry, [...found.at, move])]),
+        ]);
+    }
+
+    /**
+     * @param {Entry} entry
+     * @param {Found} found
+     */
+    drawTries(entry, found) {
+        const word = ` ${this.app.say('refutedBy')} `;
+        reveal('tries-part', found.tries.length > 0);
+        fill('tries', [entry, found, this.app.language], () => found.tries.map(([move, reply]) =>
+            make('li', {}, this.jump(entry, [move]), word, this.jump(entry, [move, reply]))));
+    }
+
+    /**
+     * What each first move does.
+     * @param {Entry} entry
+     */
+    drawFirsts(entry) {
+        const { app } = this, { firsts } = entry, rows = firsts?.result ?? null;
+        control('ask-firsts', HTMLButtonElement).hidden = Boolean(rows);
+        control('ask-firsts', HTMLButtonElement).disabled = Boolean(firsts?.isRunning);
+        control('certificate', HTMLButtonElement).disabled = Boolean(entry.certificate?.isRunning);
+        reveal('firsts-part', Boolean(rows));
+        byId('firsts-title').textContent = firsts ? app.say('firstsIn', firsts.question.n) : '';
+        fill('firsts', [entry, rows, app.language], () => (rows ?? []).map((first) => {
+            const replies = (first.refuted_by ?? [])
+                .flatMap((reply, i) => [i ? ', ' : ' ', this.jump(entry, [first.move, reply])]);
+            const says = first.wins_in ? ` ${app.say('winsIn', first.wins_in)}` : ` ${app.say('refutedBy')}`;
+            return make('li', first.wins_in ? { class: 'wins' } : {}, this.jump(entry, [first.move]), says, ...replies);
+        }));
+    }
+
+    /**
+     * A button that plays moves from a position, and names the last of them.
+     * @param {Entry} entry
+     * @param {string[]} moves
+     */
+    jump(entry, moves) {
+        const move = moves[moves.length - 1];
+        const button = make('button', { type: 'button', class: 'move', 'data-move': move }, move);
+        button.addEventListener('click', () => void this.playOut(entry, moves));
+        return button;
+    }
+
+    /**
+     * @param {Entry} entry
+     * @param {string[]} moves
+     */
+    async playOut(entry, moves) {
+        const { app } = this, played = await app.rules.follow(entry.fen, moves, entry.position.rows);
+        const isStill = app.shown((one) => one.solve) === entry;
+        if (isStill) app.look(played[played.length - 1]?.fen ?? null);
+    }
+}
