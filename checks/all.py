@@ -81,13 +81,15 @@ CHECKS = [
     Check("causes"),
     Check("arguments"),
     Check("board", slow=("--count", "400"), page=True),
+    Check("board_truth", slow=("--count", "1000"), page=True),
     Check("board_ways", page=True),
+    Check("package", page=True),
     Check("web", slow=("--count", "1500"), page=True),
 ]
 # What is no check of this repository, but for whom reads what the programs write.
 READERS = ["certificate"]
 # What is a part of a check.
-PARTS = ["board_page", "browsers", "draughts", "man_pages", "reading_order"]
+PARTS = ["board_named", "board_page", "browsers", "draughts", "man_pages", "reading_order"]
 # What takes pictures and measures, for the documents.
 FIGURES = ["board_figures", "board_pictures"]
 
@@ -145,7 +147,7 @@ def chosen(names):
 
 def build(checks):
     """Builds what is not there, so that no check's time has that in it."""
-    subprocess.run([TOP / "dw", "--help"], stdout=subprocess.DEVNULL, check=True)
+    subprocess.run([TOP / "build"], check=True)
     if any(check.name == "refused_search" for check in checks):
         refused_search.build()
 

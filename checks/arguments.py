@@ -34,6 +34,9 @@ SECOND = "problem 2: W:W7:B\n" + drawn(EMPTY, row1="|. w . . . |")
 THIRD = "problem 3: W:W22:B18\n" + drawn(EMPTY, row3="|. . b . . |", row4="| . w . . .|")
 THIRD_OF_EIGHT = "problem 3: W:W22:B18\n" + drawn(EMPTY_OF_EIGHT, row4="| . b . .|", row5="|. w . . |")
 MOVES = "problem 3: W:W22:B18\n22x13 B:W13:B\nmoves 1 taking 1\n"
+ROW = '{{"problem":{},"fen":"{}"}}\n'
+MOVES_ROW = '{"problem":3,"fen":"W:W22:B18","taking":1,"moves":[["22x13","B:W13:B"]]}\n'
+MOVES_ROW_OF_EIGHT = '{"problem":3,"fen":"W:W22:B18","taking":1,"moves":[["22x15","B:W15:B"]]}\n'
 SOUND = "problem 1: W:W27,45:B16\nsound in 2: 45-40\ntry 27-21 refuted by 16x27\ntry 27-22 refuted by 16-21\n"
 LINE = "problem 1: W:W27,45:B16\n1. 45-40 16-21 2. 27x16\ncomplete 1\n"
 CAPTURE = "problem 3: W:W22:B18\n1. 22x13\ncomplete 1\n"
@@ -48,6 +51,11 @@ ASKED = [
     (["show", "--board", "8", "--problem", "3"], 0, THIRD_OF_EIGHT, ""),
     (["show", "--problem=1000000", "--board=10"], 1, "", "dw: no problem 1000000\n"),
     (["show", "--", "none"], 3, "", "dw: cannot open none\n"),
+    (["show", "--json"], 0, ROW.format(1, "W:W27,45:B16") + ROW.format(2, "W:W7:B") + ROW.format(3, "W:W22:B18"), ""),
+    (["show", "--json", "--pdn", "--", "--pdn"], 0, ROW.format(1, "W:W7:B"), ""),
+    (["moves", "--problem", "3", "--json", "three"], 0, MOVES_ROW, ""),
+    (["moves", "--board", "8", "--json", "--problem", "3"], 0, MOVES_ROW_OF_EIGHT, ""),
+    (["moves", "--json", "--problem", "4"], 1, "", "dw: no problem 4\n"),
     (["judge", "-n", "2", "--problem", "1"], 0, SOUND, ""),
     (["judge", "-n20", "--problem", "1", "--positions", "7", "--memo=none"], 3, "problem 1: W:W27,45:B16\n",
      "dw: stopped: 2 limit, 7 expanded\n"),
@@ -69,7 +77,8 @@ REFUSED = [
     ["show", "--problem", "x"], ["show", "a", "b"], ["show", "--fen"], ["show", "-n", "1"], ["judge"],
     ["judge", "-n", "0"], ["judge", "-n", "21"], ["judge", "-n", "2", "--lines", "1"],
     ["list", "-n", "2", "--memo", "big"], ["list", "-n", "2", "--cache", "4000001"],
-    ["list", "-n", "2", "--positions", "1000000000001"],
+    ["list", "-n", "2", "--positions", "1000000000001"], ["judge", "-n", "2", "--json"],
+    ["list", "-n", "2", "--json"], ["show", "--json=1"],
 ]
 
 

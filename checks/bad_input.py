@@ -67,7 +67,7 @@ def texts():
     expect("no line feed in a megabyte of movetext", run(["show", "--pdn"], movetext), 0, b"", SHOWN)
     expect("an open comment of a megabyte", run(["show", "--pdn"], b"{" + b"[" * 1_000_000), 1, b"",
            b"problem 1: refused: 8 unclosed comment\n")
-    for words in (["show"], ["moves"], ["judge", "-n", "2"], ["list", "-n", "2"]):
+    for words in (*COMMANDS, ["show", "--json"], ["moves", "--json"]):
         expect(f"nothing, {words[0]}", run(words), 0, b"", b"")
         expect(f"no such problem, {words[0]}", run([*words, "--problem", "2"], FEN), 1, b"dw: no problem 2\n", b"")
 
@@ -298,6 +298,8 @@ def wrong_words():
     for command in ("show", "moves"):
         yield from ([command, option, value] for option, value in
                     (("-n", "1"), ("--positions", "1"), ("--memo", "lru"), ("--cache", "1")))
+        yield [command, "--json=1"]
+    yield from ([command, "-n", "1", "--json"] for command in ("judge", "list"))
     # Wrong words come before a wrong token.
     yield ["list", "-n", "0", "--after", "0g"]
 

@@ -548,10 +548,10 @@ def check_collection(browser, folder, page):
             assert "W:W27,45:B16" in text, (name, text[:200])
             assert "<script>alert(1)" not in text or not name.endswith("html"), name
         pdn = (browser.downloads / "problems.pdn").read_text()
-        assert '[Event "Mine"]' in pdn and "{sound in 2} 1. 45-40" in pdn and "{dual in 2} 1. 32-28" in pdn, pdn
+        assert '[Event "Mine"]' in pdn and "{sound in 2} 1. 45-40" in pdn and "\n\n1. 32-28 *\n" in pdn, pdn
     browser.run("t.at('#forget').click()")
     browser.wait("t.at('#list').dataset.count === '0'", 10)
-    browser.run("t.at('#forget').click()")
+    browser.run("t.at('#bring-back').click()")
     browser.wait("t.at('#list').dataset.count === '4'", 10)
     open_page(browser, page)
     browser.wait("t.at('#list').dataset.count === '4'", 10)

@@ -9,6 +9,7 @@ its `wasm-opt`, write files without looking at what they are given. So no proof 
 call with 3 and one line that says why, and no page is left.
 """
 import contextlib
+import hashlib
 import pathlib
 import re
 import shutil
@@ -44,8 +45,8 @@ class Copy(launching.Copy):
 
     def __init__(self, room):
         super().__init__(room)
-        shutil.copy2(TOP / "board", self.top)
         shutil.copytree(TOP / "web", self.top / "web")
+        shutil.copytree(TOP / "package", self.top / "package")
         options = "crates/dw_arguments/src/options.rt"
         shutil.copy2(TOP / options, self.top / options)
         launching.write_program(self.kit / "bin/rattle", PROVER)
@@ -76,17 +77,26 @@ def makes():
     with copy() as made:
         status, said = made.make()
         assert status == 0 and made.page.exists(), said
-        assert said[0] == f"dw: proving and building dw_web, {len(crates)} crates; the first time takes some minutes"
-        proofs = said[1:said.index("dw: built")]
-        assert {line for line in proofs if ": being proved" in line} == {f"dw: {name}: being proved" for name in crates}
-        assert [line for line in proofs if ": proved, 0 left" in line] == ["dw: dw_web: proved, 0 left"], proofs
-        *last, written = said[said.index("dw: built") + 1:]
+        assert said[0] == f"board: proving and building dw_web, {len(crates)} crates; the first time takes some minutes"
+        proofs = said[1:said.index("board: built")]
+        begun = {line for line in proofs if ": being proved" in line}
+        assert begun == {f"board: {name}: being proved" for name in crates}, begun
+        assert [line for line in proofs if ": proved, 0 left" in line] == ["board: dw_web: proved, 0 left"], proofs
+        *last, written = said[said.index("board: built") + 1:]
         assert last == steps and re.fullmatch(rf"board: {re.escape(str(made.page))} \(\d+ kB\)", written), said
         assert sorted(made.asked()) == sorted(crates)
         text = made.page.read_text()
         assert re.search(r'<p id="version">dw \d+\.\d+\.\d+, kit 1, sources [0-9a-f]{16}</p>', text), text[-300:]
         status, said = made.make()
         assert (status, said) == (0, ["board: packing", written]) and made.page.read_text() == text, said
+        status, _, said = made.call("--all", name="board")
+        assert status == 0 and (made.top / "docs/board.html").read_text() == text, said
+        module, notes = (made.top / "package" / name for name in ("dw.wasm", "dw.wasm.sources"))
+        assert module.read_text() == "made\n", "the module of the package"
+        sources = re.search(r"sources ([0-9a-f]{16})", text)[1]
+        version, wanted = re.search(r"dw ([0-9.]+),", text)[1], hashlib.sha256(module.read_bytes()).hexdigest()
+        assert notes.read_text().splitlines() == [f"sources {sources}", f"version {version}", "kit kit 1",
+                                                  f"module sha256 {wanted}"], notes.read_text()
         (made.top / "web/heap.c").touch()
         status, said = made.make()
         assert (status, said) == (0, [*steps, written]) and made.page.read_text() == text, said
@@ -98,7 +108,7 @@ def fails():
     with copy() as made:
         (made.kit / "fails").write_text("dw_list")
         status, said = made.make()
-        assert status == 3 and said[-1] == "dw: dw_list could not be proved and built", said
+        assert status == 3 and said[-1] == "board: dw_list could not be proved and built", said
         assert "src/lib.rt:1:1: error: not so" in said and not made.page.exists(), said
         (made.kit / "fails").unlink()
         for change, wanted in (

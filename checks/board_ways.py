@@ -106,7 +106,7 @@ def way_dual(browser, page):
     browser.wait("document.querySelector('#mend').dataset.state === 'done'", 60)
     # It is the problem that was mended, not the position that was looked at.
     fen_is(browser, "W:W27,32:B18")
-    reads(browser, "#mend-state", "44 sound of 310 tried")
+    reads(browser, "#mend-state", "Win in 2: 44 sound of 310 tried")
     browser.click("#mend .card")
     fen_is(browser, "W:W32:B18")
     browser.click("#tab-solve")

@@ -16,6 +16,7 @@ import tempfile
 import time
 
 STARTS_WITHIN, ANSWERS_WITHIN = 60, 300
+RESTS = 0.4  # seconds for which a finger rests on a piece that it drags
 # Firefox saves files without asking where.
 PREFERENCES = """user_pref("browser.download.folderList", 2);
 user_pref("browser.download.dir", "{folder}");
@@ -208,7 +209,7 @@ class Chromium(Browser):
                           "--disable-background-networking", "--no-first-run", "--remote-debugging-port=0",
                           "--user-data-dir={home}/profile", "--lang=en-US", "about:blank"],
                          r"DevTools listening on (ws://\S+)")
-        self.session = {}
+        self.session, self.preloaded = {}, None
         self.ask("Browser.setDownloadBehavior", behavior="allow", downloadPath=str(self.downloads))
         self.tab()
 
@@ -219,6 +220,20 @@ class Chromium(Browser):
         for domain in ("Page", "Runtime", "Log", "Network", "DOM"):
             self.ask(f"{domain}.enable", self.session)
         self.resize(1200, 900)
+
+    def tab_now(self):
+        return self.session
+
+    def show_tab(self, tab):
+        self.session = tab
+        self.ask("Page.bringToFront", tab)
+
+    def preload(self, script):
+        """Has a script run at the beginning of each page from now on; without one it runs no more."""
+        if self.preloaded:
+            self.ask("Page.removeScriptToEvaluateOnNewDocument", self.session, identifier=self.preloaded)
+        self.preloaded = script and self.ask("Page.addScriptToEvaluateOnNewDocument", self.session,
+                                             source=script)["identifier"]
 
     def note(self, method, params):
         if method == "Runtime.exceptionThrown":
@@ -308,12 +323,12 @@ class Chromium(Browser):
         for kind in ("rawKeyDown", "keyUp"):
             self.ask("Input.dispatchKeyEvent", self.session, type=kind, key="Tab", windowsVirtualKeyCode=9, modifiers=8)
 
-    def finger(self, *places):
-        """A finger that comes down, moves, and goes up."""
+    def finger(self, *places, rests=RESTS):
+        """A finger that comes down, rests for some seconds, moves, and goes up."""
         for kind, (x, y) in zip(("touchStart", *["touchMove"] * len(places)), (*places, places[-1])):
             self.ask("Input.dispatchTouchEvent", self.session, type=kind, touchPoints=[{"x": x, "y": y}])
             # One that goes up while it moves is a fling, and the browser takes the next tap as its end.
-            time.sleep(0.05)
+            time.sleep(rests if kind == "touchStart" else 0.05)
         self.ask("Input.dispatchTouchEvent", self.session, type="touchEnd", touchPoints=[])
 
     def upload(self, selector, file):
@@ -344,6 +359,7 @@ class Firefox(Browser):
                           "{home}", "about:blank"], r"WebDriver BiDi listening on (ws://\S+)")
         self.ask("session.new", capabilities={"alwaysMatch": {"acceptInsecureCerts": False}})
         self.ask("session.subscribe", events=["log.entryAdded", "network.beforeRequestSent"])
+        self.preloaded = None
         # The first window has no focus, but one that is made later has.
         self.context = self.ask("browsingContext.create", type="window")["context"]
         self.resize(1200, 900)
@@ -354,6 +370,20 @@ class Firefox(Browser):
     def tab(self):
         self.context = self.ask("browsingContext.create", type="tab")["context"]
         self.resize(1200, 900)
+
+    def tab_now(self):
+        return self.context
+
+    def show_tab(self, tab):
+        self.context = tab
+        self.ask("browsingContext.activate", context=tab)
+
+    def preload(self, script):
+        """Has a script run at the beginning of each page from now on; without one it runs no more."""
+        if self.preloaded:
+            self.ask("script.removePreloadScript", script=self.preloaded)
+        self.preloaded = script and self.ask("script.addPreloadScript",
+                                             functionDeclaration=f"() => {{{script}}}")["script"]
 
     def note(self, method, params):
         if method == "log.entryAdded" and params["level"] == "error":
@@ -416,9 +446,10 @@ class Firefox(Browser):
     def tab_back(self):
         self.press_with("\ue008", KEYS["Tab"][0])
 
-    def finger(self, *places):
+    def finger(self, *places, rests=RESTS):
         (x, y), *others = places
-        moves = [{"type": "pointerMove", "x": a, "y": b, "duration": 20} for a, b in others]
+        moves = [{"type": "pause", "duration": round(rests * 1000)}]
+        moves += [{"type": "pointerMove", "x": a, "y": b, "duration": 20} for a, b in others]
         self.pointer([{"type": "pointerMove", "x": x, "y": y}, {"type": "pointerDown", "button": 0}, *moves,
                       {"type": "pointerUp", "button": 0}], "touch")
 

@@ -4,10 +4,11 @@
     checks/desk.py [--count POSITIONS]
 
 For random small positions (250 on each board by default) it asks `dw judge` for 1 move, 2 and so on. The first verdict
-with a win, or the last one, must be the output of `find`, byte for byte, and agree with its JSON. The joined portions
-of a file must be the whole. A bound on each problem leaves some undecided, each at a number without a win, whatever
-came before. At a terminal a line shows the progress of a long search, and disappears at the end; it never reaches a
-file.
+with a win, or the last one, must be the output of `find`, byte for byte, and agree with its JSON. `find -n N` must
+write what `dw judge -n N` writes. With `--solution` a line of JSON must be the line without it, with the moves that
+`solution --json` writes for that number. The joined portions of a file must be the whole. A bound on each problem
+leaves some undecided, each at a number without a win, whatever came before. At a terminal a line shows the progress of
+a long search, and disappears at the end; it never reaches a file.
 """
 import json
 import os
@@ -27,6 +28,8 @@ DW, DESK = TOP / "dw", TOP / "dw-desk"
 SEED, MOST = 23, 4
 # A search of some seconds, with a small memo.
 LONG, LONG_MOVES, LONG_CACHE = "W:WK39,41,50:B5,12,29", 9, 10_000
+# A problem with more lines than a line of JSON has.
+MANY, MANY_MOVES, MOST_LINES = "W:WK46,K47,49,50:B2", 5, 1000
 
 
 # Options, a problem, and what is written.
@@ -35,6 +38,10 @@ FINDS = [
      "3. 28x6 / 28x11 / 28x17\ntry 10-4 refuted by 13-19\n"),
     (["--most", "2"], "W:W10,16,48:B13", "problem 1: W:W10,16,48:B13\nunsolvable in 2\ntry 10-4 refuted by 13-19\n"
      "try 10-5 refuted by 13-18\n"),
+    (["-n", "2"], "W:W10,16,48:B13", "problem 1: W:W10,16,48:B13\nunsolvable in 2\ntry 10-4 refuted by 13-19\n"
+     "try 10-5 refuted by 13-18\n"),
+    (["-n", "2"], "W:W32:B28", "problem 1: W:W32:B28\ncooked in 2, shortest 1: 32x23\n"),
+    (["--most", "2"], "W:W32:B28", "problem 1: W:W32:B28\nsound in 1: 32x23\n"),
 ]
 # Options, a problem, and its line of JSON.
 ROWS = [
@@ -48,6 +55,20 @@ ROWS = [
      '[["27-21","16x27"],["27-22","16-21"]]}'),
     (["--each", "3"], "W:W27,45:B16", '{"problem":5,"fen":"W:W27,45:B16","verdict":"undecided","no_win_in":1}'),
     ([], "W:W3:B20", '{"problem":6,"refused":"1 fen: 7 last row at 4"}'),
+    (["-n", "2", "--solution"], "W:W32:B28", '{"problem":7,"fen":"W:W32:B28","n":2,"verdict":"cooked","shortest":1,'
+     '"keys":["32x23"],"tries":[],"more":false,"moves":[{"depth":1,"move":"32x23","fen":"B:W23:B"}]}'),
+    (["--solution"], "W:W27,32:B18", '{"problem":8,"fen":"W:W27,32:B18","n":2,"verdict":"dual","keys":["32-28"],'
+     '"at":"1. 32-28 18-22","choices":["27x18","28x17"],"tries":[["27-22","18x38"]],"more":false,"moves":['
+     '{"depth":1,"move":"32-28","fen":"B:W27,28:B18"},{"depth":2,"move":"18-22","fen":"W:W27,28:B22"},'
+     '{"depth":3,"move":"27x18","fen":"B:W18,28:B"},{"depth":3,"move":"28x17","fen":"B:W17,27:B"},'
+     '{"depth":2,"move":"18-23","fen":"W:W27,28:B23"},{"depth":3,"move":"28x19","fen":"B:W19,27:B"}]}'),
+    (["-n", "1", "--solution"], "W:W27:B16", '{"problem":9,"fen":"W:W27:B16","n":1,"verdict":"unsolvable","keys":[],'
+     '"tries":[["27-21","16x27"],["27-22","16-21"]],"more":false,"moves":[]}'),
+    (["--each", "3", "--solution"], "W:W27,45:B16", '{"problem":10,"fen":"W:W27,45:B16","verdict":"undecided",'
+     '"no_win_in":1}'),
+    (["-n", "4", "--each", "3"], "W:W27,45:B16", '{"problem":11,"fen":"W:W27,45:B16","verdict":"undecided",'
+     '"no_win_in":1}'),
+    (["-n", "3", "--solution"], "W:W3:B20", '{"problem":12,"refused":"1 fen: 7 last row at 4"}'),
 ]
 TWO = "W:W27,32:B18"
 # A position, its movetext, options, the status and what is written behind the first line.
@@ -117,7 +138,8 @@ def check_findings(rows, count, source, folder):
     positions = [fen(drawn(source, board), source.choice("WB")) for _ in range(count)] + ["W:W3:B20", "x"]
     file.write_text("".join(position + "\n" for position in positions))
     words = ["--board", str(rows), str(file)]
-    judged = [texts(run(DW, "judge", "-n", str(n), *words, status=1)) for n in range(1, MOST + 1)]
+    reports = [run(DW, "judge", "-n", str(n), *words, status=1) for n in range(1, MOST + 1)]
+    judged = [texts(report) for report in reports]
     found = [least(judgements) for judgements in zip(*judged)]
     wanted = "".join(f"{first}\n{text}" for (first, _), (_, text) in zip(judged[0], found))
     for more in ([], ["--memo", "none"], ["--memo", "lru", "--cache", "20"], ["--each", "1000000000000"]):
@@ -130,10 +152,65 @@ def check_findings(rows, count, source, folder):
         row = json.loads(line)
         assert json.dumps(row, separators=(",", ":")) == line, line
     assert "".join(told(json.loads(line)) for line in lines) == wanted
+    check_exact(reports, words)
+    check_solved(words)
     kinds = {kind: wanted.count(f"\n{kind} in") for kind in ("unsolvable", "cooked", "dual", "sound")}
     print(f"{rows} rows: {count} positions, {kinds}: find is judge at the least number, in words and in JSON")
     check_portions(words, wanted, len(positions))
     check_bounds(words, [number for number, _ in found], wanted)
+
+
+def check_exact(reports, words):
+    """`find -n N` is judge at exactly N, in words and in JSON. A bound leaves the same problems undecided."""
+    for n, report in enumerate(reports, 1):
+        assert run(DESK, "find", "-n", str(n), *words, status=1) == report, n
+        lines = run(DESK, "find", "-n", str(n), "--json", *words, status=1).splitlines()
+        assert "".join(told(json.loads(line)) for line in lines) == report, n
+    undecided = 0
+    for each in (1, 7, 40):
+        bounded = [run(DESK, "find", how, str(MOST), "--each", str(each), *words, status=1) for how in ("-n", "--most")]
+        for (first, text), (_, least_text), (_, whole) in zip(*map(texts, bounded), texts(reports[-1])):
+            assert text == (least_text if least_text.startswith("undecided") else whole), (each, first, text)
+            undecided += text.startswith("undecided")
+    assert undecided > 0
+    print(f"find -n is judge at 1 to {MOST} moves, in words and in JSON, and leaves {undecided} undecided under bounds")
+
+
+def check_solved(words):
+    """A line with the solution is the line without it, with the moves of `solution --json` at its number."""
+    reports = [run(DESK, "solution", "--json", "-n", str(n), *words, status=1) for n in range(1, MOST + 1)]
+    solved = [[json.loads(line) for line in report.splitlines()] for report in reports]
+    moves, undecided = 0, 0
+    for more in (["--most", str(MOST)], ["--most", str(MOST), "--each", "7"], ["-n", "1"], ["-n", str(MOST)]):
+        alone = run(DESK, "find", "--json", *more, *words, status=1).splitlines()
+        both = run(DESK, "find", "--json", "--solution", *more, *words, status=1).splitlines()
+        assert len(alone) == len(both)
+        for line, whole in zip(alone, both):
+            row = json.loads(line)
+            if "n" in row:
+                solution = solved[row["n"] - 1][row["problem"] - 1]
+                row |= {"more": solution["more"], "moves": solution["moves"]}
+                assert solution["fen"] == row["fen"] and solution["verdict"] == row["verdict"], (solution, row)
+                moves += len(row["moves"])
+            undecided += "no_win_in" in row
+            assert whole == json.dumps(row, separators=(",", ":")), (more, line, whole)
+    assert moves > 0 and undecided > 0
+    print(f"{moves} moves of solutions in the lines of find: those of solution; none of {undecided} undecided problems")
+
+
+def check_many():
+    """Of too many lines a line of JSON has the moves of the first ones of `dw list`, each once and in order."""
+    words, text = ["-n", str(MANY_MOVES)], f"{MANY}\n"
+    row = json.loads(run(DESK, "find", "--json", "--solution", *words, text=text))
+    _, *lines, last = run(DW, "list", "--lines", str(MOST_LINES), *words, text=text).splitlines()
+    assert len(lines) == MOST_LINES and last.startswith("more after "), last
+    beginnings = {}
+    for line in lines:
+        played = [word for word in line.split() if not word.endswith(".")]
+        beginnings |= {tuple(played[:depth]): None for depth in range(1, len(played) + 1)}
+    wanted = [(len(beginning), beginning[-1]) for beginning in beginnings]
+    assert row["more"] is True and [(one["depth"], one["move"]) for one in row["moves"]] == wanted
+    print(f"{len(wanted)} moves of the first {MOST_LINES} lines in a line of find: those of list")
 
 
 def check_portions(words, wanted, count):
@@ -174,8 +251,8 @@ def check_rows(folder):
     file = folder / "six.fen"
     file.write_text("".join(f"{problem}\n" for _, problem, _ in ROWS))
     written = ""
-    for number, (words, _, _) in enumerate(ROWS, 1):
-        status = int(number > 4)
+    for number, (words, _, row) in enumerate(ROWS, 1):
+        status = int("undecided" in row or "refused" in row)
         written += run(DESK, "find", "--json", "--problem", str(number), *words, str(file), status=status)
     assert written == "".join(f"{row}\n" for _, _, row in ROWS), written
     for position, movetext, words, status, wanted in SOLUTIONS:
@@ -187,7 +264,8 @@ def check_rows(folder):
 
 def check_errors():
     """Arguments that are none, a file that is not there, and one that can not be written."""
-    for words in (["find", "--most", "0"], ["find", "--most", "21"], ["find", "--each", "0"], ["find", "-n", "2"],
+    for words in (["find", "--most", "0"], ["find", "--most", "21"], ["find", "--each", "0"], ["find", "-n", "0"],
+                  ["find", "-n", "2", "--most", "3"], ["find", "--solution"], ["find", "-n", "2", "--solution"],
                   ["find", "--problem", "2-1"], ["find", "--problem", "0"], ["find", "--problem", "1-"],
                   ["find", "--problem", "1000001"], ["find", "--problem", "a"], ["find", "a", "b"], ["seek"],
                   ["token"], ["token", "--line", "x", "--problem", "1-2"], ["check", "-n", "21"],
@@ -298,6 +376,7 @@ def main():
         for rows in (10, 8):
             check_findings(rows, count, source, pathlib.Path(name))
         check_rows(pathlib.Path(name))
+        check_many()
         check_errors()
         check_tokens(pathlib.Path(name))
         check_progress(pathlib.Path(name))

@@ -148,7 +148,7 @@ def call_of(crate, kit):
 def build(crates):
     """Builds the libraries that these crates stand on, if they are not built."""
     below = sorted({name for crate in crates for name in crates_below(crate)})
-    subprocess.run([TOP / "dw"], env={**os.environ, "DW_BUILD": " ".join(below)}, check=True)
+    subprocess.run([TOP / "build", *below], check=True)
 
 
 def checked(edit, call, only):

@@ -1,5 +1,5 @@
 #!/usr/bin/env python3
-"""json_rows.py: validates the JSON of `dw-desk` for all examples with a validator of Debian.
+"""json_rows.py: validates the JSON of `dw` and `dw-desk` for all examples with a validator of Debian.
 
     checks/json_rows.py
 
@@ -15,14 +15,14 @@ import subprocess
 import jsonschema
 
 TOP = pathlib.Path(__file__).resolve().parent.parent
-DESK, EXAMPLES, DOCS = TOP / "dw-desk", TOP / "examples", TOP / "docs"
+DW, DESK, EXAMPLES, DOCS = TOP / "dw", TOP / "dw-desk", TOP / "examples", TOP / "docs"
 # Problems of all kinds, two that are refused, and solutions with each kind of remark.
 POSITIONS = ["W:W27,32:B18", "W:W27,45:B16", "W:W27,32,38:B18", "W:W27:B16", "W:W3:B20", "x", "W:W:B18"]
 MOVETEXTS = [" 1. 32-28 18-22 2. 27x18 2-0", " 1. 27-22! {why not} 18x38 *", " 1. 32-28 *", " 1. 32-27", " *"]
 
 
-def lines_of(*words, text=""):
-    ran = subprocess.run([DESK, *words], input=text, capture_output=True, text=True, timeout=3600, check=False)
+def lines_of(*words, text="", program=DESK):
+    ran = subprocess.run([program, *words], input=text, capture_output=True, text=True, timeout=3600, check=False)
     assert ran.returncode in (0, 1) and ran.stderr == "", (words, ran)
     return ran.stdout.splitlines()
 
@@ -33,7 +33,10 @@ def written():
     games = "".join(f'[FEN "W:W27,32:B18"]{movetext}\n\n' for movetext in MOVETEXTS)
     found = {"find": lines_of("find", "--json", "--most", "3", text=positions), "check": [],
              "solution": [], "moves": []}
-    found["find"] += lines_of("find", "--json", "--most", "3", "--each", "3", text=positions)
+    for more in (["--each", "3"], ["--solution"], ["--solution", "--each", "3"]):
+        found["find"] += lines_of("find", "--json", "--most", "3", *more, text=positions)
+    for more in ([], ["--solution"]):
+        found["find"] += lines_of("find", "--json", "-n", "2", *more, text=positions)
     for more in ([], ["-n", "2"], ["--faults"]):
         found["check"] += lines_of("check", "--json", *more, text=games)
     for more in (["-n", "3"], ["--most", "3", "--lines", "1"]):
@@ -42,6 +45,11 @@ def written():
         found["moves"] += lines_of("moves", "--json", "-n", "2", "--problem", str(number), text=positions)
     found["mend"] = [line for number in range(1, 7)
                      for line in lines_of("mend", "--json", "-n", "2", "--problem", str(number), text=positions)]
+    for command in ("show", "moves"):
+        found[f"dw {command}"] = lines_of(command, "--json", text=positions, program=DW)
+        for file in [*EXAMPLES.glob("*.fen"), *EXAMPLES.glob("*.pdn")]:
+            form = ["--pdn"] if file.suffix == ".pdn" else []
+            found[f"dw {command}"] += lines_of(command, "--json", *form, str(file), program=DW)
     for file in sorted(EXAMPLES.glob("*.fen")):
         most = "2" if file.name.startswith("large") else "4"
         found["find"] += lines_of("find", "--json", "--most", most, "--problem", "1-20", str(file))

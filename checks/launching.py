@@ -87,7 +87,7 @@ class Copy:
             source.parent.mkdir(parents=True)
             source.write_text("")
         shutil.copy2(TOP / "crates.txt", self.top)
-        for name in ("dw", "dw-desk"):
+        for name in ("dw", "dw-desk", "build", "board"):
             shutil.copy2(TOP / name, self.top, follow_symlinks=False)
         write_program(self.kit / "bin/rattle", PROVER)
         write_program(self.kit / "bin/rattle-link", LINKER)
@@ -228,8 +228,7 @@ def fails():
         assert made.call()[0] == 0
         assert stands_on("dw_list").intersection(made.asked()) == {"dw_list"}, "what was proved is proved again"
     with copy() as made:
-        made.environment["DW_BUILD"] = "nonsense dw"
-        status, out, complained = made.call()
+        status, out, complained = made.call("nonsense", "dw", name="build")
         assert (status, out) == (3, "") and "nonsense could not be proved and built" in complained, (status, complained)
     with copy() as made:
         made.environment["PATH"] = "/usr/bin:/bin"
@@ -290,11 +289,13 @@ def at_once():
     with copy() as made:
         source = made.top / "crates/dw_tests_rules/src"
         (source / "lib.rt").rename(source / "main.rt")
-        made.environment["DW_BUILD"] = "dw_tests_rules dw"
-        assert made.call("x")[:2] == (0, "") and len(made.asked()) == len(stands_on("dw") | stands_on("dw_tests_rules"))
+        named = ("dw_tests_rules", "dw")
+        assert made.call(*named, name="build")[:2] == (0, "")
+        assert len(made.asked()) == len(stands_on("dw") | stands_on("dw_tests_rules"))
         assert (source.parent / "out/dw_tests_rules").exists() and made.program.exists()
-        assert made.call() == (0, "", "")
-    print("two programs named by DW_BUILD: built once, and none is run")
+        assert made.call(*named, name="build") == (0, "", "")
+        assert made.call("-x", name="build") == (2, "", "build: usage: ./build [CRATE ..]\n")
+    print("two programs that ./build is to make: built once, and none is run")
     with copy() as made:
         (made.kit / "slow").write_text("dw_board")
         first = made.start()
@@ -310,8 +311,37 @@ def at_once():
     print("two calls at once: one builds and the other waits; if the first is ended, the other builds")
 
 
+def without_build():
+    """Where no native program stands, the package's one runs, if node and a module of the present sources are there."""
+    with copy() as made:
+        package, log = made.top / "package", made.top.parent / "node"
+        for folder in (package / "bin", made.top / "web"):
+            folder.mkdir(parents=True)
+        for name in ("dw.wasm", "engine.js", "worker.js", "workers.js"):
+            (package / name).write_text("")
+        write_program(made.top.parent / "path/node", f"#!/bin/sh\n[ \"$1\" = --version ] && echo v18.2.0 && exit\n"
+                      f"echo \"$@\" >>{log}; exit 7\n")
+        sources = subprocess.run([made.top / "board", "--checksum"], capture_output=True, text=True, check=True).stdout
+        (package / "dw.wasm.sources").write_text(f"sources {sources}version x\n")
+        assert made.call("judge", "-n", "2") == (7, "", "") and not made.asked()
+        assert made.call("find", name="dw-desk")[0] == 7
+        assert log.read_text().splitlines() == [f"{package}/bin/dw.js judge -n 2", f"{package}/bin/dw-desk.js find"]
+        source = made.top / "crates/dw_solve/src/lib.rt"
+        source.write_text("// another source\n")
+        assert made.call("x")[:2] == (0, f"program {ALL} x\n"), "a module of other sources is taken"
+        source.write_text("")
+        os.utime(source, (1, 1))
+        assert made.call("y") == (0, f"program {ALL} y\n", ""), "a native program is not taken"
+        write_program(made.top.parent / "path/node", "#!/bin/sh\necho v16.1.0\n")
+        made.program.unlink()
+        made.asked()
+        assert made.call()[0] == 0 and made.asked() == ["dw"], "a node too old is taken"
+    print("without a native program: the package's one in node, if it is current and node new enough")
+
+
 def main():
     builds()
+    without_build()
     fails()
     for number in SIGNALS:
         interrupted(number)

@@ -4,10 +4,11 @@
     checks/random_moves.py [--count POSITIONS]
 
 It uses the rules of draughts.py and follows docs/REPORT.md. For random positions (100,000 by default), half of them on
-each board, from two pieces to full boards, with few or many kings, it makes the whole report of `dw moves`. The report
-must be the same, byte for byte.
+each board, from two pieces to full boards, with few or many kings, it makes the whole report of `dw moves`, and the
+rows of `dw moves --json` and `dw show --json`. They must be the same, byte for byte.
 """
 import itertools
+import json
 import pathlib
 import random
 import subprocess
@@ -44,26 +45,43 @@ def report(problems, number, cells, turn):
     yield f"moves {len(found)} taking {len(found[0][0][2]) if found else 0}"
 
 
+def row(problems, number, cells, turn):
+    """The row of `show`, and that of `moves`."""
+    front, found = {"problem": number, "fen": fen(cells, turn)}, problems.moves(cells, turn)
+    pairs = [[problems.text(cells, turn, move), fen(play(problems.board, cells, move), other(turn))]
+             for move, _ in found]
+    whole = {**front, "taking": len(found[0][0][2]) if found else 0, "moves": pairs}
+    return [json.dumps(told, separators=(",", ":")) for told in (front, whole)]
+
+
+def compare(words, rows, text, wanted):
+    ran = subprocess.run([DW, *words, "--board", str(rows)], input=text, capture_output=True, text=True, timeout=3600,
+                         check=False)
+    if (ran.returncode, ran.stderr) != (0, ""):
+        sys.exit(f"random_moves.py: {words}: status {ran.returncode}, {ran.stderr!r}")
+    if ran.stdout != "".join(line + "\n" for line in wanted):
+        lines = itertools.zip_longest(ran.stdout.splitlines(), wanted)
+        first = next(((here, there) for here, there in lines if here != there), None)
+        sys.exit(f"random_moves.py: {words}, {rows} rows: written and wanted: {first}")
+
+
 def check(rows, count, source):
     board, moves, captures = Board(rows), 0, 0
     for start in range(0, count, AT_ONCE):
         positions = [drawn(source, board) for _ in range(min(AT_ONCE, count - start))]
-        wanted, problems = [], Problems(board)
+        wanted, told, problems = [], [], Problems(board)
         for number, (cells, turn) in enumerate(positions, 1):
             problems.lists.clear()
             wanted += report(problems, number, cells, turn)
+            told.append(row(problems, number, cells, turn))
             here = problems.moves(cells, turn)
             moves, captures = moves + len(here), captures + bool(here and here[0][0][2])
         text = "".join(fen(cells, turn) + "\n" for cells, turn in positions)
-        ran = subprocess.run([DW, "moves", "--board", str(rows)], input=text, capture_output=True, text=True,
-                             timeout=3600, check=False)
-        if (ran.returncode, ran.stderr) != (0, ""):
-            sys.exit(f"random_moves.py: status {ran.returncode}, {ran.stderr!r}")
-        if ran.stdout != "".join(line + "\n" for line in wanted):
-            lines = itertools.zip_longest(ran.stdout.splitlines(), wanted)
-            first = next(((here, there) for here, there in lines if here != there), None)
-            sys.exit(f"random_moves.py: {rows} rows: written and wanted: {first}")
-    print(f"random_moves.py: {rows} rows: {count} positions, {moves} moves, captures in {captures}: the same bytes")
+        compare(["moves"], rows, text, wanted)
+        compare(["show", "--json"], rows, text, [shown for shown, _ in told])
+        compare(["moves", "--json"], rows, text, [listed for _, listed in told])
+    print(f"random_moves.py: {rows} rows: {count} positions, {moves} moves, captures in {captures}: the same bytes, "
+          "also as JSON")
 
 
 def main():

@@ -8,8 +8,8 @@ A run without enough memory writes the whole report, or it ends with status 3 an
 expanded`. Its output is then the whole texts of some problems, the first line of the next, and whole lines of its text;
 or nothing with E 0, if the arguments could not be read or the cache not be made. E is at most the expansions of a run
 without a cache, and 0 for `moves`. The last run of each input meets no refusal and is whole. `judge` and `list` run
-with each cache. `dw show` allocates nothing after its arguments. Each command of `dw-desk` writes everything, or ends
-in this way after a beginning of it.
+with each cache. `dw show` allocates nothing after its arguments. `show` and `moves` with `--json` have written whole
+rows. Each command of `dw-desk` writes everything, or ends in this way after a beginning of it.
 """
 import os
 import pathlib
@@ -31,7 +31,8 @@ STOPPED = re.compile(rb"dw: stopped: 1 memory, (\d+) expanded\n")
 # What the last line of a problem's text has, of a command that marks it. A verdict may have tries after it.
 LAST_LINE = {"moves": b" taking ", "list": b"\ncomplete "}
 # Commands of dw-desk, for one game.
-DESK_COMMANDS = (["find", "--pdn"], ["find", "--pdn", "--json"], ["check"], ["solution", "--pdn", "-n", "2"],
+DESK_COMMANDS = (["find", "--pdn"], ["find", "--pdn", "--json"], ["find", "--pdn", "-n", "3", "--json", "--solution"],
+                 ["check"], ["solution", "--pdn", "-n", "2"],
                  ["page", "--pdn", "-n", "2"], ["certify", "--pdn", "-n", "2"], ["mend", "--pdn", "-n", "1"],
                  ["moves", "--pdn", "-n", "2"], ["moves", "--pdn", "-n", "2", "--json"], ["check", "--json"],
                  ["mend", "--pdn", "-n", "1", "--json"], ["solution", "--pdn", "--most", "2"],
@@ -106,6 +107,23 @@ def each_in_turn(folder, words, given, most):
     raise AssertionError("no run without a refusal")
 
 
+def rows_in_turn(folder, words):
+    """Each allocation of a run that writes rows. After a refusal those before it are whole, and each number of rows
+    occurs."""
+    report, counts = whole(words, TOGETHER), set()
+    for number in range(1, 10000):
+        ran, was_refused = refused(folder, number, words, TOGETHER)
+        if not was_refused:
+            assert ran.stdout == report.stdout and counts == set(range(len(POSITIONS))), (words, number, counts)
+            print(f"{' '.join(words)}: {number - 1} allocations, each refused in turn; whole rows", flush=True)
+            return
+        assert (ran.returncode, ran.stderr) == (3, b"dw: stopped: 1 memory, 0 expanded\n"), (words, number, ran)
+        rows = ran.stdout.splitlines(keepends=True)
+        assert rows == report.stdout.splitlines(keepends=True)[: len(rows)], (words, number, ran)
+        counts.add(len(rows))
+    raise AssertionError("no run without a refusal")
+
+
 def show_takes_none(folder):
     one, many = (each_in_turn(folder, ["show"], given, 0) for given in (POSITIONS[0].encode(), TOGETHER))
     assert one == many, (one, many)
@@ -159,6 +177,8 @@ def main():
             desk_in_turn(folder, words)
         each = [position.encode() for position in POSITIONS]
         command_on(folder, ["moves"], [*each, TOGETHER])
+        rows_in_turn(folder, ["show", "--json"])
+        rows_in_turn(folder, ["moves", "--json"])
         for command in ("judge", "list"):
             for memo in MEMOS:
                 chosen = ["--memo", memo, "--cache", "1000"]

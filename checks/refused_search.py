@@ -30,8 +30,7 @@ def crates_of_tests():
 
 def build():
     """Has the launcher build the programs, if they are not there."""
-    environment = os.environ | {"DW_BUILD": " ".join(crates_of_tests())}
-    subprocess.run([TOP / "dw"], env=environment, check=True)
+    subprocess.run([TOP / "build", *crates_of_tests()], check=True)
 
 
 def sections(crate):

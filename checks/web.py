@@ -23,6 +23,9 @@ TOP = pathlib.Path(__file__).resolve().parent.parent
 WEB = TOP / "web"
 PROGRAMS = {"dw": TOP / "dw", "dw-desk": TOP / "dw-desk"}
 SEED, TRACES, SLOW_TRACES = 31, 60, 3
+USAGE = "usage: ./board [FILE], or ./board --all"
+# The numbers of the reasons for which the module's call ends.
+ENDED, REFUSED, FULL, MEMORY, OTHER = range(5)
 PROBLEMS = "W:W27,32:B18\nW:W27,45:B16\nW:W3:B20\nW:W27,32,38:B18\nW:W10,16,48:B13\nB:W43:B24,29\n"
 GAMES = '[Event "a \xe9"] [FEN "W:W27,32:B18"] 1. 32-28 18-22 2. 27x18 2-0\n\n' \
     '[FEN "W:W27,45:B16"]\n1. 45-40 *\n[FEN "x"] *\n'
@@ -34,6 +37,7 @@ COMMANDS = [
     ("dw list -n 2 --after 00", False), ("dw show --board 8", False), ("dw judge -n 2 FILE", False), ("dw", False),
     ("dw --help", False), ("dw list --help", False), ("dw solve", False), ("dw judge", False), ("dw --version", False),
     ("dw-desk find", False), ("dw-desk find --json --most 3", False), ("dw-desk find --each 5", False),
+    ("dw-desk find --json -n 2 --solution", False), ("dw-desk find -n 2 --most 2", False),
     ("dw-desk check", True), ("dw-desk check -n 2 --problem 1-2", True), ("dw-desk solution -n 2", False),
     ("dw-desk solution -n 2 --pdn --lines 1", True), ("dw-desk page -n 2 --lang ru --numbers", False),
     ("dw-desk page --most 2 --pdn --solutions end", True), ("dw-desk certify -n 2", False),
@@ -59,7 +63,7 @@ class Module:
         self.process.stdin.write(line + "\n")
         self.process.stdin.flush()
         said = json.loads(self.process.stdout.readline())
-        self.took = said["took"]
+        self.took, self.reason = said["took"], said["reason"]
         return said["status"], base64.b64decode(said["report"]), said["message"]
 
     def close(self):
@@ -75,12 +79,17 @@ def native(words, text):
 
 
 def check_committed(page):
-    """The page in docs/ is that of its sources, if these are the present ones."""
-    committed, foot = (TOP / "docs" / "board.html").read_bytes(), rb'<p id="version">(.*)</p>'
-    theirs, ours = (re.search(foot, text)[1].decode() for text in (committed, page.read_bytes()))
-    if theirs == ours:
+    """The page in docs/ and the module in package/ are those of the present sources, byte for byte with this kit."""
+    committed, foot = (TOP / "docs" / "board.html").read_bytes(), rb'<p id="version">dw (.*), (.*), sources (.*)</p>'
+    theirs, ours = (re.search(foot, text).groups() for text in (committed, page.read_bytes()))
+    notes = dict(line.split(" ", 1) for line in (TOP / "package" / "dw.wasm.sources").read_text().splitlines())
+    assert theirs[2] == ours[2], "docs/board.html is of other sources: ./board --all"
+    assert (notes["version"], notes["kit"], notes["sources"]) == tuple(part.decode() for part in theirs), notes
+    if theirs[1] == ours[1]:
+        made = (TOP / "crates" / "dw_web" / "out" / "dw_web.wasm").read_bytes()
         assert committed == page.read_bytes(), "docs/board.html: the same sources and toolchain, and other bytes"
-    print(f"docs/board.html: {'as it is made now' if theirs == ours else f'of other sources or tools, {theirs}'}")
+        assert (TOP / "package" / "dw.wasm").read_bytes() == made, "package/dw.wasm is another module than the page's"
+    print("docs/board.html and package/dw.wasm: as they are made now")
 
 
 def check_tools(folder):
@@ -90,7 +99,7 @@ def check_tools(folder):
     for name in ("bash", "dirname", "readlink", "realpath", "rt"):
         (path / name).symlink_to(shutil.which(name))
     for words, said in (([], "wasm-opt is not on the PATH; it is in Debian's package binaryen"),
-                        (["a", "b"], "usage: ./board [FILE]"), (["--help"], "usage: ./board [FILE]")):
+                        (["a", "b"], USAGE), (["--help"], USAGE)):
         ran = subprocess.run([TOP / "board", *words], capture_output=True, text=True, env={"PATH": str(path)},
                              check=False)
         assert (ran.returncode, ran.stdout, ran.stderr) == (3, "", f"board: {said}\n"), ran
@@ -113,12 +122,19 @@ def check_heap(folder):
     print(f"the heap: {TRACES} random traces, and {SLOW_TRACES} under valgrind")
 
 
+def reason_of(status, _, message):
+    """The reason of an end that is neither a full report nor want of memory."""
+    is_ended = status == 0 or status == 1 and not re.search("refused: |cannot open", message)
+    return ENDED if is_ended or "problem refused" in message else REFUSED if status == 2 else OTHER
+
+
 def check_commands(module):
     for line, is_pdn in COMMANDS:
         words = line.split(" ")
         text = (GAMES if is_pdn else PROBLEMS).encode("latin-1")
         wanted = native(words, text)
         assert module.ask(words, text) == wanted, (line, module.ask(words, text), wanted)
+        assert module.reason == reason_of(*wanted), (line, module.reason, wanted)
     print(f"{len(COMMANDS)} commands: report, status and message of the programs")
 
 
@@ -164,6 +180,7 @@ def check_memory(module):
             # A memo that may not grow forgets, and then a certificate lacks a position.
             assert re.fullmatch(rf"{words[0]}: (stopped: 1 memory, \d+ expanded|too many positions, .*)\n", said[2]), \
                 (line, refused, said)
+            assert module.reason == (MEMORY if "1 memory" in said[2] else OTHER), (line, said)
             refusals += 1
     for memory in (0, 1000, 100_000, 1_500_000, 3_000_000):
         status, report, message = module.ask(["dw-desk", "find"], PROBLEMS.encode(), memory=memory)
@@ -185,6 +202,7 @@ def check_room(module):
         for room in {0, 1, len(whole) // 2, len(whole) - 1}:
             said = module.ask(words, text, room=room)
             assert said == (3, whole[:room], f"{words[0]}: write failed\n"), (line, room, said[0], said[2])
+            assert module.reason == FULL, (line, room)
         assert module.ask(words, text, room=len(whole)) == (status, whole, message), line
     print("reports without enough room: a failed write, with the beginning of the report")
 
