@@ -21,7 +21,10 @@ _dw_desk() {
         esac
     done
     case $command in
-        find) options="--board --pdn --problem --most --each --json --memo --cache --progress -h --help" ;;
+        find)
+            options="-n --board --pdn --problem --most --each --json --solution --memo --cache --progress -h"
+            options="$options --help"
+            ;;
         check) options="-n --board --pdn --problem --faults --json --memo --cache --progress -h --help" ;;
         solution) options="-n --board --pdn --problem --most --lines --json --memo --cache --progress -h --help" ;;
         page)

@@ -21,7 +21,7 @@ _dw() {
         esac
     done
     case $command in
-        show | moves) options="--board --pdn --problem -h --help" ;;
+        show | moves) options="--board --pdn --problem --json -h --help" ;;
         judge) options="-n --board --pdn --problem --positions --memo --cache -h --help" ;;
         list) options="-n --board --pdn --problem --positions --memo --cache --lines --after -h --help" ;;
         help) options="" ;;
