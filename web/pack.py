@@ -6,7 +6,8 @@
 MODULE is the WebAssembly module, which is compressed, VERSION the line at the foot of the page. Those scripts that run
 the module stand in package/, the others in js/. They stand one after another in one block, those that others import
 first; the names at their top level have to differ. early.js comes before them, in front of the module. The page's
-policy names the checksums of its scripts and of its style, so that nothing else runs, and nothing is fetched.
+policy names the checksums of its scripts and of its style, so that nothing else runs, and nothing is fetched. Comments
+on lines of their own are left out.
 """
 import base64
 import hashlib
@@ -19,6 +20,8 @@ HERE = pathlib.Path(__file__).resolve().parent
 PACKAGE = HERE.parent / "package"
 IMPORT = re.compile(r"^import \{[^}]*\} from '(?:\./|\.\./\.\./package/)(\w+)\.js';\n", re.MULTILINE)
 DECLARED = re.compile(r"^(?:export )?(?:async )?(?:function\*?|class|const|let) (\w+)", re.MULTILINE)
+# A comment of its own lines.
+COMMENT = re.compile(r"^[ \t]*/\*\*(?:[^*]|\*(?!/))*\*/\n", re.MULTILINE)
 POLICY = "default-src 'none'; script-src '{early}' '{script}' 'wasm-unsafe-eval'; style-src '{style}'; " \
     "worker-src blob:; img-src data:; base-uri 'none'; form-action 'none'"
 
@@ -49,6 +52,7 @@ def bundle(name, call):
             names[declared] = part
         text = IMPORT.sub("", text)
         assert not re.search(r"^import ", text, re.MULTILINE), f"{part}.js: an import of another form"
+        text = COMMENT.sub("", text)
         parts.append(re.sub(r"^export ", "", text, flags=re.MULTILINE).strip())
     script = "'use strict';\n{\n" + "\n".join(parts) + f"\n{call}\n}}\n"
     assert "</script" not in script and "<!--" not in script
