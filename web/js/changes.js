@@ -13,7 +13,7 @@
 const KINDS = { without: 0, with: 1, to: 2, as: 3 };
 
 /** The order of the pieces that are put on one square, and how each is written. */
-const PIECES = /** @type {Piece[]} */ (['w', 'W', 'b', 'B']), WRITTEN = { w: 'W', W: 'WK', b: 'B', B: 'BK' };
+const PUT_ORDER = /** @type {Piece[]} */ (['w', 'W', 'b', 'B']), LETTERS = { w: 'W', W: 'WK', b: 'B', B: 'BK' };
 
 /**
  * The change that makes one position of another.
@@ -39,7 +39,7 @@ export function changeOf(before, after) {
  * @param {Change} b
  */
 export const inOrder = (a, b) => a.kind - b.kind || a.square - b.square || a.to - b.to
-    || PIECES.indexOf(a.piece) - PIECES.indexOf(b.piece);
+    || PUT_ORDER.indexOf(a.piece) - PUT_ORDER.indexOf(b.piece);
 
 /**
  * A change in the language of the page.
@@ -48,7 +48,7 @@ export const inOrder = (a, b) => a.kind - b.kind || a.square - b.square || a.to 
  */
 export function changeText({ kind, square, to, piece }, say) {
     if (kind === KINDS.without) return say('changeWithout', square);
-    if (kind === KINDS.with) return say('changeWith', `${WRITTEN[piece]}${square}`);
+    if (kind === KINDS.with) return say('changeWith', `${LETTERS[piece]}${square}`);
     if (kind === KINDS.to) return say('changeTo', square, to);
     return say(piece === 'W' || piece === 'B' ? 'changeKing' : 'changeMan', square);
 }
