@@ -36,10 +36,7 @@ async function write(stream, bytes) {
                 resolve(error ?? null);
             });
         });
-        if (failed) {
-            stream.on('error', () => {});
-            return false;
-        }
+        if (failed) return false;
     }
     return true;
 }
@@ -117,6 +114,8 @@ async function answerOf(ask, program, words) {
 export async function run(program) {
     const words = process.argv.slice(2), hide = showTime(program);
     let status = 3;
+    // (a write that fails is told by its own call)
+    for (const stream of [process.stdout, process.stderr]) stream.on('error', () => {});
     try {
         const broken = words.find((word) => word.includes('\n'));
         if (broken !== undefined) throw new Ended('an argument has a line feed', 2);

@@ -17,6 +17,9 @@ import { squareCount } from './squares.js';
 /** @type {Readonly<Record<Piece, import('./languages.js').Key>>} */
 const NAMES = { w: 'whiteMan', W: 'whiteKing', b: 'blackMan', B: 'blackKing' };
 
+/** How long a key may be down that follows the link to the board, in milliseconds. */
+const SETTLED = 150;
+
 /** What changes the position on the board, and so rests while a later one is shown. */
 const EDITORS = ['turn', 'rows', 'mirror', 'exchange'];
 
@@ -83,7 +86,8 @@ export class SetUp {
         });
         byId('skip').addEventListener('click', (event) => {
             event.preventDefault();
-            this.view.focus();
+            // (Firefox takes no further Enter for a click if the focus moves before the key goes up)
+            setTimeout(() => this.view.focus(), SETTLED);
         });
         byId('turn').addEventListener('change', () => {
             const turn = control('turn', HTMLSelectElement).value === 'B' ? 'B' : 'W';
