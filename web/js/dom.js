@@ -90,7 +90,7 @@ export function markCards(host, fen) {
 export const breathe = () => new Promise((resolve) => setTimeout(resolve, 0));
 
 /** How long the page may work on at a stretch, in milliseconds. */
-const STRETCH = 20;
+const STRETCH = 12;
 
 /**
  * Does something with each item, and lets the page draw itself in between.

@@ -2,7 +2,7 @@
 import { AnswerView } from './answer_view.js';
 import { App } from './app.js';
 import { Comparing } from './compare.js';
-import { byId, chooseOne, control } from './dom.js';
+import { breathe, byId, chooseOne, control } from './dom.js';
 import { followText } from './fen_field.js';
 import { Improving } from './improve.js';
 import { Store } from './keep.js';
@@ -22,6 +22,7 @@ const USUAL_MOVES = 8;
 /** Compiles the module, once for all workers, and answers what makes a worker that has it. */
 async function makerOfWorkers() {
     const text = (/** @type {string} */ id) => document.getElementById(id)?.textContent ?? '';
+    await breathe();
     const letters = atob(text('module')), packed = new Uint8Array(letters.length);
     for (let i = 0; i < letters.length; i++) packed[i] = letters.charCodeAt(i);
     const stream = new Blob([packed]).stream().pipeThrough(new DecompressionStream('deflate'));
