@@ -395,7 +395,7 @@ def check_files(browser, folder):
     browser.run("Storage.prototype.setItem = () => { throw new Error('not allowed'); }")
     browser.run("t.empty()")
     browser.wait("t.at('#list').dataset.count === '0'", 10)
-    assert browser.run("t.at('#kept').textContent") == NOT_KEPT
+    becomes(browser, "t.at('#kept').textContent", NOT_KEPT)
     browser.click("#tab-solve")
     print(f"{browser.name}: files are opened and dropped; what cannot be kept is told")
 

@@ -193,8 +193,7 @@ def package(room):
 
 
 def main():
-    for name in PROGRAMS:
-        subprocess.run([TOP / name, "--help"], stdout=subprocess.DEVNULL, check=True)  # so that it is built
+    subprocess.run([TOP / "build"], check=True)
     check_libraries()
     with tempfile.TemporaryDirectory(prefix="dw-installing-") as name:
         room = pathlib.Path(name)
