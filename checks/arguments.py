@@ -88,7 +88,7 @@ def run(words, folder):
 
 
 def main():
-    subprocess.run([TOP / "dw", "--help"], stdout=subprocess.DEVNULL, check=True)  # so that it is built
+    subprocess.run([TOP / "build"], check=True)  # so that it is built
     with tempfile.TemporaryDirectory() as name:
         folder = pathlib.Path(name)
         (folder / "three").write_text(THREE)

@@ -58,7 +58,7 @@ def ended(causes, folder):
 def main():
     count = 0
     # Builds the program if it has to be. Memory is refused to the program alone, and not to this.
-    subprocess.run([TOP / "dw", "--help"], stdout=subprocess.DEVNULL, check=True)
+    subprocess.run([TOP / "build"], check=True)
     with tempfile.TemporaryDirectory() as name:
         for causes in [*((cause,) for cause in range(10)), *itertools.combinations(range(10), 2)]:
             if set(causes) in IMPOSSIBLE:

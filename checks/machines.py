@@ -178,7 +178,7 @@ def check(name, folder, process, log, wanted):
 
 def main():
     for name in ("dw", "dw-desk"):
-        subprocess.run([TOP / name, "--help"], stdout=subprocess.DEVNULL, check=True)  # so that it is built
+        subprocess.run([TOP / "build"], check=True)  # so that it is built
     with tempfile.TemporaryDirectory(prefix="dw-machines-") as name, servers(pathlib.Path(name)) as running:
         folder = pathlib.Path(name)
         (folder / "problems.fen").write_text("".join(line + "\n" for line in problems()))

@@ -153,7 +153,7 @@ def hard(folder):
 
 def main():
     for name in ("dw", "dw-desk"):
-        subprocess.run([TOP / name, "--help"], stdout=subprocess.DEVNULL, check=True)  # so that it is built
+        subprocess.run([TOP / "build"], check=True)  # so that it is built
     with tempfile.TemporaryDirectory(prefix="dw-parallel-") as name:
         folder = pathlib.Path(name)
         (folder / "problems.fen").write_text("".join(line + "\n" for line in problems()))

@@ -93,7 +93,7 @@ def check(name, lines, board):
 
 def main():
     count, rng = count_asked(100_000), random.Random(SEED)
-    subprocess.run([TOP / "dw", "--help"], capture_output=True, check=False)  # so that it is built
+    subprocess.run([TOP / "build"], check=True)  # so that it is built
     for board in ("10", "8"):
         check("random bytes", problems(random_bytes, rng, count), board)
         check("random tokens", problems(random_tokens, rng, count), board)
