@@ -23,7 +23,7 @@ from board_page import browsers_asked, call, made_page, open_page
 from draughts import Board, fen
 from wins import drawn
 
-TRIES, MANY, SEARCHED = 5, 1000, 5  # opens of the page, problems of a file, seconds of a search
+TRIES, MANY, SEARCHED = 5, 1000, 5  # times that each is done, problems of a file, seconds of a search
 LONG = "W:W26,28,32,33,34,37,38,39,40,43,48:B8,9,12,13,14,16,18,19,20,24,25"
 # A worker with the module, as the page makes it, that is asked once.
 WORKER = """(async () => {
@@ -80,9 +80,15 @@ def tasks(browser, page, folder):
         browser.run("t.at('#tab-solve').click(); t.set('#most', '20'); t.at('#solve').click()")
         time.sleep(SEARCHED)
         browser.run("t.at('#stop').click()")
-    took = {act.__name__: round(browser.longest_task(act)) for act in (start, listing, search)}
-    browser.run("t.empty()")
-    print(f"{browser.name}: the longest tasks of the page's thread, in milliseconds of the processor: {took}")
+    took = {}
+    for act in (start, listing, search):
+        each = []
+        for _ in range(TRIES):
+            each.append(browser.longest_task(act))
+            browser.run("t.empty()")
+        took[act.__name__] = f"{statistics.median(each):.0f} ({min(each):.0f} to {max(each):.0f})"
+    print(f"{browser.name}: the longest task of the page's thread, in milliseconds of the processor, median and range "
+          f"of {TRIES}: {took}")
 
 
 def pauses(browser, page, folder):

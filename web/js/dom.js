@@ -86,11 +86,17 @@ export function markCards(host, fen) {
     }
 }
 
-/** Waits until the page has drawn itself, so that long work does not hold it up. */
-export const breathe = () => new Promise((resolve) => setTimeout(resolve, 0));
+/** How long the page may work on at a stretch, in milliseconds, and when it drew itself last. */
+const STRETCH = 6;
+let breathed = 0;
 
-/** How long the page may work on at a stretch, in milliseconds. */
-const STRETCH = 12;
+/** Lets the page draw itself. */
+export const breathe = () => new Promise((resolve) => {
+    setTimeout(() => {
+        breathed = performance.now();
+        resolve(null);
+    }, 0);
+});
 
 /**
  * Does something with each item, and lets the page draw itself in between.
@@ -99,12 +105,9 @@ const STRETCH = 12;
  * @param {(item: T) => void} act
  */
 export async function piecewise(items, act) {
-    let begun = performance.now();
     for (const item of items) {
         act(item);
-        if (performance.now() - begun < STRETCH) continue;
-        await breathe();
-        begun = performance.now();
+        if (performance.now() - breathed > STRETCH) await breathe();
     }
 }
 

@@ -19,14 +19,29 @@ import { Workers } from '../../package/workers.js';
 /** How many moves are asked for at first. */
 const USUAL_MOVES = 8;
 
+/** How many letters of the packed module are read at a time. Four of them are three bytes. */
+const PIECE = 131_072;
+
+/**
+ * Writes the bytes of a text in base64, and lets the page draw itself in between.
+ * @param {string} text
+ * @param {WritableStream<BufferSource>} stream
+ */
+async function writeBase64(text, stream) {
+    const writer = stream.getWriter();
+    for (let at = 0; at < text.length; at += PIECE) {
+        await breathe();
+        await writer.write(Uint8Array.from(atob(text.slice(at, at + PIECE)), (letter) => letter.charCodeAt(0)));
+    }
+    await writer.close();
+}
+
 /** Compiles the module, once for all workers, and answers what makes a worker that has it. */
 async function makerOfWorkers() {
-    const text = (/** @type {string} */ id) => document.getElementById(id)?.textContent ?? '';
-    await breathe();
-    const letters = atob(text('module')), packed = new Uint8Array(letters.length);
-    for (let i = 0; i < letters.length; i++) packed[i] = letters.charCodeAt(i);
-    const stream = new Blob([packed]).stream().pipeThrough(new DecompressionStream('deflate'));
-    const module = await WebAssembly.compile(await new Response(stream).arrayBuffer());
+    const text = (/** @type {string} */ id) => document.getElementById(id)?.textContent?.trim() ?? '';
+    const { readable, writable } = new DecompressionStream('deflate');
+    const [bytes] = await Promise.all([new Response(readable).arrayBuffer(), writeBase64(text('module'), writable)]);
+    const module = await WebAssembly.compile(bytes);
     const address = URL.createObjectURL(new Blob([text('worker')], { type: 'text/javascript' }));
     return () => {
         const worker = new Worker(address);
@@ -99,15 +114,18 @@ export async function start() {
     const processors = Math.max(1, navigator.hardwareConcurrency || 2);
     const app = new App(new Workers(maker, processors), new Workers(maker, 2), new Workers(maker, 1));
     chooseLanguage(app, store);
+    await breathe();
     const most = new MovesField(app, 'most'), play = new Play(app), link = new Link(app, store, most);
     new SetUp(app, play);
     followText(app);
+    await breathe();
     const solving = new Solving(app, most);
     new AnswerView(app, solving);
     new Comparing(app);
     new Improving(app, new MovesField(app, 'mend-n'));
     new ListView(app, new Problems(() => localStorage), movesOfList(app, store));
     chooseTab();
+    await breathe();
     speak(app);
     await maker.catch((error) => {
         byId('state').textContent = app.say('failed', String(error));
