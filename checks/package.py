@@ -3,7 +3,7 @@
 
     checks/package.py [--module FILE]
 
-The package is packed and unpacked in an empty folder, without a network, with the module of the present sources. Its
+The package is packed and installed in an empty folder, without a network, with the module of the present sources. Its
 programs write the same bytes, messages and exit statuses as the native ones: on all commands, files, standard input, a
 closed pipe, a full disk, a folder, a missing file. Each call answers the rows that the native programs write, calls run
 side by side, a call is ended, memory is refused, a module is damaged or missing. The types fit an example.
@@ -16,6 +16,8 @@ import json
 import os
 import pathlib
 import random
+import re
+import shlex
 import shutil
 import subprocess
 import tempfile
@@ -26,9 +28,33 @@ from web import COMMANDS, GAMES, PROBLEMS, WORDS
 
 TOP = pathlib.Path(__file__).resolve().parent.parent
 PACKAGE = TOP / "package"
-NOTE = b"\nThis is the program as WebAssembly. It writes its output when it is done, not line by line.\n"
-LARGEST = 1_500_000  # bytes of the package
+NOTE = b"""
+This is the program as WebAssembly. It writes its output when it is done, not line by line. Its progress
+line shows the time alone. Its input has at most 1 GB.
+"""
+LARGEST, MOST_INPUT = 1_500_000, 1_000_000_000  # bytes of the package, and of an input
+ROW = re.compile(r"^\| `([^`]+)` \| `(dw(?:-desk)? [^`]+)` \|$", re.MULTILINE)
 SEED, RANDOM = 5, 60
+# A module in whose place the real one stands: it traps if the arguments have 12 bytes, and else writes nothing.
+TRAPPING = """(module
+  (memory (export "memory") 40)
+  (global $top (mut i64) (i64.const 0))
+  (func (export "web_begin") (param i64 i64) (global.set $top (i64.const 64)))
+  (func (export "web_alloc") (param i64) (result i64)
+    (global.set $top (i64.add (global.get $top) (local.get 0)))
+    (i64.sub (global.get $top) (local.get 0)))
+  (func (export "web_used") (result i64) (global.get $top))
+  (func (export "dw_web_run") (param i64 i64 i64 i64 i64 i64 i64 i64 i64)
+    (if (i64.eq (local.get 1) (i64.const 12)) (then (unreachable)))))
+"""
+TRAPS = """
+import { Desk } from 'dw-draughts';
+
+const desk = await Desk.open({ workers: 1 });
+console.log(await desk.run(['dw', '123456789']).catch((error) => `${error.status} ${error.message}`));
+console.log((await desk.run(['dw'])).status);
+desk.close();
+"""
 EXAMPLE = """
 import { Desk, DeskError, type Judged } from 'dw-draughts';
 
@@ -101,6 +127,12 @@ def native(words, text, **more):
     return ran.returncode, ran.stdout, ran.stderr
 
 
+def sign(folder):
+    """Writes the checksum of the module that lies in a folder beside it."""
+    sum_of = hashlib.sha256((folder / "dw.wasm").read_bytes()).hexdigest()
+    (folder / "dw.wasm.sources").write_text(f"sources x\nmodule sha256 {sum_of}\n")
+
+
 class Installed:
     """The package in a folder of its own."""
 
@@ -108,17 +140,17 @@ class Installed:
         packed = folder / "packed"
         shutil.copytree(PACKAGE, packed, ignore=shutil.ignore_patterns("test"))
         shutil.copy2(module, packed / "dw.wasm")
-        sum_of = hashlib.sha256(module.read_bytes()).hexdigest()
-        (packed / "dw.wasm.sources").write_text(f"sources x\nmodule sha256 {sum_of}\n")
+        sign(packed)
         self.home = folder / "with a blank"
         self.place = self.home / "node_modules" / "dw-draughts"
-        self.place.parent.mkdir(parents=True)
+        self.home.mkdir()
         if shutil.which("npm"):
-            subprocess.run(["npm", "pack", "--offline", "--silent", packed], cwd=folder, check=True,
-                           stdout=subprocess.DEVNULL, env=os.environ | {"HOME": str(folder)})
-            file = next(folder.glob("dw-draughts-*.tgz"))
-            subprocess.run(["tar", "-xzf", file, "-C", folder], check=True)
-            shutil.move(folder / "package", self.place)
+            npm = functools.partial(subprocess.run, check=True, stdout=subprocess.DEVNULL,
+                                    env=os.environ | {"HOME": str(folder)})
+            npm(["npm", "pack", "--offline", "--silent", packed], cwd=folder)
+            (self.home / "package.json").write_text("{}")
+            npm(["npm", "install", "--offline", "--no-audit", "--no-fund", next(folder.glob("dw-draughts-*.tgz"))],
+                cwd=self.home)
         else:
             shutil.copytree(packed, self.place)
 
@@ -159,6 +191,17 @@ def check_programs(made):
     print(f"{count} calls of the programs: report, message and status of the native ones")
 
 
+def check_examples(made):
+    """The answers in examples/, by their commands."""
+    rows = ROW.findall((TOP / "examples/README.md").read_text())
+    for answer, command in rows:
+        program, *words = shlex.split(command)
+        status, out, message = made.run([program, *words], b"", cwd=TOP / "examples")
+        assert (out, message) == ((TOP / "examples" / answer).read_bytes(), b"") and status <= 1, (command, message)
+    assert len(rows) > 10, rows
+    print(f"{len(rows)} answers in examples/")
+
+
 def check_streams(made, folder):
     """Files, folders, a missing file, a pipe that closes, a disk that is full."""
     file = folder / "some problems.fen"
@@ -181,7 +224,15 @@ def check_streams(made, folder):
         assert (ran.returncode, ran.stderr) == (3, b"dw: write failed\n"), (program, ran)
     words = ["dw", "show", str(many)]
     assert made.run(words, b"") == native(words, b""), "several megabytes"
-    print("files, folders, a missing file, a closed pipe, a full disk, several megabytes: as the native programs")
+    with many.open("wb") as file:
+        file.truncate(MOST_INPUT + 1)
+    told = (3, b"", f"dw: the input has more than {MOST_INPUT} bytes\n".encode())
+    assert made.run(["dw", "show", many], b"") == told
+    with many.open("rb") as file:
+        ran = subprocess.run(["node", made.place / "bin/dw.js", "show"], stdin=file, capture_output=True, check=False)
+    assert (ran.returncode, ran.stdout, ran.stderr) == told, ran
+    print("files, folders, a missing file, a closed pipe, a full disk, several megabytes: as the native programs; "
+          "more than 1 GB: told")
 
 
 def check_calls(made):
@@ -246,8 +297,20 @@ def check_damage(made):
     status, out, message = made.run(["dw", "show"], b"W:W27:B18\n")
     assert (status, out) == (3, b""), (status, out)
     assert message.startswith(b"dw: the module failed: ") and b"dw.wasm" in message, message
-    module.write_bytes(bytes_of)
     print("a module that is damaged or missing: told, with status 3")
+
+
+def check_trap(made):
+    """A module that traps is told, and the next call works."""
+    text = made.home / "trapping.wat"
+    text.write_text(TRAPPING)
+    subprocess.run(["wasm-as", text, "-o", made.place / "dw.wasm"], check=True)
+    sign(made.place)
+    said = made.script(TRAPS).splitlines()
+    assert said == ["3 the module failed: RuntimeError: unreachable", "0"], said
+    status, out, message = made.run(["dw", "123456789"], b"")
+    assert (status, out, message) == (3, b"", b"dw: the module failed: RuntimeError: unreachable\n"), message
+    print("a trap in the module: told, with status 3, and the next call works")
 
 
 def main():
@@ -259,11 +322,13 @@ def main():
         made = Installed(folder, given.module)
         check_size(made)
         check_programs(made)
+        check_examples(made)
         check_streams(made, folder)
         check_calls(made)
         check_types(made)
         check_page(made)
         check_damage(made)
+        check_trap(made)
 
 
 if __name__ == "__main__":

@@ -1,17 +1,18 @@
 /** A program under node: arguments, a file or standard input, standard output and error, the exit status. */
-import { closeSync, openSync, readFileSync } from 'node:fs';
-import { bytesOf, REASON } from '../engine.js';
+import { closeSync, fstatSync, openSync, readFileSync } from 'node:fs';
+import { REASON } from '../engine.js';
 import { compiled, makerOf } from '../module.js';
 import { Workers } from '../workers.js';
 
 /** How many bytes go out at a time, and how soon and how often the time is shown, in milliseconds. */
 const PIECE = 65_536, SOON = 500, TICK = 100;
 
-/** The most bytes of input. */
-const LARGEST = 1_000_000_000;
+/** The most bytes of input, and of memory: a module has addresses for no more. */
+const LARGEST = 1_000_000_000, MOST = 4_000_000_000;
 
 /** What `--help` says at its end. */
-const NOTE = '\nThis is the program as WebAssembly. It writes its output when it is done, not line by line.\n';
+const NOTE = '\nThis is the program as WebAssembly. It writes its output when it is done, not line by line. Its progress\n'
+    + 'line shows the time alone. Its input has at most 1 GB.\n';
 
 /** Whether words ask for help, and not for an answer. */
 const asksForHelp = (words) => words[0] === 'help' || words.some((word) => word === '--help' || word === '-h');
@@ -41,13 +42,15 @@ async function write(stream, bytes) {
     return true;
 }
 
+const tooLarge = () => new Ended(`the input has more than ${LARGEST} bytes`, 3);
+
 /** All bytes of standard input. */
 async function standardInput() {
     const pieces = [];
     let size = 0;
     for await (const piece of process.stdin) {
         size += piece.length;
-        if (size > LARGEST) throw new Ended(`the input has more than ${LARGEST} bytes`, 3);
+        if (size > LARGEST) throw tooLarge();
         pieces.push(piece);
     }
     return Buffer.concat(pieces, size);
@@ -62,10 +65,10 @@ function contentOf(name) {
         throw new Ended(`cannot open ${name}`, 3);
     }
     try {
+        if (fstatSync(file).size > LARGEST) throw tooLarge();
         return readFileSync(file);
     } catch (error) {
-        const isLarge = error.code === 'ERR_FS_FILE_TOO_LARGE';
-        throw new Ended(isLarge ? `the input has more than ${LARGEST} bytes` : 'read failed', 3);
+        throw error instanceof Ended ? error : new Ended('read failed', 3);
     } finally {
         closeSync(file);
     }
@@ -108,6 +111,16 @@ async function answerOf(ask, program, words) {
 }
 
 /**
+ * What goes to standard output. A report without room for its end stops after a line.
+ * @param {import('../engine.js').Answer} answer
+ * @param {string[]} words
+ */
+function reportOf({ reason, report }, words) {
+    if (reason === REASON.full) return report.subarray(0, report.lastIndexOf(10) + 1);
+    return reason === REASON.ended && asksForHelp(words) ? Buffer.concat([report, Buffer.from(NOTE)]) : report;
+}
+
+/**
  * Runs a program, and ends the process.
  * @param {'dw' | 'dw-desk'} program
  */
@@ -120,13 +133,12 @@ export async function run(program) {
         const broken = words.find((word) => word.includes('\n'));
         if (broken !== undefined) throw new Ended('an argument has a line feed', 2);
         const maker = await makerOf(await compiled());
-        const workers = new Workers(Promise.resolve(maker), 1);
+        const workers = new Workers(Promise.resolve(maker), 1, MOST);
         const answer = await answerOf(workers.ask.bind(workers), program, words);
         hide();
         status = answer.status;
-        const isHelp = answer.reason === REASON.ended && asksForHelp(words);
-        const report = isHelp ? Buffer.concat([bytesOf(answer), Buffer.from(NOTE)]) : answer.report;
-        if (!await write(process.stdout, report)) throw new Ended('write failed', 3);
+        if (!await write(process.stdout, reportOf(answer, words))) throw new Ended('write failed', 3);
+        if (answer.reason === REASON.full) throw new Ended('the report is too large for the module', 3);
         await write(process.stderr, Buffer.from(answer.message));
     } catch (error) {
         hide();
