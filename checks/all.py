@@ -71,6 +71,7 @@ CHECKS = [
     Check("refused_search"),
     Check("perft"),
     Check("installing"),
+    Check("first_answer"),
     Check("gate"),
     Check("options"),
     Check("docs"),
@@ -84,6 +85,7 @@ CHECKS = [
     Check("board_truth", slow=("--count", "1000"), page=True),
     Check("board_ways", page=True),
     Check("package", page=True),
+    Check("c_library", page=True),
     Check("web", slow=("--count", "1500"), page=True),
 ]
 # What is no check of this repository, but for whom reads what the programs write.

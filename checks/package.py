@@ -103,6 +103,7 @@ say((await desk.find(fen))[0].n);
 const small = await Desk.open({ workers: 1, memory: 3_000_000 });
 say(await small.find(hard, { most: 20 }).catch((error) => [error.status, error.message]));
 say(await small.show(fen));
+say(await small.show(Array(40_000).fill(fen)).catch((error) => [error.status, error.message]));
 small.close();
 desk.close();
 """
@@ -254,8 +255,9 @@ def check_calls(made):
         "AbortError", [True, 2], 2,
     ]
     assert said[:len(wanted)] == wanted, [pair for pair in zip(said, wanted) if pair[0] != pair[1]][:1]
-    refused, shown = said[len(wanted):]
+    refused, shown, large = said[len(wanted):]
     assert refused[0] == 3 and "memory" in refused[1] and shown == [{"problem": 1, "fen": "W:W27,32:B18"}], refused
+    assert large == [3, "the report is too large: open with more memory"], large
     print(f"{len(said)} calls from JavaScript, side by side, ended, without memory")
 
 

@@ -54,16 +54,18 @@ export class Engine {
     }
 
     /**
-     * Runs a program. A report for which there was no room is asked for again, with more.
+     * Runs a program. A report for which there was no room is asked for again, with more, up to an eighth of the
+     * memory.
      * @param {string[]} words The arguments, the program's name first.
      * @param {string | Uint8Array} input Its standard input.
      * @param {number} [memory] How many bytes of memory it may take.
      * @returns {Answer}
      */
     run(words, input, memory = MEMORY) {
-        for (let room = REPORT; ; room *= 8) {
+        const most = Math.max(REPORT, Math.floor(memory / 8));
+        for (let room = REPORT; ; room = Math.min(room * 8, most)) {
             const answer = this.attempt(words, input, { memory, room });
-            if (answer.reason !== REASON.full || room * 16 > memory) return answer;
+            if (answer.reason !== REASON.full || room === most) return answer;
         }
     }
 

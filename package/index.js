@@ -84,6 +84,7 @@ export class Desk {
     /** The report of a call that came to its end. */
     async #report(words, problems, signal) {
         const { status, reason, report, message } = await this.run(words, inputOf(problems), { signal });
+        if (reason === REASON.full) throw new DeskError('the report is too large: open with more memory', status);
         if (reason !== REASON.ended || message) throw new DeskError(message.trim(), status);
         return report;
     }
