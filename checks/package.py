@@ -302,6 +302,17 @@ def check_damage(made):
     print("a module that is damaged or missing: told, with status 3")
 
 
+def check_old_node(made):
+    """A node that is too old is told."""
+    old = "Object.defineProperty(process, 'versions', { value: { ...process.versions, node: '16.20.0' } });"
+    for program in ("dw", "dw-desk"):
+        place = (made.place / "bin" / f"{program}.js").as_uri()
+        ran = subprocess.run(["node", "-e", f"{old} import({json.dumps(place)})"], capture_output=True, check=False)
+        told = f"{program}: node 18 or newer is needed; this is node 16.20.0\n"
+        assert (ran.returncode, ran.stdout, ran.stderr) == (3, b"", told.encode()), ran
+    print("a node too old: told, with status 3")
+
+
 def check_trap(made):
     """A module that traps is told, and the next call works."""
     text = made.home / "trapping.wat"
@@ -329,6 +340,7 @@ def main():
         check_calls(made)
         check_types(made)
         check_page(made)
+        check_old_node(made)
         check_damage(made)
         check_trap(made)
 

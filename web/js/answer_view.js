@@ -128,7 +128,8 @@ export class AnswerView {
      * @param {Found} found
      */
     sentence({ position }, { verdict, n, keys, shortest }) {
-        const { app } = this, side = app.say(position.turn === 'W' ? 'white' : 'black'), moves = keys.join(', ');
+        const { app } = this, moves = keys.join(', ');
+        const side = app.say(position.turn === 'W' ? 'whiteWithin' : 'blackWithin');
         if (verdict === 'sound') return app.say('saySound', side, n, moves);
         if (verdict === 'dual') return app.say('sayDual', side, n, moves);
         if (verdict === 'unsolvable') return app.say('sayUnsolvable', side, n);

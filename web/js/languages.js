@@ -27,14 +27,27 @@ export function languageOf(wanted) {
 }
 
 /**
- * A text, with its marks `#` filled in order.
+ * The form of a word behind a number: of `zet|zetten` or `ход|хода|ходов`, from one to many.
+ * @param {Language} language
+ * @param {string | number} number
+ * @param {string[]} forms
+ */
+function formOf(language, number, forms) {
+    const kind = new Intl.PluralRules(language).select(Number(String(number).replace(/\D/g, '')));
+    const place = kind === 'one' ? 0 : kind === 'few' ? 1 : 2;
+    return forms[Math.min(place, forms.length - 1)];
+}
+
+/**
+ * A text, with its marks `#` filled in order. Of the words in braces, which follow a number, one stays.
  * @param {Language} language
  * @param {Key} key
  * @param {(string | number)[]} values
  */
 export function textIn(language, key, ...values) {
     let at = 0;
-    return TEXTS[key][LANGUAGES.indexOf(language)].replace(/#/g, () => String(values[at++] ?? ''));
+    return TEXTS[key][LANGUAGES.indexOf(language)].replace(/#|\{([^}]*)\}/g, (_, forms) =>
+        (forms ? formOf(language, values[at - 1] ?? 0, forms.split('|')) : String(values[at++] ?? '')));
 }
 
 /**

@@ -12,7 +12,12 @@ test('each text is there in each language, with the same marks', () => {
         assert.ok(texts.every((text) => text.length > 0), key);
         assert.equal(new Set(marks).size, 1, key);
     }
-    assert.equal(textIn('nl', 'winsIn', 3), 'wint in 3');
+    assert.equal(textIn('nl', 'winsIn', 3), 'wint in 3 zetten');
+    assert.equal(textIn('en', 'listState', 1, 0), '1 problem, 0 judged');
+    assert.equal(textIn('fr', 'listState', 2, 1), '2 problèmes, 1 jugé');
+    for (const [count, word] of [['1', 'позиция'], ['22', 'позиции'], ['1 011', 'позиций'], ['1 021', 'позиция']]) {
+        assert.equal(textIn('ru', 'expanded', count), `${count} ${word}`);
+    }
     assert.equal(keyOf('nothing'), null);
     assert.equal(keyOf('stop'), 'stop');
 });
