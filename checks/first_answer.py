@@ -65,8 +65,9 @@ def main():
         assert not left.stdout, left.stdout
         ran, _ = ask(clone, tools(folder / "fewer tools", NODE), before)
         assert (ran.returncode, ran.stdout) == (3, b"") and NEEDED.fullmatch(ran.stderr), ran
-    print(f"a fresh clone without toolchain{' and network' if before else ''}: answers after "
-          f"{statistics.median(took):.2f} s, at most {max(took):.2f} s, {given.times} times; load {os.getloadavg()[0]:.1f}")
+    told = f"{statistics.median(took):.2f} s, at most {max(took):.2f} s, {given.times} times"
+    network = " and network" if before else ""
+    print(f"a fresh clone without toolchain{network}: answers after {told}; load {os.getloadavg()[0]:.1f}")
 
 
 if __name__ == "__main__":
