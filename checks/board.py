@@ -320,10 +320,10 @@ def check_tools(browser, page):
     browser.click('[data-piece-choice=""]')
     browser.click('[data-square="18"]')
     browser.wait("t.at('#fen').value === 'W:W27,32:B'", 10)
-    number = "getComputedStyle(t.at('[data-square=\"27\"] .number')).display"
-    assert browser.run(number) == "block"
+    number = "getComputedStyle(t.at('[data-square=\"{}\"] .number')).display"
+    assert [browser.run(number.format(square)) for square in (18, 27)] == ["block", "none"], "below a piece, no number"
     browser.click("#numbers")
-    assert browser.run(number) == "none"
+    assert browser.run(number.format(18)) == "none"
     browser.run("t.set('#language', 'nl')")
     open_page(browser, page)
     assert browser.run("[document.documentElement.lang, t.at('#language').value]") == ["nl", "nl"]
