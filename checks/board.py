@@ -187,6 +187,22 @@ def check_texts(browser):
     print(f"{browser.name}: {len(FAULTS)} FEN texts with a fault, {len(READ)} without")
 
 
+def check_paste(browser):
+    """A link, a game and an address of another site are pasted into the field of the FEN text."""
+    fen = "W:W27,32:B18"
+    for text in (f"https://other.example/editor/{fen}:H0:F1", f"file:///board.html#fen={fen}&n=3",
+                 f'[Event "x"]\n[FEN "{fen}"]\n\n1. 32-28 18-22 *'):
+        browser.run(call("place", 10, "B", of_fen("B:W50:B1")))
+        browser.run(f"""(() => {{
+            const event = new Event('paste', {{ bubbles: true, cancelable: true }});
+            Object.defineProperty(event, 'clipboardData', {{ value: {{ getData: () => {json.dumps(text)} }} }});
+            t.at('#fen').dispatchEvent(event);
+        }})()""")
+        browser.wait(f"t.at('#fen').dataset.read === '{fen}' && t.at('#turn').value === 'W'", 10)
+    assert browser.run("t.at('#movetext').value") == "1. 32-28 18-22 *"
+    print(f"{browser.name}: a link, a game and another site's address, pasted")
+
+
 def check_hands(browser):
     """Mouse and finger: dragging, dragging off, right clicks; undo and redo; the tools of the board."""
     browser.run(call("place", 10, "W", of_fen("W:W27,32:B18")))
@@ -682,6 +698,7 @@ def main():
                 check_rows(browser)
                 check_firsts(browser)
                 check_texts(browser)
+                check_paste(browser)
                 check_hands(browser)
                 check_keys(browser)
                 check_play(browser, source)

@@ -2,6 +2,7 @@
 import { faultOf } from './answers.js';
 import { byId, control, make } from './dom.js';
 import { keyOf } from './languages.js';
+import { pasted } from './pasted.js';
 import { isSame, positionOf } from './position.js';
 import { squareCount } from './squares.js';
 
@@ -9,6 +10,16 @@ import { squareCount } from './squares.js';
 
 /** How long the page waits for more of a FEN text, in milliseconds. */
 const PATIENCE = 120;
+
+/**
+ * Puts a text into a field, as if it had been typed.
+ * @param {HTMLInputElement | HTMLTextAreaElement} field
+ * @param {string} text
+ */
+function put(field, text) {
+    field.value = text;
+    field.dispatchEvent(new Event('input'));
+}
 
 /**
  * Brings the field to life.
@@ -55,6 +66,13 @@ export function followText(app) {
         isTyping = isPending = true;
         clearTimeout(timer);
         timer = window.setTimeout(() => readNow(field.value), PATIENCE);
+    });
+    field.addEventListener('paste', (event) => {
+        const text = event.clipboardData?.getData('text') ?? '', { fen, movetext } = pasted(text);
+        if (fen === text) return;
+        event.preventDefault();
+        put(field, fen);
+        if (movetext) put(control('movetext', HTMLTextAreaElement), movetext);
     });
     field.addEventListener('keydown', ({ key }) => {
         if (key === 'Enter' && isPending) readNow(field.value);

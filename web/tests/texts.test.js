@@ -3,6 +3,7 @@ import test from 'node:test';
 import { byBoard, chosen, decided, isOpen, stateOf, titleOf } from '../js/collection.js';
 import { addressIn, addressOf, Store } from '../js/keep.js';
 import { KEYS, keyOf, languageOf, LANGUAGES, textIn } from '../js/languages.js';
+import { pasted } from '../js/pasted.js';
 import { closed, commentsOf, gameOf, hasMoves, resultOf, sectionsOf, tagLine, valueOf } from '../js/pdn.js';
 
 test('each text is there in each language, with the same marks', () => {
@@ -20,6 +21,19 @@ test('each text is there in each language, with the same marks', () => {
     }
     assert.equal(keyOf('nothing'), null);
     assert.equal(keyOf('stop'), 'stop');
+});
+
+test('a position is found in what is pasted', () => {
+    const fen = 'W:W27,32:B18', game = `[Event "x"]\n\n1. 2-0\n\n[fen "${fen}:H3:F10"]\n1. 32-28 18-22 *`;
+    for (const text of [fen, ` ${fen}\n`, `${fen}:H0:F1`, `file:///home/board.html#fen=${encodeURIComponent(fen)}&n=2`,
+        `https://lidraughts.org/editor/${fen}:H0:F1`, `https://x.org/?fen=${encodeURIComponent(fen)}&a=b`]) {
+        assert.deepEqual(pasted(text), { fen, movetext: '' }, text);
+    }
+    assert.deepEqual(pasted(game), { fen, movetext: '1. 32-28 18-22 *' });
+    assert.deepEqual(pasted(`[FEN "${fen}"] *`), { fen, movetext: '' });
+    for (const text of ['', ',33', ' 33', ':F1', 'https://x.org/', 'https://x.org/%', '[Event "x"] 1. 32-28']) {
+        assert.equal(pasted(text).fen.trim(), text.trim(), text);
+    }
 });
 
 test('the language of the browser comes first', () => {
