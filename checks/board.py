@@ -352,6 +352,10 @@ def check_answer(browser):
     """Each move of an answer is played by a click; a solution folds, and has a certificate."""
     browser.run(call("read", "W:W27,45:B16"))
     browser.run(call("solve", 5))
+    browser.click("#answer summary")
+    line = "[t.at('#answer details').open, t.at('#about').textContent === t.at('#verdict').dataset.line]"
+    assert browser.run(line) == [True, True], "the program's own line"
+    browser.click("#answer summary")
     for place, wanted in ((0, "B:W21,45:B16"), (1, "W:W45:B27")):
         browser.click(f"#tries li .move:nth-of-type({place + 1})")
         browser.wait(f"t.at('#fen').value === {json.dumps(wanted)}", 10)

@@ -93,6 +93,7 @@ export const ANSWER_WORDS = {
         'Le choix vient après # :',
         'Выбор возникает после #:',
     ],
+    asWritten: ['As dw writes it', 'Zoals dw het schrijft', 'Tel que dw l’écrit', 'Как это пишет dw'],
     tries: ['Tries', 'Schijnoplossingen', 'Essais', 'Ложные следы'],
     refutedBy: ['refuted by', 'weerlegd door', 'réfuté par', 'опровергается ходом'],
     winsIn: ['wins in #', 'wint in # {zet|zetten}', 'gagne en # temps', 'выигрывает в # {ход|хода|ходов}'],
