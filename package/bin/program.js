@@ -1,5 +1,6 @@
 /** A program under node: arguments, a file or standard input, standard output and error, the exit status. */
 import { closeSync, fstatSync, openSync, readFileSync } from 'node:fs';
+import { setFlagsFromString } from 'node:v8';
 import { REASON } from '../engine.js';
 import { compiled, makerOf } from '../module.js';
 import { Workers } from '../workers.js';
@@ -9,6 +10,9 @@ const PIECE = 65_536, SOON = 500, TICK = 100;
 
 /** The most bytes of input, and of memory: a module has addresses for no more. */
 const LARGEST = 1_000_000_000, MOST = 4_000_000_000;
+
+/** Has node compile well only what runs for long: else that takes longer than a short search. */
+const PATIENT = '--wasm-tiering-budget=20000000';
 
 /** What `--help` says at its end. */
 const NOTE = '\nThis is the program as WebAssembly. It writes its output when it is done, not line by line. Its progress\n'
@@ -132,6 +136,7 @@ export async function run(program) {
     try {
         const broken = words.find((word) => word.includes('\n'));
         if (broken !== undefined) throw new Ended('an argument has a line feed', 2);
+        setFlagsFromString(PATIENT);
         const maker = await makerOf(await compiled());
         const workers = new Workers(Promise.resolve(maker), 1, MOST);
         const answer = await answerOf(workers.ask.bind(workers), program, words);
