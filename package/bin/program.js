@@ -11,8 +11,11 @@ const PIECE = 65_536, SOON = 500, TICK = 100;
 /** The most bytes of input, and of memory: a module has addresses for no more. */
 const LARGEST = 1_000_000_000, MOST = 4_000_000_000;
 
-/** Has node compile well only what runs for long: else that takes longer than a short search. */
-const PATIENT = '--wasm-tiering-budget=20000000';
+/**
+ * Has node compile well only what runs for long, which otherwise takes longer than a short search. Its versions are
+ * known to have this option up to one.
+ */
+const PATIENT = '--wasm-tiering-budget=20000000', LAST_PATIENT = 24;
 
 /** What `--help` says at its end. */
 const NOTE = '\nThis is the program as WebAssembly. It writes its output when it is done, not line by line. Its progress\n'
@@ -136,7 +139,7 @@ export async function run(program) {
     try {
         const broken = words.find((word) => word.includes('\n'));
         if (broken !== undefined) throw new Ended('an argument has a line feed', 2);
-        setFlagsFromString(PATIENT);
+        if (parseInt(process.versions.node, 10) <= LAST_PATIENT) setFlagsFromString(PATIENT);
         const maker = await makerOf(await compiled());
         const workers = new Workers(Promise.resolve(maker), 1, MOST);
         const answer = await answerOf(workers.ask.bind(workers), program, words);
