@@ -368,7 +368,7 @@ def way_eight(browser, page):
     assert browser.run("location.hash") == "#fen=W:W22,30:B14&n=8&rows=8", browser.run("location.hash")
     browser.click("#tab-collection")
     reads(browser, "#drop-rows", "8 × 8")
-    browser.click("summary")
+    browser.click("#add summary")
     browser.click("#add-go")
     browser.wait("document.querySelector('#list').dataset.count === '1'", 20)
     browser.click("#save-page")

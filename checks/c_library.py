@@ -8,7 +8,7 @@ import subprocess
 import tempfile
 
 TOP = pathlib.Path(__file__).resolve().parent.parent
-EXAMPLE = TOP / "examples/c"
+EXAMPLE = TOP / "examples"
 PROBLEMS = ["W:W27,32,38:B18\n", "W:W27,32:B18\nW:W3:B20\n", "W:W1:B20\n", ""]
 
 
