@@ -261,6 +261,16 @@ def check_calls(made):
     print(f"{len(said)} calls from JavaScript, side by side, ended, without memory")
 
 
+def check_readme(made):
+    """The example of the package's own text, in node."""
+    text = (made.place / "README.md").read_text()
+    script = re.search(r"^    (import .*\n(?:    .*\n)+)", text, re.MULTILINE)[1].replace("\n    ", "\n")
+    lines = made.script(script).splitlines()
+    listed = native(["dw", "list", "-n", "2"], b"W:W27,32:B18\n")[1].decode().splitlines()[1:-1]
+    assert lines == [re.search(r"// (.*)", script)[1], *listed], lines
+    print(f"the example of its README: {len(lines)} lines")
+
+
 def check_types(made):
     """An example in TypeScript."""
     (made.home / "example.mts").write_text(EXAMPLE)
@@ -338,6 +348,7 @@ def main():
         check_examples(made)
         check_streams(made, folder)
         check_calls(made)
+        check_readme(made)
         check_types(made)
         check_page(made)
         check_old_node(made)
