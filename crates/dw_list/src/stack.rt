@@ -1,7 +1,7 @@
 //! The stack of a lister: the levels of the line at which it stands.
 ghost use Rattle.std.specs.Prelude.{◌≡◌, ◌≤◌, ◌<◌, ◌+◌, ◌*◌, List, [], ◌∷◌, ◌++◌, drop, take, reverse, length};
-ghost use Rattle.std.specs.Prelude.{IfOk, OnErr, max, not, true};
-ghost use Rattle.dw_moves.specs.Moves.{Legal, play};
+ghost use Rattle.std.specs.Prelude.{IfOk, OnErr, max, not, true, false};
+ghost use Rattle.dw_moves.specs.Moves.{Legal, NoMove, play};
 ghost use Rattle.dw_list.specs.inner.Ways.{left_after};
 ghost use Rattle.dw_list.specs.LineStack.{Level};
 ghost use Rattle.dw_list.specs.inner.Steps.{begun, passed};
@@ -141,6 +141,7 @@ impl<B: Board> Stack<B> {
     }
 
     /// Returns the next thing to do.
+    #[inline(always)]
     pub(crate) fn task(&self) -> Task<B>
         ensures { IsTask B.geometry self.now.levels result }
     {
@@ -179,6 +180,7 @@ impl<B: Board> Stack<B> {
 
     /// Goes on with a move, which must be the first one ahead at the last level, and keep a win if it is the
     /// attacker's.
+    #[inline(always)]
     pub(crate) fn enter(&mut self, candidate: &Candidate<B>)
         requires first { IsCandidate B.geometry self.old.levels candidate.now }
         requires keeps { Keeps B.geometry candidate.now.attacks candidate.now.after candidate.now.left }
@@ -210,8 +212,8 @@ impl<B: Board> Stack<B> {
     }
 }
 
-/// Lists the moves of the last of `depth` frames, and returns whether a line ends there. If out of memory, it changes
-/// nothing.
+/// Lists the moves of the last of `depth` frames, and returns whether a line ends there. The defender must have none if
+/// the attacker has no moves left. If out of memory, it changes nothing.
 fn list_last<B: Board>(
     alloc: Global,
     frames: &mut ArrayVec<Frame<B>, LEVELS>,
@@ -219,6 +221,8 @@ fn list_last<B: Board>(
 ) -> Result<bool, AllocError>
     requires some { 1 ≤ depth }
     requires within { depth ≤ length frames.old.items }
+    requires over { (outer : List Level) (f : Level) → take depth frames.old.items ≡ outer ++ f ∷ [] → f.attacks ≡ false
+        → f.left ≡ 0 → NoMove B.geometry f.position }
     ensures listed { IfOk result (λ is_end.
         IsListedLast B.geometry (take depth frames.old.items) (take depth frames.new.items) is_end) }
     ensures len { length frames.new.items ≡ length frames.old.items }
@@ -231,6 +235,7 @@ fn list_last<B: Board>(
 }
 
 /// Passes the first move ahead at the last of `depth` frames.
+#[inline(always)]
 fn pass_last<B: Board>(frames: &mut ArrayVec<Frame<B>, LEVELS>, depth: usize)
     requires some { 1 ≤ depth }
     requires within { depth ≤ length frames.old.items }
@@ -243,6 +248,7 @@ fn pass_last<B: Board>(frames: &mut ArrayVec<Frame<B>, LEVELS>, depth: usize)
 }
 
 /// Begins the frame after the first `depth` ones, whose moves are not listed.
+#[inline(always)]
 fn begin_next<B: Board>(
     frames: &mut ArrayVec<Frame<B>, LEVELS>,
     depth: usize,
@@ -265,6 +271,7 @@ fn begin_next<B: Board>(
 }
 
 /// Returns the position after a move of a level, and whose the move is.
+#[inline(always)]
 fn candidate_of<B: Board>(frame: &Frame<B>, mv: Move<B>) -> Candidate<B>
     requires { Legal B.geometry frame.now.position mv }
     ensures mv { result.mv ≡ mv }
