@@ -2,15 +2,15 @@
 use Rattle.std.proofs.Common.{◌≡◌, ℕ, ◌+◌, ◌-◌, ◌*◌, ◌≤◌, ◌↔◌, zero, suc, Bool, true, false, Some, None, Option, List}
 use Rattle.std.proofs.Common.{[], ◌∷◌, ◌++◌, length, drop, take, get_or, reverse, refl, sym, ap, ◌∙◌, subst, arith}
 use Rattle.std.proofs.Common.{IsTrue, length-append}
-use Rattle.std.specs.Prelude.{not, IsSome, option_to_list, ◌==◌}
-use Rattle.std.proofs.lemmas.List.{reverse-append, reverse-reverse, length-reverse, length-take-le, take_more, take-take}
-use Rattle.std.proofs.lemmas.Bool.{true≢false}
+use Rattle.std.specs.Prelude.{not, IsSome}
+use Rattle.std.proofs.lemmas.List.{reverse-append, reverse-reverse, length-reverse, length-take-le}
+use Rattle.std.proofs.lemmas.List.{take_more, take-take}
 use Rattle.dw_board.specs.Geometry.{Geometry}
 use Rattle.dw_board.specs.Placement.{Placement}
 use Rattle.dw_moves.specs.Moves.{Move, play}
 use Rattle.dw_list.specs.inner.Ways.{left_after, Keeps}
 use Rattle.dw_list.specs.LineStack.{Level, LineStack}
-use Rattle.dw_list.specs.inner.Levels.{AreLevels, IsFew}
+use Rattle.dw_list.specs.inner.Levels.{AreLevels}
 use Rattle.dw_list.specs.declared.stack.Candidate.{Candidate}
 use Rattle.dw_list.specs.inner.Tasks.{IsCandidate, IsListedLast}
 use Rattle.dw_list.specs.inner.Steps.{begun, first_ahead, passed, passed_last, IsListing}

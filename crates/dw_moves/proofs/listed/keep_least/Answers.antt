@@ -44,8 +44,8 @@ returns-then-is_less g c =
     let less = subst (LexLess path) (c.as_slice-2.ensures.value ∙ ap (λ (x : Listed). x.path) c.kept.view_is)
     (c.is_less.ensures.0 c.if-is_less.true) in
     let l : Listed = record { step = c.args.mv; path = path } in
-    subst (λ z. TakenIn l list (set list place (record { step = c.args.mv; path = z }))) (sym c.copied-then-is_less.ensures)
-    (taken_less list place k l low c.index-kept.ensures same less)
+    subst (λ z. TakenIn l list (set list place (record { step = c.args.mv; path = z })))
+    (sym c.copied-then-is_less.ensures) (taken_less list place k l low c.index-kept.ensures same less)
 
 pub returns-else-is_less : goal.returns-else-is_less
 returns-else-is_less g c =

@@ -1,4 +1,4 @@
-use Rattle.std.proofs.Common.{◌∙◌, ◌++◌, ◌∷◌, [], ap, sym, subst, take, length, reverse, arith, lit<}
+use Rattle.std.proofs.Common.{◌∙◌, ◌++◌, ◌∷◌, [], ap, sym, subst, take, reverse, arith, lit<}
 use Rattle.std.proofs.lemmas.List.{length-reverse, length-take-le}
 use Rattle.dw_list.specs.LineStack.{LineStack}
 use Rattle.std.specs.Prelude.{not}

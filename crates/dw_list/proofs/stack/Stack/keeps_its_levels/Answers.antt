@@ -1,4 +1,4 @@
-use Rattle.std.proofs.Common.{◌≤◌, ◌*◌, ap, take, length, reverse, subst, arith}
+use Rattle.std.proofs.Common.{◌≤◌, ◌*◌, take, length, subst, arith}
 use Rattle.std.proofs.lemmas.List.{length-reverse, length-take-le}
 use Rattle.dw_list.specs.LineStack.{LineStack}
 use Rattle.dw_list.proofs.StackViewLemmas.{seen_levels}

@@ -4,7 +4,7 @@ use Rattle.std.proofs.lemmas.Result.{IfOk-weaker}
 use Rattle.dw_list.specs.LineStack.{LineStack}
 use Rattle.dw_list.specs.inner.Levels.{AreLevels}
 use Rattle.dw_list.proofs.StackLemmas.{none_left}
-use Rattle.dw_list.proofs.StackViewLemmas.{end_first, inside_listed, with_levels}
+use Rattle.dw_list.proofs.StackViewLemmas.{end_first, with_levels}
 use Rattle.dw_list.proofs.stack.Stack.list.Goals as goal
 
 pub returns-clause-listed : goal.returns-clause-listed

@@ -1,4 +1,4 @@
-use Rattle.std.proofs.Common.{take, length, reverse, arith}
+use Rattle.std.proofs.Common.{take, reverse, arith}
 use Rattle.std.proofs.lemmas.List.{length-take-le}
 use Rattle.dw_list.proofs.StackViewLemmas.{ends, inside_passed, seen_passed}
 use Rattle.dw_list.proofs.stack.Stack.pass.Goals as goal

@@ -1,4 +1,4 @@
-use Rattle.std.proofs.Common.{◌-◌, Some, sym, ap, ◌∙◌, subst, take, reverse, get_or, arith}
+use Rattle.std.proofs.Common.{◌-◌, Some, sym, ap, ◌∙◌, subst, take, reverse, arith}
 use Rattle.dw_moves.specs.Moves.{play}
 use Rattle.dw_list.specs.LineStack.{LineStack}
 use Rattle.dw_list.specs.inner.Levels.{AreLevels}
