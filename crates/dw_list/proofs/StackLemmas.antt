@@ -6,7 +6,7 @@ use Rattle.std.proofs.lemmas.Bool.{true≢false}
 use Rattle.std.proofs.lemmas.Option.{none-some, same_Some}
 use Rattle.dw_board.specs.Geometry.{Geometry}
 use Rattle.dw_board.specs.Placement.{Placement}
-use Rattle.dw_moves.specs.Moves.{Move, Legal, play}
+use Rattle.dw_moves.specs.Moves.{Move, Legal, NoMove, play}
 use Rattle.dw_moves.specs.inner.MemberLemmas.{mem_at}
 use Rattle.dw_moves.specs.Order.{Precedes, IsListOf}
 use Rattle.dw_solve.specs.Wins.{Win, Lost}
@@ -56,6 +56,13 @@ leads_lost g p n (f ∷ outer) (m ∷ line) q k h = subst (λ z. Lost g z k) (sy
       lost g true p zero m next e = absurd next
       lost g true p (suc n) m next e = next.1
       lost g false p n m next e = absurd (true≢false (sym e))
+
+-- with no move left for the attacker, the defender has none
+pub none_left : (g : Geometry) (p : Placement) (n : ℕ) (outer : List Level) (line : List Move) (f : Level)
+    → Leads g p n outer line f.attacks f.position f.left → f.attacks ≡ false → f.left ≡ 0 → NoMove g f.position
+none_left g p n outer line f h attacks left = leads_lost g p n outer line f.position 0
+    (subst (λ k. Leads g p n outer line false f.position k) left
+    (subst (λ a. Leads g p n outer line a f.position f.left) attacks h))
 
 win_some : (g : Geometry) (p : Placement) (n : ℕ) → Win g p n → 1 ≤ n
 win_some g p zero w = absurd w

@@ -7,7 +7,7 @@ use Rattle.dw_board.specs.Geometry.{Geometry}
 use Rattle.dw_board.specs.Placement.{Placement}
 use Rattle.dw_moves.specs.Moves.{Move, Legal, play, NoMove}
 use Rattle.dw_board.specs.Lists.{Member}
-use Rattle.dw_moves.specs.Order.{Precedes, IsListOf}
+use Rattle.dw_moves.specs.Order.{Precedes, IsListOf, AreListed}
 use Rattle.dw_moves.specs.inner.MemberLemmas.{mem_left, mem_right, mem_cases, mem_at}
 use Rattle.dw_solve.specs.declared.stop.Stop.{Stop}
 use Rattle.dw_solve.specs.Wins.{Lost}
@@ -132,6 +132,22 @@ pub keeps_lost : (g : Geometry) (a : Bool) (q : Placement) (n : ℕ) → a ≡ t
     → IfOk r (λ yes. IsTrue yes ↔ Lost g q n) → IfOk r (λ yes. IsTrue yes ↔ Keeps g a q n)
 keeps_lost g true q n e r h = h
 keeps_lost g false q n e r h = absurd (true≢false (sym e))
+
+-- without a legal move there is nothing to list
+pub none_ahead : (g : Geometry) (q : Placement) → NoMove g q → AreListed g q []
+none_ahead g q none = record { in_order = none_listed (Precedes g q) (Legal g q) none; paths = λ l m. absurd m }
+
+-- the attacker's last move keeps a win if the defender has no move after it
+pub keeps_last : (g : Geometry) (a : Bool) (q : Placement) (n : ℕ) (b : Bool) → a ≡ true → n ≡ 0
+    → IsTrue b ↔ ((m : Move) × Legal g q m) → IsTrue (not b) ↔ Keeps g a q n
+keeps_last g true q zero true e z h = (
+  (λ no. absurd (true≢false (sym no))),
+  (λ lost. let m = h.0 refl in
+      absurd (lost m.0 m.1)),
+)
+keeps_last g true q zero false e z h = ((λ _ m legal. absurd (true≢false (sym (h.1 (m, legal))))), (λ _. refl))
+keeps_last g true q (suc n) b e z h = absurd (omega (arith, z))
+keeps_last g false q n b e z h = absurd (true≢false (sym e))
 
 pub keeps_any : (g : Geometry) (q : Placement) (n : ℕ) → IsTrue true ↔ Keeps g false q n
 keeps_any g q n = ((λ _. tt), (λ _. refl))

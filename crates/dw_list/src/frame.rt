@@ -1,5 +1,7 @@
 //! One level of a lister's stack.
 ghost use Rattle.std.specs.Prelude.{◌≡◌, ◌↔◌, IsTrue, IsSome, OnOk, OnErr, None, Some, drop, map, false};
+ghost use Rattle.dw_moves.specs.Moves.{NoMove};
+ghost use Rattle.dw_moves.specs.Order.{AreListed};
 ghost use Rattle.dw_list.specs.inner.Steps.{begun, first_ahead, passed, IsListing};
 
 use dw_board::{Board, Position, Side};
@@ -107,8 +109,16 @@ impl<B: Board> Frame<B> {
         !self.attacks && self.first().is_none()
     }
 
-    /// Lists the moves of the position.
+    /// Returns whether the defender is to move, and the attacker has no moves left.
+    fn is_over(&self) -> bool
+        ensures { IsTrue result ↔ ((self.now.attacks ≡ false) × (self.now.left ≡ 0)) }
+    {
+        !self.attacks && self.left == 0
+    }
+
+    /// Lists the moves of the position. The defender must have none if the attacker has no moves left.
     pub(crate) fn list(&mut self, alloc: Global) -> Result<(), AllocError>
+        requires { self.old.attacks ≡ false → self.old.left ≡ 0 → NoMove B.geometry self.old.position }
         ensures ok { OnOk result (IsListing B.geometry self.old self.new) }
         ensures err { OnErr result (self.new ≡ self.old) }
     {
@@ -116,7 +126,8 @@ impl<B: Board> Frame<B> {
             Some(list) => list,
             None => Vec::new(alloc),
         };
-        listed_into(&self.position, &mut list)?;
+        let is_over = self.is_over();
+        fill(&self.position, is_over, &mut list)?;
         self.moves = Some(list);
         self.passed = 0;
         Ok(())
@@ -134,6 +145,22 @@ impl<B: Board> Frame<B> {
             self.passed += 1;
         }
     }
+}
+
+/// Fills a list with all legal moves in order. If the play is over, there must be none.
+fn fill<B: Board>(
+    position: &Position<B>,
+    is_over: bool,
+    list: &mut Vec<Listed<B>>,
+) -> Result<(), AllocError>
+    requires { IsTrue is_over → NoMove B.geometry position.now }
+    ensures { OnOk result (AreListed B.geometry position.now list.new.items) }
+{
+    if is_over {
+        list.clear();
+        return Ok(());
+    }
+    listed_into(position, list)
 }
 
 /// Returns the first move after `passed` moves.

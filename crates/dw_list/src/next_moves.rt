@@ -5,6 +5,7 @@ ghost use Rattle.dw_solve.specs.Questions.{Asked};
 
 use dw_board::{Board, Position};
 use dw_memo::Memo;
+use dw_moves::has_move;
 use dw_solve::{Guide, Solver, Stop};
 use std::alloc::Global;
 
@@ -21,9 +22,12 @@ pub(crate) fn keeps<B: Board, M: Memo<B>, G: Guide<B>>(
     ensures answer { IfOk result (λ yes. IsTrue yes ↔ Keeps B.geometry attacks after.now left) }
     ensures asked { Asked B.geometry M.content M.dropped left solver.old solver.new result }
 {
+    solver.keeps_its_limit();
     if !attacks {
-        solver.keeps_its_limit();
         return Ok(true);
+    }
+    if left == 0 {
+        return Ok(!has_move(after));
     }
     solver.loses(alloc, after, left)
 }

@@ -1,9 +1,11 @@
 //! The stack of a lister: the levels of the line at which it stands.
-ghost use Rattle.std.specs.Prelude.{◌≡◌, ◌≤◌, ◌<◌, ◌+◌, ◌*◌, ◌-◌, ◌⊎◌, [], ◌∷◌, drop, take, reverse, length};
-ghost use Rattle.std.specs.Prelude.{IfOk, OnErr, not, true};
-ghost use Rattle.dw_moves.specs.Moves.{Legal, play};
+ghost use Rattle.std.specs.Prelude.{◌≡◌, ◌≤◌, ◌<◌, ◌+◌, ◌*◌, List, [], ◌∷◌, ◌++◌, drop, take, reverse, length};
+ghost use Rattle.std.specs.Prelude.{IfOk, OnErr, max, not, true, false};
+ghost use Rattle.dw_moves.specs.Moves.{Legal, NoMove, play};
 ghost use Rattle.dw_list.specs.inner.Ways.{left_after};
-ghost use Rattle.dw_list.specs.inner.Steps.{begun};
+ghost use Rattle.dw_list.specs.LineStack.{Level};
+ghost use Rattle.dw_list.specs.inner.Steps.{begun, passed};
+ghost use Rattle.dw_list.specs.inner.Tasks.{IsListedLast};
 
 use crate::frame::Frame;
 use crate::next_moves::left_behind;
@@ -47,15 +49,15 @@ pub(crate) enum Task<B: Board> {
 pub(crate) struct Stack<B: Board> {
     position: Position<B>,
     moves: u8,
-    frames: ArrayVec<Frame<B>, LEVELS>,
     line: ArrayVec<Move<B>, MAX_MOVES>,
-    /// Frames that were left, kept for the memory of their lists. With those in use they are two for each move of the
-    /// attacker at most.
-    spare: ArrayVec<Frame<B>, LEVELS>,
+    /// The frames of the levels, and after them those that were left, kept for the memory of their lists.
+    frames: ArrayVec<Frame<B>, LEVELS>,
+    /// The number of levels.
+    depth: usize,
 }
 
 impl<B: Board> Model for Stack<B> {
-    ghost use Rattle.std.specs.Prelude.{reverse, length, ◌≤◌, ◌+◌, ◌*◌};
+    ghost use Rattle.std.specs.Prelude.{reverse, take, length, ◌≤◌, ◌*◌};
     ghost use Rattle.dw_list.specs.LineStack.{LineStack};
     ghost use Rattle.dw_list.specs.inner.LineStackCodes.{line_stack_code};
     ghost use Rattle.dw_list.specs.inner.Levels.{AreLevels, IsFew};
@@ -68,12 +70,12 @@ impl<B: Board> Model for Stack<B> {
       position = s.position;
       moves = s.moves;
       line = reverse s.line.items;
-      levels = reverse s.frames.items;
+      levels = reverse (take s.depth s.frames.items);
     } };
 
-    ghost invariant = { λ s. (AreLevels B.geometry s.position s.moves (reverse s.frames.items) (reverse s.line.items)
-        × (length s.frames.items ≤ 2 * s.moves) × IsFew s.moves)
-        × (length s.frames.items + length s.spare.items ≤ 2 * s.moves) };
+    ghost invariant = { λ s. AreLevels B.geometry s.position s.moves (reverse (take s.depth s.frames.items))
+        (reverse s.line.items) × (s.depth ≤ length s.frames.items) × (length s.frames.items ≤ 2 * s.moves)
+        × IsFew s.moves };
 }
 
 impl<B: Board> Stack<B> {
@@ -98,9 +100,9 @@ impl<B: Board> Stack<B> {
         Stack {
             position: *position,
             moves,
-            frames,
             line: ArrayVec::new(),
-            spare: ArrayVec::new(),
+            frames,
+            depth: 1,
         }
     }
 
@@ -139,14 +141,15 @@ impl<B: Board> Stack<B> {
     }
 
     /// Returns the next thing to do.
+    #[inline(always)]
     pub(crate) fn task(&self) -> Task<B>
         ensures { IsTask B.geometry self.now.levels result }
     {
-        let frames = self.frames.as_slice();
-        if frames.is_empty() {
+        if self.depth == 0 {
             return Task::Over;
         }
-        let frame = &frames[frames.len() - 1];
+        let frames = self.frames.as_slice();
+        let frame = &frames[self.depth - 1];
         if !frame.is_listed() {
             return Task::Unlisted;
         }
@@ -163,26 +166,21 @@ impl<B: Board> Stack<B> {
         ensures listed { IfOk result (λ is_end. IsListed B.geometry self.old self.new is_end) }
         ensures err { OnErr result (self.new ≡ self.old) }
     {
-        let mut frame = self.frames.pop().unwrap();
-        let listing = frame.list(alloc);
-        let is_end = frame.ends_line();
-        self.frames.push(frame);
-        listing?;
-        Ok(is_end)
+        list_last(alloc, &mut self.frames, self.depth)
     }
 
     /// Passes the first move ahead at the last level.
     pub(crate) fn pass(&mut self)
         ensures { self.new ≡ record self.old { levels = passed_last self.old.levels } }
     {
-        if let Some(mut frame) = self.frames.pop() {
-            frame.pass();
-            self.frames.push(frame);
+        if self.depth > 0 {
+            pass_last(&mut self.frames, self.depth);
         }
     }
 
     /// Goes on with a move, which must be the first one ahead at the last level, and keep a win if it is the
     /// attacker's.
+    #[inline(always)]
     pub(crate) fn enter(&mut self, candidate: &Candidate<B>)
         requires first { IsCandidate B.geometry self.old.levels candidate.now }
         requires keeps { Keeps B.geometry candidate.now.attacks candidate.now.after candidate.now.left }
@@ -192,16 +190,15 @@ impl<B: Board> Stack<B> {
               ∷ passed_last self.old.levels;
         } }
     {
-        let mut frame = self.frames.pop().unwrap();
-        frame.pass();
-        self.frames.push(frame);
-        let next = frame_at(
-            &mut self.spare,
+        pass_last(&mut self.frames, self.depth);
+        begin_next(
+            &mut self.frames,
+            self.depth,
             candidate.after,
             !candidate.attacks,
             candidate.left,
         );
-        self.frames.push(next);
+        self.depth += 1;
         self.line.push(candidate.mv);
     }
 
@@ -209,48 +206,72 @@ impl<B: Board> Stack<B> {
     pub(crate) fn back(&mut self)
         ensures { self.new ≡ record self.old { line = drop 1 self.old.line; levels = drop 1 self.old.levels } }
     {
-        leave_last(&mut self.frames, &mut self.spare);
+        self.depth = self.depth.saturating_sub(1);
         let played = self.line.len();
         self.line.truncate(played.saturating_sub(1));
     }
 }
 
-/// Returns a frame whose moves are not listed: one of the spare frames, or else a new one.
-fn frame_at<B: Board>(
-    spare: &mut ArrayVec<Frame<B>, LEVELS>,
+/// Lists the moves of the last of `depth` frames, and returns whether a line ends there. The defender must have none if
+/// the attacker has no moves left. If out of memory, it changes nothing.
+fn list_last<B: Board>(
+    alloc: Global,
+    frames: &mut ArrayVec<Frame<B>, LEVELS>,
+    depth: usize,
+) -> Result<bool, AllocError>
+    requires some { 1 ≤ depth }
+    requires within { depth ≤ length frames.old.items }
+    requires over { (outer : List Level) (f : Level) → take depth frames.old.items ≡ outer ++ f ∷ [] → f.attacks ≡ false
+        → f.left ≡ 0 → NoMove B.geometry f.position }
+    ensures listed { IfOk result (λ is_end.
+        IsListedLast B.geometry (take depth frames.old.items) (take depth frames.new.items) is_end) }
+    ensures len { length frames.new.items ≡ length frames.old.items }
+    ensures err { OnErr result (frames.new ≡ frames.old) }
+{
+    let frames = frames.as_mut_slice();
+    let frame = &mut frames[depth - 1];
+    frame.list(alloc)?;
+    Ok(frame.ends_line())
+}
+
+/// Passes the first move ahead at the last of `depth` frames.
+#[inline(always)]
+fn pass_last<B: Board>(frames: &mut ArrayVec<Frame<B>, LEVELS>, depth: usize)
+    requires some { 1 ≤ depth }
+    requires within { depth ≤ length frames.old.items }
+    ensures passed { (outer : List Level) (f : Level) → take depth frames.old.items ≡ outer ++ f ∷ []
+        → take depth frames.new.items ≡ outer ++ passed f ∷ [] }
+    ensures len { length frames.new.items ≡ length frames.old.items }
+{
+    let frames = frames.as_mut_slice();
+    frames[depth - 1].pass();
+}
+
+/// Begins the frame after the first `depth` ones, whose moves are not listed.
+#[inline(always)]
+fn begin_next<B: Board>(
+    frames: &mut ArrayVec<Frame<B>, LEVELS>,
+    depth: usize,
     position: Position<B>,
     attacks: bool,
     left: u8,
-) -> Frame<B>
-    ensures frame { result ≡ begun position attacks left }
-    ensures spare { ((length spare.old.items ≡ 0) × (length spare.new.items ≡ 0))
-        ⊎ (length spare.old.items ≡ length spare.new.items + 1) }
-{
-    match spare.pop() {
-        Some(mut frame) => {
-            frame.begin(position, attacks, left);
-            frame
-        }
-        None => Frame::new(position, attacks, left),
-    }
-}
-
-/// Takes the last frame off, and keeps it.
-fn leave_last<B: Board>(
-    frames: &mut ArrayVec<Frame<B>, LEVELS>,
-    spare: &mut ArrayVec<Frame<B>, LEVELS>,
 )
-    requires { length frames.old.items + length spare.old.items ≤ 40 }
-    ensures frames { frames.new.items ≡ take (length frames.old.items - 1) frames.old.items }
-    ensures spare { length frames.new.items + length spare.new.items
-        ≡ length frames.old.items + length spare.old.items }
+    requires within { depth ≤ length frames.old.items }
+    requires room { depth < 40 }
+    ensures begun { take (depth + 1) frames.new.items
+        ≡ take depth frames.old.items ++ begun position attacks left ∷ [] }
+    ensures len { length frames.new.items ≡ max (length frames.old.items) (depth + 1) }
 {
-    if let Some(frame) = frames.pop() {
-        spare.push(frame);
+    if depth == frames.len() {
+        frames.push(Frame::new(position, attacks, left));
+    } else {
+        let frames = frames.as_mut_slice();
+        frames[depth].begin(position, attacks, left);
     }
 }
 
 /// Returns the position after a move of a level, and whose the move is.
+#[inline(always)]
 fn candidate_of<B: Board>(frame: &Frame<B>, mv: Move<B>) -> Candidate<B>
     requires { Legal B.geometry frame.now.position mv }
     ensures mv { result.mv ≡ mv }

@@ -1,8 +1,9 @@
 //! The legal moves in order, with their least paths.
-ghost use Rattle.std.specs.Prelude.{◌≡◌, ◌↔◌, [], IfOk, OnOk, OnErr, IsTrue};
+ghost use Rattle.std.specs.Prelude.{◌≡◌, ◌≤◌, ◌<◌, ◌↔◌, [], take, length, IfOk, OnOk, OnErr, IsTrue, HoldsAt};
 ghost use Rattle.std.specs.Ordering.{is_lt};
-ghost use Rattle.dw_moves.specs.Order.{LexLess, AreListed};
-ghost use Rattle.dw_moves.specs.inner.Walks.{sorted_by, entries_listed, HasAll, PathsHeld, TakenIn, These};
+ghost use Rattle.dw_board.specs.Lists.{Member};
+ghost use Rattle.dw_moves.specs.Order.{LexLess, AreListed, Listed as AnyListed};
+ghost use Rattle.dw_moves.specs.inner.Walks.{sorted_by, HasAll, PathsHeld, TakenIn, These};
 
 use crate::glance::can_capture;
 use crate::keeper::Keeper;
@@ -11,9 +12,9 @@ use crate::quiet::push_quiet;
 use crate::walk::walk_captures;
 use arrayvec::ArrayVec;
 use dw_board::{Board, Position, Square};
-use indexmap::IndexMap;
 use std::alloc::{AllocError, Global};
 use std::cmp::Ordering;
+use std::mem::replace;
 
 /// Returns all legal moves in ascending order, each once and with its least path; or an error if out of memory.
 pub fn listed<B: Board>(alloc: Global, position: &Position<B>) -> Result<Vec<Listed<B>>, AllocError>
@@ -54,21 +55,20 @@ fn push_listed<B: Board>(
     if !can_capture(position) {
         return push_quiet(position, list);
     }
+    let empty = Vec::new(*list.allocator());
     let mut least = LeastPaths {
         most: 0,
         path: ArrayVec::new(),
-        paths: IndexMap::new(*list.allocator()),
+        list: replace(list, empty),
     };
-    walk_captures(position, &mut least)?;
+    let walked = walk_captures(position, &mut least);
     let LeastPaths {
         most: _,
         path: _,
-        paths,
+        list: found,
     } = least;
-    'paths: for (mv, path) in paths {
-        list.push(Listed { step: mv, path })?;
-    }
-    Ok(())
+    *list = found;
+    walked
 }
 
 /// Keeps the moves that take the greatest number of pieces so far, each with the least of its paths.
@@ -76,13 +76,13 @@ fn push_listed<B: Board>(
 struct LeastPaths<B: Board> {
     most: u8,
     path: ArrayVec<Square<B>, LONGEST_PATH>,
-    paths: IndexMap<Move<B>, ArrayVec<Square<B>, LONGEST_PATH>>,
+    list: Vec<Listed<B>>,
 }
 
 impl<B: Board> Keeper<B> for LeastPaths<B> {
     type Fault = AllocError;
 
-    ghost holds = { λ first xs k. PathsHeld (These xs) k.most (entries_listed k.paths.entries) };
+    ghost holds = { λ first xs k. PathsHeld (These xs) k.most k.list.items };
 
     ghost is_on = { λ k path. k.path.items ≡ path };
 
@@ -104,32 +104,65 @@ impl<B: Board> Keeper<B> for LeastPaths<B> {
             return Ok(());
         }
         if self.most < count {
-            self.paths.clear();
+            self.list.clear();
             self.most = count;
         }
-        keep_least(*mv, &self.path, &mut self.paths)
+        keep_least(*mv, self.path.as_slice(), &mut self.list)
     }
 }
 
 /// Keeps a path of a move if it is the first one, or less than the one kept so far.
 fn keep_least<B: Board>(
     mv: Move<B>,
-    path: &ArrayVec<Square<B>, LONGEST_PATH>,
-    paths: &mut IndexMap<Move<B>, ArrayVec<Square<B>, LONGEST_PATH>>,
+    path: &[Square<B>],
+    list: &mut Vec<Listed<B>>,
 ) -> Result<(), AllocError>
+    requires { length path.now ≤ 21 }
     ensures { OnOk result (TakenIn (record {
       step = mv;
-      path = path.now.items;
-    }) (entries_listed paths.old.entries) (entries_listed paths.new.entries)) }
+      path = path.now;
+    }) list.old.items list.new.items) }
 {
-    let is_least = match paths.get(&mv) {
-        Some(kept) => is_less(path.as_slice(), kept.as_slice()),
-        None => true,
-    };
-    if is_least {
-        paths.insert(mv, path.clone()?)?;
+    let place = place_of(list.as_slice(), &mv);
+    if place == list.len() {
+        list.push(Listed {
+            step: mv,
+            path: copied(path),
+        })?;
+        return Ok(());
+    }
+    let kept = &list[place];
+    if is_less(path, kept.path.as_slice()) {
+        list[place] = Listed {
+            step: mv,
+            path: copied(path),
+        };
     }
     Ok(())
+}
+
+/// Returns an array with these squares.
+fn copied<B: Board>(path: &[Square<B>]) -> ArrayVec<Square<B>, LONGEST_PATH>
+    requires { length path.now ≤ 21 }
+    ensures { result.items ≡ path.now }
+{
+    let mut copied = ArrayVec::new();
+    let _ = copied.try_extend_from_slice(path);
+    copied
+}
+
+/// Returns the place of a move in a list, or the length of the list if it is not there.
+fn place_of<B: Board>(list: &[Listed<B>], mv: &Move<B>) -> usize
+    ensures within { result ≤ length list.now }
+    ensures there { result < length list.now → HoldsAt (λ l. l.step ≡ mv.now) list.now result }
+    ensures before { (l : AnyListed) → Member l (take result list.now) → l.step ≡ mv.now → ⊥ }
+{
+    'moves: for (place, item) in list.iter().enumerate() {
+        if item.step == *mv {
+            return place;
+        }
+    }
+    list.len()
 }
 
 /// Compares two different moves by their starts, then by their ends, then by their paths. Never returns `Equal`, as a

@@ -1,5 +1,5 @@
 -- The next thing to do with a stack.
-use Rattle.std.specs.Prelude.{◌≡◌, ◌↔◌, Bool, false, IsTrue, Some, None, List, [], ◌∷◌}
+use Rattle.std.specs.Prelude.{◌≡◌, ◌↔◌, Bool, false, IsTrue, Some, None, List, [], ◌∷◌, ◌++◌}
 use Rattle.dw_board.specs.Geometry.{Geometry}
 use Rattle.dw_moves.specs.Moves.{play}
 use Rattle.dw_list.specs.declared.stack.Candidate.{Candidate}
@@ -24,6 +24,17 @@ IsTask g levels Over = levels ≡ []
 IsTask g levels Unlisted = (last : Level) × (outer : List Level) × (levels ≡ last ∷ outer) × (last.ahead ≡ None)
 IsTask g levels (Try candidate) = IsCandidate g levels candidate
 IsTask g levels Passed = (last : Level) × (outer : List Level) × (levels ≡ last ∷ outer) × (last.ahead ≡ Some [])
+
+-- the moves of the last of these levels, the first one first, were listed, and the line ends there if the defender has
+-- none
+pub record IsListedLast (g : Geometry) (old new : List Level) (is_end : Bool) : Type 0 where
+  pub outer : List Level
+  pub last : Level
+  pub listed : Level
+  pub was : old ≡ outer ++ last ∷ []
+  pub is : new ≡ outer ++ listed ∷ []
+  pub listing : IsListing g last listed
+  pub end : IsTrue is_end ↔ ((last.attacks ≡ false) × (listing.moves ≡ []))
 
 -- the moves of the last level were listed, and the line ends there if the defender has none
 pub record IsListed (g : Geometry) (old new : LineStack) (is_end : Bool) : Type 0 where

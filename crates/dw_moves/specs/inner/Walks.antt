@@ -1,7 +1,6 @@
 -- Captures as they are walked, jump by jump, and what is kept of them.
 use Rattle.std.specs.Prelude.{◌≡◌, ℕ, ◌≤◌, ◌<◌, ◌⊎◌, ◌↔◌, false, Option, Some, None, IsSome, List, [], ◌∷◌, ◌++◌, map}
 use Rattle.std.specs.FinSet as set
-use Rattle.arrayvec.specs.ArrayVec.{ArrayVec}
 use Rattle.dw_board.specs.declared.board.Dir.{Dir}
 use Rattle.dw_board.specs.declared.piece.Piece.{Piece}
 use Rattle.dw_board.specs.Geometry.{Geometry, Squares}
@@ -179,7 +178,3 @@ pub record HasAll (g : Geometry) (p : Placement) (list : List Listed) : Type 0 w
   pub paths : (l : Listed) → Member l list → HasLeastPath g p l
   pub all : (m : Move) → Legal g p m → Member m (steps_of list)
   pub once : NoRepeat (steps_of list)
-
--- the entries of a map from moves to paths
-abbrev pub entries_listed : List (Move × ArrayVec ℕ) → List Listed
-entries_listed entries = map (λ e. record { step = e.0; path = e.1.items }) entries

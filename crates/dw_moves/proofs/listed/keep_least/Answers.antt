@@ -1,44 +1,70 @@
-use Rattle.std.proofs.Common.{◌≡◌, ℕ, Some, sym, ap, ◌∙◌, subst}
-use Rattle.std.specs.Option.{option_copied}
+use Rattle.std.proofs.Common.{◌≡◌, ◌<◌, ◌++◌, [], ◌∷◌, length, set, sym, ap, ◌∙◌, subst, take, get_or, arith}
 use Rattle.std.proofs.lemmas.Bool.{true≢false}
-use Rattle.std.proofs.lemmas.List.Elements.{same_from_all_zip}
-use Rattle.std.specs.Map.{lookup}
-use Rattle.arrayvec.specs.ArrayVec.{ArrayVec}
-use Rattle.dw_board.specs.Geometry.{square_of}
-use Rattle.dw_moves.specs.inner.MoveLemmas.{same_moves}
-use Rattle.dw_moves.specs.Order.{LexLess}
-use Rattle.dw_moves.specs.inner.Walks.{entries_listed, TakenIn}
-use Rattle.dw_moves.proofs.LeastEntryLemmas.{listed_as, taken_new, taken_old, below_found, below_none}
+use Rattle.std.proofs.lemmas.List.{take_all}
+use Rattle.dw_board.specs.Lists.{Member}
+use Rattle.dw_moves.specs.Order.{LexLess, Listed}
+use Rattle.dw_moves.specs.inner.Walks.{TakenIn}
+use Rattle.dw_moves.proofs.LeastEntryLemmas.{taken_left, taken_new, taken_less}
 use Rattle.dw_moves.proofs.listed.keep_least.Goals as goal
-use Rattle.dw_moves.proofs.listed.keep_least.Goals.{in-Some, in-None}
 
-pub returns-in_ok-insert : goal.returns-in_ok-insert
-returns-in_ok-insert g c =
-    let m = c.args.mv in
-    let v = c.in_ok-clone.field-0 in
-    let es = c.args.paths.now.entries in
-    let copied : v.items ≡ c.args.path.now.items = same_from_all_zip _ c.args.path.now.items v.items
-    c.in_ok-clone.ensures.cases (λ x y h. sym h.3 ∙ (ap (square_of g.B.Board.geometry) h.4.0 ∙ h.2)) in
-    let below : (w : ArrayVec ℕ) → lookup (same_moves m) es ≡ Some w
-    → LexLess v.items w.items = elim c.match-get.branch [
-      | in-Some s ↦ below_found m v s.in-Some.kept.now es (sym c.get.ensures.value ∙ ap option_copied s.in-Some.is)
-          (subst (λ z. LexLess z s.in-Some.kept.now.items) (s.as_slice.ensures.value ∙ sym copied)
-          (subst (LexLess s.as_slice.result.now) s.as_slice-in-Some.ensures.value
-          (s.is_less-is_least.ensures.0 (sym s.is_least-is ∙ c.if-is_least.true))))
-      | in-None s ↦ below_none m v es (sym c.get.ensures.value ∙ ap option_copied s.in-None.is)
-    ] in
-    subst (λ z. TakenIn (record { step = m; path = z }) (entries_listed es) (entries_listed c.insert.new.self.entries))
-    copied
-    (subst (λ z. TakenIn (listed_as m v) (entries_listed es) (entries_listed z)) (sym c.in_ok-insert.ensures.entries)
-    (taken_new m v es below))
+pub returns-then-place-len : goal.returns-then-place-len
+returns-then-place-len g c =
+    let list = c.args.list.now.items in
+    let path = c.args.path.now in
+    let place = c.place_of-place.result in
+    let all : list ≡ take place c.as_slice.result.now = sym (take_all place list (omega (
+      arith,
+      c.if-place-len.true,
+      c.len.ensures,
+    ))) ∙ ap (take place) (sym c.as_slice.ensures.value) in
+    let l : Listed = record { step = c.args.mv; path = path } in
+    subst (TakenIn l list) (sym (c.in_ok-push.ensures.items ∙ ap (λ z. list ++ record { step = c.args.mv; path = z }
+    ∷ []) c.copied.ensures)) (taken_new list l (λ x there. c.place_of-place.ensures.before x (subst (Member x) all
+    there)))
 
-pub returns-else-is_least : goal.returns-else-is_least
-returns-else-is_least g c = elim c.match-get.branch [
-  | in-Some s ↦ taken_old c.args.mv c.args.path.now s.in-Some.kept.now c.args.paths.now.entries (sym c.get.ensures.value
-      ∙ ap option_copied s.in-Some.is)
-      (λ less. true≢false (sym (s.is_less-is_least.ensures.1 (subst (λ z. LexLess z s.as_slice-in-Some.result.now)
-      (sym s.as_slice.ensures.value)
-      (subst (LexLess c.args.path.now.items) (sym s.as_slice-in-Some.ensures.value) less)))
-      ∙ (sym s.is_least-is ∙ c.if-is_least.false)))
-  | in-None s ↦ absurd (true≢false (sym s.is_least-is ∙ c.if-is_least.false))
-]
+pub returns-then-is_less : goal.returns-then-is_less
+returns-then-is_less g c =
+    let list = c.args.list.now.items in
+    let path = c.args.path.now in
+    let place = c.place_of-place.result in
+    let k = c.index-kept.result.now in
+    let low : place < length list = omega (
+      arith,
+      c.if-place-len.false,
+      c.len.ensures,
+      c.place_of-place.ensures.within,
+      ap length c.as_slice.ensures.value,
+    ) in
+    let same = ap (λ (x : Listed). x.step) (c.index-kept.ensures ∙ ap (λ z. get_or z place k)
+    (sym c.as_slice.ensures.value)) ∙ c.place_of-place.ensures.there (omega (
+      arith,
+      low,
+      ap length c.as_slice.ensures.value,
+    )) k in
+    let less = subst (LexLess path) (c.as_slice-2.ensures.value ∙ ap (λ (x : Listed). x.path) c.kept.view_is)
+    (c.is_less.ensures.0 c.if-is_less.true) in
+    let l : Listed = record { step = c.args.mv; path = path } in
+    subst (λ z. TakenIn l list (set list place (record { step = c.args.mv; path = z })))
+    (sym c.copied-then-is_less.ensures) (taken_less list place k l low c.index-kept.ensures same less)
+
+pub returns-else-is_less : goal.returns-else-is_less
+returns-else-is_less g c =
+    let list = c.args.list.now.items in
+    let place = c.place_of-place.result in
+    let k = c.index-kept.result.now in
+    let low : place < length list = omega (
+      arith,
+      c.if-place-len.false,
+      c.len.ensures,
+      c.place_of-place.ensures.within,
+      ap length c.as_slice.ensures.value,
+    ) in
+    let same = ap (λ (x : Listed). x.step) (c.index-kept.ensures ∙ ap (λ z. get_or z place k)
+    (sym c.as_slice.ensures.value)) ∙ c.place_of-place.ensures.there (omega (
+      arith,
+      low,
+      ap length c.as_slice.ensures.value,
+    )) k in
+    taken_left list place k (record { step = c.args.mv; path = c.args.path.now }) low c.index-kept.ensures same
+    (λ less. true≢false (sym (c.is_less.ensures.1 (subst (LexLess c.args.path.now)
+    (sym (c.as_slice-2.ensures.value ∙ ap (λ (x : Listed). x.path) c.kept.view_is)) less)) ∙ c.if-is_less.false))

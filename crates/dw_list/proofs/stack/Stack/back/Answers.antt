@@ -1,34 +1,30 @@
-use Rattle.std.proofs.Common.{◌-◌, ◌∙◌, ap, refl, length, length-take, arith, lit<}
-use Rattle.dw_list.proofs.StackViewLemmas.{inside_back, back_of, with_both}
+use Rattle.std.proofs.Common.{◌-◌, ◌∙◌, ap, drop, take, length, reverse, arith}
+use Rattle.std.proofs.lemmas.List.{take_all}
+use Rattle.dw_list.proofs.StackViewLemmas.{inside_back, one_less, with_both}
 use Rattle.dw_list.proofs.stack.Stack.back.Goals as goal
 
 pub invariant_of-self : goal.invariant_of-self
 invariant_of-self g c =
-    let frames = back_of c.self.inside.frames.items c.leave_last.new.frames.items (length c.self.inside.frames.items
-    - 1) refl c.leave_last.ensures.frames in
-    let line = back_of c.self.inside.line.items c.truncate.new.self.items c.saturating_sub.result
-    (c.saturating_sub.ensures ∙ ap (λ z. z - 1) c.len-played.ensures.value) c.truncate.ensures.items in
-    let few = c.self.invariant.1 in
-    let same = c.leave_last.ensures.spare in (
-      inside_back g.B.Board.geometry c.self.inside.position c.self.inside.moves _ _ _ _ frames line
-          (omega (
-            arith,
-            ap length c.leave_last.ensures.frames,
-            length-take (length c.self.inside.frames.items - 1) c.self.inside.frames.items,
-          )) c.self.invariant.0,
-      omega (arith, few, same),
+    let s = c.self.inside in
+    let inv = c.self.invariant in
+    let moves = s.line.items in
+    let line = ap reverse c.truncate.ensures.items ∙ (one_less moves (length moves) c.saturating_sub.result
+    (omega arith) (c.saturating_sub.ensures ∙ ap (λ z. z - 1) c.len-played.ensures.value)
+    ∙ ap (λ z. drop 1 (reverse z)) (take_all (length moves) moves (omega arith))) in (
+      inside_back g.B.Board.geometry s.position s.moves (take s.depth s.frames.items)
+          (take c.saturating_sub-self-inside.result s.frames.items) (reverse moves) (reverse c.truncate.new.self.items)
+          (one_less s.frames.items s.depth _ inv.1 c.saturating_sub-self-inside.ensures) line inv.0,
+      omega (arith, inv.1, c.saturating_sub-self-inside.ensures),
+      inv.2,
+      inv.3,
     )
-
-pub leave_last-requires : goal.leave_last-requires
-leave_last-requires g c =
-    let few = c.self.invariant.1 in
-    let moves = c.self.invariant.0.2.1 in
-    (lit< tt, omega (arith, few, moves))
 
 pub returns : goal.returns
 returns g c =
-    let frames = back_of c.self.inside.frames.items c.leave_last.new.frames.items (length c.self.inside.frames.items
-    - 1) refl c.leave_last.ensures.frames in
-    let line = back_of c.self.inside.line.items c.truncate.new.self.items c.saturating_sub.result
-    (c.saturating_sub.ensures ∙ ap (λ z. z - 1) c.len-played.ensures.value) c.truncate.ensures.items in
-    with_both c.args.self.now _ _ _ _ _ _ c.self.view_is line frames
+    let s = c.self.inside in
+    let moves = s.line.items in
+    let line = ap reverse c.truncate.ensures.items ∙ (one_less moves (length moves) c.saturating_sub.result
+    (omega arith) (c.saturating_sub.ensures ∙ ap (λ z. z - 1) c.len-played.ensures.value)
+    ∙ ap (λ z. drop 1 (reverse z)) (take_all (length moves) moves (omega arith))) in
+    with_both c.args.self.now _ _ _ _ _ _ c.self.view_is line (one_less s.frames.items s.depth _ c.self.invariant.1
+    c.saturating_sub-self-inside.ensures)

@@ -1,31 +1,38 @@
-use Rattle.std.proofs.Common.{arith, sym, ap, ◌∙◌, reverse}
+use Rattle.std.proofs.Common.{sym, ap, ◌∙◌, subst, take, length, reverse, arith, lit<}
+use Rattle.std.proofs.lemmas.List.{length-reverse, length-take-le}
+use Rattle.std.proofs.lemmas.Result.{IfOk-weaker}
 use Rattle.dw_list.specs.LineStack.{LineStack}
-use Rattle.dw_list.proofs.StackViewLemmas.{same_count, end_of, end_first, inside_listed, listing_ends, with_levels}
+use Rattle.dw_list.specs.inner.Levels.{AreLevels}
+use Rattle.dw_list.proofs.StackLemmas.{none_left}
+use Rattle.dw_list.proofs.StackViewLemmas.{end_first, with_levels}
 use Rattle.dw_list.proofs.stack.Stack.list.Goals as goal
-
-pub invariant_of-self-2 : goal.invariant_of-self-2
-invariant_of-self-2 g c =
-    let was = end_of _ _ c.pop.result c.unwrap-frame.result c.pop.ensures.items c.unwrap-frame.ensures in
-    let same = same_count c.self.inside.frames.items c.pop.new.self.items c.push.new.self.items c.unwrap-frame.result
-    c.list-listing.new.self was c.push.ensures.items in
-    let few = c.self.invariant.1 in (
-      inside_listed g.B.Board.geometry c.self.inside.position c.self.inside.moves _ c.pop.new.self.items _
-          c.unwrap-frame.result c.list-listing.new.self _ was c.push.ensures.items c.in_ok-listing.ensures.ok
-          c.self.invariant.0,
-      omega (arith, same, few),
-    )
 
 pub returns-clause-listed : goal.returns-clause-listed
 returns-clause-listed g c =
-    let was = end_first _ _ _ (end_of _ _ c.pop.result c.unwrap-frame.result c.pop.ensures.items
-    c.unwrap-frame.ensures) in
-    record {
-      last = c.unwrap-frame.result;
-      outer = reverse c.pop.new.self.items;
-      are = ap (λ (s : LineStack). s.levels) (sym c.self.view_is) ∙ was;
-      listed = c.list-listing.new.self;
-      listing = c.in_ok-listing.ensures.ok;
-      is = with_levels c.args.self.now _ _ _ _ _ _ c.self.view_is (end_first _ _ _ c.push.ensures.items);
-      end = listing_ends g.B.Board.geometry c.unwrap-frame.result c.list-listing.new.self c.ends_line-is_end.result
-          c.in_ok-listing.ensures.ok c.ends_line-is_end.ensures;
-    }
+    IfOk-weaker c.list_last.result _ _ (λ is_end r. record {
+      last = r.last;
+      outer = reverse r.outer;
+      are = ap (λ (s : LineStack). s.levels) (sym c.self.view_is) ∙ end_first _ _ _ r.was;
+      listed = r.listed;
+      listing = r.listing;
+      is = with_levels c.args.self.now _ _ _ _ _ _ c.self.view_is (end_first _ _ _ r.is);
+      end = r.end;
+    }) c.list_last.ensures.listed
+
+pub list_last-requires : goal.list_last-requires
+list_last-requires g c =
+    let s = c.self.inside in
+    let inv = c.self.invariant in
+    let items = s.frames.items in
+    let long = ap (λ (z : LineStack). length z.levels) c.self.view_is in (
+      lit< tt,
+      (
+        omega (arith, long, c.requires, length-reverse (take s.depth items), length-take-le s.depth items inv.1),
+        (
+          inv.1,
+          λ outer f was. none_left g.B.Board.geometry s.position s.moves (reverse outer) (reverse s.line.items) f
+              (subst (λ z. AreLevels g.B.Board.geometry s.position s.moves z (reverse s.line.items))
+              (end_first (take s.depth items) outer f was) inv.0).0,
+        ),
+      ),
+    )
