@@ -69,6 +69,7 @@ CHECKS = [
     Check("json_rows"),
     Check("random_fens", slow=("--count", "1000000")),
     Check("refused_search"),
+    Check("memory"),
     Check("perft"),
     Check("installing"),
     Check("first_answer"),

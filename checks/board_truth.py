@@ -157,7 +157,7 @@ class Truth:
         return self.known[name]
 
     def judged(self, fen, moves):
-        words = ["dw", "judge", "-n", str(moves), "--memo", "deep", "--cache", "1000000"]
+        words = ["dw", "judge", "-n", str(moves)]
         (first, *lines), = self.of(words, f"{fen}\n")
         assert first == fen, (first, fen)
         return lines

@@ -5,7 +5,7 @@
 
 For each cache it prints the lines a second and the greatest resident size of `dw list`, for the whole list and for its
 first 10,000 lines; the size may not grow by more than 1 MB. The caches hold 1,000 positions there, so they are full in
-both runs; with the default of 100,000 it only prints the size. Then it stops the list after 20 of its lines by --lines,
+both runs; with the default size it only prints what they take. Then it stops the list after 20 of its lines by --lines,
 and continues with the token: the output must be the rest of the list, byte for byte. The token is also made here, from
 the text of the line. After the last line nothing comes.
 """

@@ -24,7 +24,7 @@ pub record ReadsFrom (options : List Row) (rows : BoardSize) (how : Form) (from 
     pub form : how ≡ form_option options
     pub file : option_copied from ≡ text_option options (codes "FILE")
 
--- the memo, and how many positions it keeps: as --cache says, or else the program's default
-pub record Keeps (options : List Row) (usually : ℕ) (kind : MemoKind) (kept : ℕ) : Type 0 where
+-- the memo, and how many positions it keeps: as --cache says, or else 1,000,000
+pub record Keeps (options : List Row) (kind : MemoKind) (kept : ℕ) : Type 0 where
   pub memo : kind ≡ memo_named (text_option options (codes "memo"))
-  pub cache : kept ≡ unwrap_or (number_option 1 4000000 options (codes "cache")) usually
+  pub cache : kept ≡ unwrap_or (number_option 1 4000000 options (codes "cache")) 1000000

@@ -88,7 +88,7 @@ Reads options args = ReadsFrom options args.board args.form args.file
 -- the part of a request that every command with a search has: the memo and the progress line, too
 pub record Searches (options : List Row) (args : DeskArgs) : Type 0 where
   pub reads : Reads options args
-  pub keeps : Keeps options 1000000 args.memo args.cache
+  pub keeps : Keeps options args.memo args.cache
   pub progress : args.progress ≡ flag_option options (codes "progress")
 
 -- the portion that a text names

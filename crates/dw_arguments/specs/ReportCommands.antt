@@ -18,7 +18,7 @@ pub record Searches (options : List Row) (args : ReportArgs) : Type 0 where
   pub n : args.n.value ≡ moves_within options
   pub positions : args.positions
       ≡ unwrap_or (number_option 1 1000000000000 options (codes "positions")) 1000000000000
-  pub keeps : Keeps options 100000 args.memo args.cache
+  pub keeps : Keeps options args.memo args.cache
 
 -- the request of `list`; a token without the number of a problem belongs to the first problem
 pub record Lists (options : List Row) (args : ReportArgs) : Type 0 where

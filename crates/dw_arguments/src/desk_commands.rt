@@ -9,13 +9,12 @@ use crate::certify::{CertifyArgs, certify_command};
 use crate::check::{CheckArgs, check_command};
 use crate::choices::{BoardSize, MemoKind};
 use crate::desk::{DeskArgs, Task};
-use crate::desk_options::DEFAULT_CAPACITY;
 use crate::error::CliError;
 use crate::find::{FindArgs, find_command};
 use crate::mend::{MendArgs, mend_command};
 use crate::moves::{MovesArgs, moves_command};
 use crate::options::{
-    MIN_CAPACITY, VERSION, capacity_option, flag_option, form_option, text_option,
+    DEFAULT_CAPACITY, MIN_CAPACITY, VERSION, capacity_option, flag_option, form_option, text_option,
 };
 use crate::page::{PageArgs, page_command};
 use crate::part::NO_PART;

@@ -9,9 +9,6 @@ use clap::{Arg, ArgMatches, Command, value_parser};
 use dw_stipulation::MoveCount;
 use std::alloc::{AllocError, Global};
 
-/// The default size of a memo, in positions.
-pub(crate) const DEFAULT_CAPACITY: usize = 1_000_000;
-
 /// The fewest lines that a solution is written with.
 const FEWEST_LINES: u64 = 1;
 
@@ -20,8 +17,6 @@ const MOST_LINES: u64 = 1_000_000;
 
 /// The default number of lines of a solution.
 pub const USUAL_LINES: usize = 1000;
-
-const CACHE_HELP: &str = "Keep at most C positions, 1 to 4000000 [default: 1000000]";
 
 pub(crate) const JSON_HELP: &str = "Write one line of JSON for each problem";
 
@@ -32,7 +27,7 @@ pub(crate) fn searcher<'a>(
     problem: Arg<'a>,
     own: Vec<Arg<'a>>,
 ) -> Result<Command<'a>, AllocError> {
-    let searching = vec![in alloc; cache(alloc, CACHE_HELP), progress(alloc)]?;
+    let searching = vec![in alloc; cache(alloc), progress(alloc)]?;
     reader(alloc, texts, problem)?.args(own)?.args(searching)
 }
 

@@ -27,6 +27,9 @@ pub const MIN_CAPACITY: usize = 1;
 /// The most positions that a memo may keep.
 pub const MAX_CAPACITY: usize = 4_000_000;
 
+/// The default size of a memo, in positions.
+pub const DEFAULT_CAPACITY: usize = 1_000_000;
+
 /// The version of the programs.
 pub const VERSION: &str = "1.0.0";
 
@@ -34,8 +37,8 @@ const MEMO_HELP: &str = "\
 The kind of cache:
 none, nothing: for very little memory
 slots, a table in which many positions share one place: for many short problems
-deep, a table that keeps the deeper results: for long problems, with a large C
-lru, the positions used last: for most problems";
+lru, the positions used last, none lost until it has C: for certificates
+deep, a table that keeps the deeper results: for most problems";
 
 /// What a command says of itself.
 #[derive(Clone, Copy)]
@@ -126,9 +129,10 @@ pub fn memo<'a>(alloc: Global, usual: &'a str) -> Arg<'a> {
     option(alloc, "memo", "KIND", kinds, MEMO_HELP).default_value(usual)
 }
 
-/// Makes `--cache`, `MIN_CAPACITY` to `MAX_CAPACITY`, with its help.
-pub fn cache<'a>(alloc: Global, help: &'a str) -> Arg<'a> {
+/// Makes `--cache`, `MIN_CAPACITY` to `MAX_CAPACITY`, whose default is `DEFAULT_CAPACITY`.
+pub fn cache<'a>(alloc: Global) -> Arg<'a> {
     let numbers = value_parser!(u32).range(MIN_CAPACITY as i64..=MAX_CAPACITY as i64);
+    let help = "Keep at most C positions, 1 to 4000000 [default: 1000000]";
     option(alloc, "cache", "C", numbers, help)
 }
 

@@ -7,9 +7,9 @@ ghost use Rattle.dw_arguments.specs.Options.{flag_option, number_option, options
 use crate::choices::{BoardSize, MemoKind};
 use crate::error::CliError;
 use crate::options::{
-    CommandTexts, FIRST_PROBLEM, MIN_CAPACITY, MOST_POSITIONS, VERSION, cache, capacity_option,
-    count_option, flag, flag_option, form_option, memo, moves_option, one_problem, option,
-    positions, positions_option, problem_option, reader, text_option, within,
+    CommandTexts, DEFAULT_CAPACITY, FIRST_PROBLEM, MIN_CAPACITY, MOST_POSITIONS, VERSION, cache,
+    capacity_option, count_option, flag, flag_option, form_option, memo, moves_option, one_problem,
+    option, positions, positions_option, problem_option, reader, text_option, within,
 };
 use clap::builder::ValueParser;
 use clap::{Arg, ArgMatches, Command, value_parser};
@@ -71,11 +71,6 @@ const MOST_LINES: u64 = 1_000_000_000;
 
 /// The message for arguments without a command.
 const NO_COMMAND: &str = "dw: no command\n";
-
-/// The default size of a memo, in positions.
-const DEFAULT_CAPACITY: usize = 100_000;
-
-const CACHE_HELP: &str = "Keep at most C positions, 1 to 4000000 [default: 100000]";
 
 const PROBLEM_HELP: &str = "Report on problem I only, 1 to 1000000 [default: all]";
 
@@ -231,8 +226,8 @@ fn searching<'a>(alloc: Global) -> Result<Vec<Arg<'a>>, AllocError> {
     Ok(vec![in alloc;
         within(alloc, WITHIN_HELP).required(true),
         positions(alloc, "positions", POSITIONS_HELP),
-        memo(alloc, "lru"),
-        cache(alloc, CACHE_HELP),
+        memo(alloc, "deep"),
+        cache(alloc),
     ]?)
 }
 

@@ -8,8 +8,8 @@ use dw_memo::{AnyMemo, Bounds, DeepMemo, LruMemo, Memo, NoMemo, Noted, SlotMemo}
 use std::alloc::{AllocError, Global};
 use std::marker::Model;
 
-/// A memo that is never freed. A program that is done with it is about to end, and then the system takes all memory at
-/// once. Freeing each entry before that would take longer.
+/// A memo that is never freed: the program that drops it is about to end, and then the system takes all memory at once.
+/// Freeing each entry before that would take longer. A program that goes on calls `clear`, which frees entries.
 pub struct LeakedMemo<B: Board> {
     memo: AnyMemo<B>,
 }
@@ -59,6 +59,10 @@ impl<B: Board> Memo<B> for LeakedMemo<B> {
 
     fn forget(&mut self) {
         self.memo.forget();
+    }
+
+    fn clear(&mut self) {
+        self.memo.clear();
     }
 
     fn dropped(&self) -> u64 {

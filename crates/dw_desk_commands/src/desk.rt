@@ -1,5 +1,5 @@
 //! The solver and the counters that all commands share.
-ghost use Rattle.std.specs.Prelude.{◌≡◌, ◌⊎◌, ◌+◌, ◌<◌, ◌≤◌, false, if◌then◌else◌, Bool, IfOk, IfErr, OnOk};
+ghost use Rattle.std.specs.Prelude.{◌≡◌, ◌⊎◌, ◌+◌, ◌<◌, ◌≤◌, false, if◌then◌else◌, Bool, IfOk, IfErr};
 ghost use Rattle.dw_desk_commands.specs.Commands.{DoesIt, Obeys, form_for};
 ghost use Rattle.dw_desk_commands.specs.Ending.{FailsForCause, HasCause, ending_after};
 ghost use Rattle.dw_desk_commands.specs.declared.desk.DeskFault.TheVariants as because;
@@ -12,7 +12,7 @@ use crate::paging::page_problems;
 use crate::reporting::{report_all, report_first};
 use crate::watcher::DeskWatcher;
 use crate::writing::Line;
-use dw_arguments::{DeskArgs, MemoKind, Task};
+use dw_arguments::{DeskArgs, Task};
 use dw_board::Board;
 use dw_commands::{Ending, LeakedMemo, memo_of};
 use dw_games::GameFault;
@@ -135,35 +135,20 @@ impl From<WriteFault> for DeskFault {
     }
 }
 
-/// The solver for all problems: it has no limit, and a memo of this kind and size.
+/// The solver for all problems, which has no limit.
 #[derive(Drop)]
 pub(crate) struct Desk<B: Board> {
     pub(crate) alloc: Global,
-    pub(crate) memo: MemoKind,
-    pub(crate) cache: usize,
     pub(crate) solver: Solver<B, LeakedMemo<B>, ByTrial>,
-    ghost some_kept: { 1 ≤ cache },
-    ghost few_kept: { cache ≤ 4000000 },
     ghost unbounded: { solver.limit ≡ 18446744073709551615 },
 }
 
 impl<B: Board> Desk<B> {
     /// Makes a desk over an empty memo.
     fn new(alloc: Global, args: &DeskArgs<'_>) -> Result<Self, AllocError> {
-        Ok(Desk {
-            alloc,
-            memo: args.memo,
-            cache: args.cache,
-            solver: solver_of(alloc, args.memo, args.cache)?,
-        })
-    }
-
-    /// Replaces the solver by one with an empty memo, which counts positions from 0.
-    pub(crate) fn renew(&mut self) -> Result<(), AllocError>
-        ensures { OnOk result (self.new.solver.expanded ≡ 0) }
-    {
-        self.solver = solver_of(self.alloc, self.memo, self.cache)?;
-        Ok(())
+        let memo = memo_of(alloc, args.memo, args.cache)?;
+        let solver = Solver::new(memo, ByTrial, u64::MAX);
+        Ok(Desk { alloc, solver })
     }
 
     /// Begins another problem: the memo may forget those before, and the progress line shows the new number.
@@ -282,19 +267,4 @@ fn form_of(args: &DeskArgs<'_>) -> Form
         Task::Check(_) => Form::Pdn,
         _ => args.form,
     }
-}
-
-/// Makes a solver without a limit, over an empty memo of this kind and size.
-fn solver_of<B: Board>(
-    alloc: Global,
-    memo: MemoKind,
-    cache: usize,
-) -> Result<Solver<B, LeakedMemo<B>, ByTrial>, AllocError>
-    requires some { 1 ≤ cache }
-    requires few { cache ≤ 4_000_000 }
-    ensures none { IfOk result (λ solver. solver.expanded ≡ 0) }
-    ensures unbounded { IfOk result (λ solver. solver.limit ≡ u64.MAX) }
-{
-    let memo = memo_of(alloc, memo, cache)?;
-    Ok(Solver::new(memo, ByTrial, u64::MAX))
 }

@@ -159,7 +159,7 @@ fn search<B: Board, W: DeskWatcher>(
     ensures stop { IsErrOf result Limit → desk.new.solver.expanded ≡ u64.MAX }
 {
     if query.each.is_some() {
-        desk.renew()?;
+        desk.solver.reset();
     }
     let bounds = FindBounds {
         moves: query.moves,

@@ -62,6 +62,15 @@ impl<B: Board> Memo<B> for AnyMemo<B> {
         }
     }
 
+    fn clear(&mut self) {
+        match self {
+            AnyMemo::None(memo) => Memo::<B>::clear(memo),
+            AnyMemo::Lru(memo) => memo.clear(),
+            AnyMemo::Slots(memo) => memo.clear(),
+            AnyMemo::Deep(memo) => memo.clear(),
+        }
+    }
+
     fn dropped(&self) -> u64 {
         match self {
             AnyMemo::None(memo) => Memo::<B>::dropped(memo),

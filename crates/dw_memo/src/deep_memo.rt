@@ -67,6 +67,10 @@ impl<B: Board> Memo<B> for DeepMemo<B> {
         self.table.skip()
     }
 
+    fn clear(&mut self) {
+        self.table.clear();
+    }
+
     fn dropped(&self) -> u64 {
         self.table.dropped()
     }

@@ -73,6 +73,11 @@ impl<B: Board> Memo<B> for LruMemo<B> {
         skip_after_loss(&mut self.dropped)
     }
 
+    fn clear(&mut self) {
+        self.cache.clear();
+        self.dropped = 0;
+    }
+
     fn dropped(&self) -> u64 {
         self.dropped
     }

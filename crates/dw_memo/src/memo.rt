@@ -1,5 +1,5 @@
 //! The trait of memos, the caches of bounds.
-ghost use Rattle.std.specs.Prelude.{◌≡◌, ℕ, true, false};
+ghost use Rattle.std.specs.Prelude.{◌≡◌, ℕ, [], true, false};
 ghost use Rattle.dw_memo.specs.Content.{Content, IsMap, SameEntries, IsFound, MayForget};
 ghost use Rattle.dw_memo.specs.Noting.{IsNote, IsOneLost};
 
@@ -66,6 +66,11 @@ pub trait Memo<B: Board> {
         // This call shows that the content is a map. The law `keeps_its_map` cannot be called here.
         let _ = self.dropped();
     }
+
+    /// Drops all entries, and counts lost ones from 0: the memo is as empty as a new one.
+    fn clear(&mut self)
+        ensures empty { content self.new ≡ [] }
+        ensures dropped { dropped self.new ≡ 0 };
 
     /// Returns the number of entries lost or not kept so far. It stays at `u64::MAX` once it is reached.
     fn dropped(&self) -> u64

@@ -46,6 +46,10 @@ impl<B: Board> Memo<B> for NoMemo {
         Noted::NotKept
     }
 
+    fn clear(&mut self) {
+        self.dropped = 0;
+    }
+
     fn dropped(&self) -> u64 {
         self.dropped
     }

@@ -105,6 +105,15 @@ impl<B: Board, T: Bucket<B>> Table<B, T> {
         }
     }
 
+    /// Gives up all entries, begins with few buckets again, and counts lost entries from 0.
+    pub(crate) fn clear(&mut self)
+        ensures { self.new ≡ record { content = []; dropped = 0 } }
+    {
+        clear(&mut self.buckets);
+        self.counted = 0;
+        self.dropped = 0;
+    }
+
     /// Returns the number of entries lost or not kept so far.
     #[inline]
     pub(crate) fn dropped(&self) -> u64

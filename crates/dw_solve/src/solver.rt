@@ -1,5 +1,5 @@
 //! The solver: forced wins of any position, over one memo.
-ghost use Rattle.std.specs.Prelude.{◌≡◌, ℕ, ◌≤◌, ◌<◌, ◌↔◌, ◌⊎◌, length, IfOk, OnOk, IsOk, IsErrOf, IsTrue};
+ghost use Rattle.std.specs.Prelude.{◌≡◌, ℕ, [], ◌≤◌, ◌<◌, ◌↔◌, ◌⊎◌, length, IfOk, OnOk, IsOk, IsErrOf, IsTrue};
 ghost use Rattle.std.specs.List.Sorted.{IsNonDecreasingBy};
 ghost use Rattle.dw_solve.specs.declared.stop.Stop.TheVariants.{Limit};
 ghost use Rattle.dw_solve.specs.Wins.{Win, Lost};
@@ -131,6 +131,17 @@ impl<B: Board, M: Memo<B>, G: Guide<B>> Solver<B, M, G> {
         ensures limit { self.new.limit ≡ self.old.limit }
     {
         self.search.memo.forget();
+    }
+
+    /// Begins anew: empties the memo, and counts lost entries and expanded positions from 0. The limit stays.
+    pub fn reset(&mut self)
+        ensures empty { M.content self.new.memo ≡ [] }
+        ensures dropped { M.dropped self.new.memo ≡ 0 }
+        ensures expanded { self.new.expanded ≡ 0 }
+        ensures limit { self.new.limit ≡ self.old.limit }
+    {
+        self.search.memo.clear();
+        self.search.expanded = 0;
     }
 
     /// Returns whether the side to move wins within `moves` of its moves, which must be at most 20. If the memo decides

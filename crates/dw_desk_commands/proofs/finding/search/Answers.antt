@@ -4,14 +4,14 @@ use Rattle.dw_study.specs.Telling.{IsKnownInTime}
 use Rattle.std.proofs.lemmas.Bool.{true≢false}
 use Rattle.dw_desk_commands.specs.inner.Searching.{IsBounded}
 use Rattle.dw_desk_commands.proofs.ProblemLemmas.{if_given}
-use Rattle.dw_desk_commands.proofs.finding.search.Goals.{then-is_some+in_ok-renew, else-is_some}
+use Rattle.dw_desk_commands.proofs.finding.search.Goals.{then-is_some, else-is_some}
 use Rattle.dw_desk_commands.proofs.finding.search.Goals as goal
 
 pub returns-clause-bounded : goal.returns-clause-bounded
 returns-clause-bounded g c =
     let geo = g.B.Board.geometry in
     let fresh : c.is_some.result ≡ true → c.if-is_some.desk.solver.expanded ≡ 0 = λ given. elim c.if-is_some.branch [
-      | then-is_some+in_ok-renew w ↦ ap (λ d. d.solver.expanded) w.desk-is ∙ w.in_ok-renew.ensures
+      | then-is_some w ↦ ap (λ d. d.solver.expanded) w.desk-is ∙ w.reset.ensures.expanded
       | else-is_some w ↦ absurd (true≢false (sym given ∙ w.if-is_some.false))
     ] in
     if_given c.args.query.now.each c.is_some.result (IsBounded geo c.args.position.now c.args.query.now.moves.value
