@@ -270,7 +270,8 @@ class Chromium(Browser):
         events = [event for event in self.traced if event]
         threads = {(event["pid"], event["tid"]) for event in events if event["name"] == "thread_name"
                    and event["args"]["name"] == "CrRendererMain"}
-        return max(event.get("tdur", 0) / 1000 for event in events if event["ph"] == "X"
+        # (the clock of the processor sometimes says more than that on the wall)
+        return max(min(event.get("tdur", 0), event["dur"]) / 1000 for event in events if event["ph"] == "X"
                    and (event["pid"], event["tid"]) in threads and "RunTask" in event["name"])
 
     def resize(self, width, height, is_phone=False):

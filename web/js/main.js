@@ -20,7 +20,7 @@ import { Workers } from '../../package/workers.js';
 const USUAL_MOVES = 8;
 
 /** How many letters of the packed module are read at a time. Four of them are three bytes. */
-const PIECE = 131_072;
+const PIECE = 262_144;
 
 /**
  * Writes the bytes of a text in base64, and lets the page draw itself in between.
@@ -31,7 +31,9 @@ async function writeBase64(text, stream) {
     const writer = stream.getWriter();
     for (let at = 0; at < text.length; at += PIECE) {
         await breathe();
-        await writer.write(Uint8Array.from(atob(text.slice(at, at + PIECE)), (letter) => letter.charCodeAt(0)));
+        const letters = atob(text.slice(at, at + PIECE)), bytes = new Uint8Array(letters.length);
+        for (let i = 0; i < letters.length; i++) bytes[i] = letters.charCodeAt(i);
+        await writer.write(bytes);
     }
     await writer.close();
 }
