@@ -2,7 +2,7 @@
 use Rattle.std.specs.Prelude.{◌≡◌, ◌⊎◌, ℕ, ◌==◌, nat_lt, if◌then◌else◌, Bool, true, false, List, Option, Some, None}
 use Rattle.std.specs.Prelude.{Result, Ok, Err}
 use Rattle.std.specs.Borrow.{Bor}
-use Rattle.std.specs.Io.KnownBytes.{Appends}
+use Rattle.dw_notation.specs.Streams.{Appends}
 use Rattle.std.specs.String.{string_bytes}
 use Rattle.dw_arguments.specs.declared.error.CliError.{CliError}
 use Rattle.dw_arguments.specs.declared.error.CliError.TheVariants as words
@@ -67,7 +67,7 @@ SaysWhy why ending = ⊥
 
 -- The ending if a command line makes no request. Help that was asked for is written, unless the sink fails; otherwise
 -- nothing is written.
-abbrev pub EndsUnread : (before after : Option (List ℕ)) → (failed : Bool) → CliError → Ending (Bor (List ℕ)) → Type 0
+abbrev pub EndsUnread : (before after : List ℕ) → (failed : Bool) → CliError → Ending (Bor (List ℕ)) → Type 0
 EndsUnread before after failed (words.Help text) ending =
     ((ending ≡ end.Done) × Appends before after (string_bytes text)) ⊎ ((ending ≡ write_failed) × (failed ≡ true))
 EndsUnread before after failed (words.NoCommand text) ending = SaysWhy (string_bytes text) ending × (after ≡ before)

@@ -89,7 +89,7 @@ impl<T> Ending<T> {
 /// The sink must not have failed.
 pub fn end_unread<'a, K: Sink>(error: &'a CliError, sink: &mut K) -> Ending<&'a str>
     requires { K.is_failed sink.old ≡ false }
-    ensures { EndsUnread (K.taken sink.old) (K.taken sink.new) (K.is_failed sink.new) error.now result }
+    ensures { EndsUnread (K.accepted sink.old) (K.accepted sink.new) (K.is_failed sink.new) error.now result }
 {
     match error {
         CliError::Help(text) => match write_all(sink, text.as_str().as_bytes()) {

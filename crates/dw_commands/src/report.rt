@@ -9,7 +9,7 @@ ghost use Rattle.dw_list.specs.Tokens.{token_fault};
 ghost use Rattle.dw_memo.specs.Choice.{content_of};
 ghost use Rattle.dw_moves.specs.Moves.{Move as AnyMove};
 ghost use Rattle.dw_report.specs.Request.{request_of};
-ghost use Rattle.dw_report.specs.Running.{RunEnds, StopsRightly};
+ghost use Rattle.dw_report.specs.Running.{Runs, StopsRightly};
 
 use crate::ending::Ending;
 use crate::memo::{LeakedMemo, memo_of};
@@ -73,8 +73,8 @@ impl<B: Board> Job<B> {
         requires source { S.is_failed source.old ≡ false }
         requires sink { K.is_failed sink.old ≡ false }
         ensures { (ran : Result Summary RunFault)
-            × RunEnds B.geometry (request_of self.settings) (S.coming source.old) (S.coming source.new)
-            (S.has_ended source.new) (K.taken sink.old) (K.taken sink.new) ran
+            × Runs B.geometry (request_of self.settings) (S.supply source.old) (S.supply source.new)
+            (K.accepted sink.old) (K.accepted sink.new) ran
             × (ran ≡ Err RunFault.Read → S.is_failed source.new ≡ true)
             × (ran ≡ Err RunFault.Write → K.is_failed sink.new ≡ true)
             × StopsRightly self.settings.command self.settings.limit ran

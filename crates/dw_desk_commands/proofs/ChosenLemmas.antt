@@ -1,25 +1,33 @@
 -- The chosen games: what is handed out in turn is what is defined.
 use Rattle.std.proofs.Common.{◌≡◌, ◌∙◌, ◌+◌, ◌-◌, ◌<◌, ◌≤◌, ◌++◌, ◌∷◌, inl, inr, refl, sym, ap, subst, arith, ℕ, zero}
 use Rattle.std.proofs.Common.{suc, Bool, true, false, List, [], Option, Some, None, length, map, take, cond, ltb, eqb}
-use Rattle.std.proofs.Common.{leb, Ok, append-nil, take_all, zero-le}
+use Rattle.std.proofs.Common.{leb, Ok, append-nil, take_all, zero-le, append_assoc}
 use Rattle.std.specs.Prelude.{filter, option_map, IfSome, MatchBool}
-use Rattle.std.specs.Io.KnownBytes.{Consumes, IsAtEnd}
-use Rattle.std.proofs.lemmas.Bool.{cases_Bool, and_right, eqb-true, leb-true, lt-leb, ltb-true}
+use Rattle.std.proofs.lemmas.Bool.{cases_Bool, and_right, eqb-true, leb-true, lt-leb, ltb-true, true≢false}
+use Rattle.std.proofs.lemmas.List.{append_cancel_left}
 use Rattle.dw_board.specs.Geometry.{Geometry}
-use Rattle.dw_desk_commands.specs.Chosen.{as_game, AreChosen, AreChosenOf, AreGamesIn, is_up_to, is_in}
+use Rattle.dw_desk_commands.specs.Chosen.{as_game, AreChosen, AreGamesIn, is_up_to, is_in}
 use Rattle.dw_desk_commands.specs.inner.Choosing.{HandsOut, AreAhead, AreComing, AreLeft, Comes, ComesNext, EndIsKnown}
-use Rattle.dw_desk_commands.specs.inner.Choosing.{AreToCome, IsKnown, IsTextKnown, is_met, up_to}
+use Rattle.dw_desk_commands.specs.inner.Choosing.{AreToCome, GoesOn, IsRest, MayBe, is_met, met_end, source_of, up_to}
 use Rattle.dw_desk_commands.specs.inner.NextGame.{IsNext}
 use Rattle.dw_desk_commands.specs.declared.chosen.Chosen.{Chosen}
 use Rattle.dw_desk_commands.specs.declared.chosen.Text.{Text}
+use Rattle.dw_desk_commands.specs.declared.chosen.Text.TheVariants as texts
 use Rattle.dw_arguments.specs.declared.portion.Portion.{Portion}
 use Rattle.dw_games.specs.GameReading as games
 use Rattle.dw_games.specs.GameReading.{numbered_game}
 use Rattle.dw_games.specs.Games.{NumberedGame, Said, games_from}
 use Rattle.dw_games.specs.declared.games.Game.{Game}
+use Rattle.dw_games.specs.declared.games.Games.{Games}
+use Rattle.dw_games.specs.inner.GameReaders.{reading_of}
 use Rattle.dw_notation.specs.Problems.{Numbered, number_from, numbered}
 use Rattle.dw_notation.specs.Reading as problems
+use Rattle.dw_notation.specs.Streams.{Supply, IsOver}
+use Rattle.dw_notation.specs.inner.Readers.{reader_of}
+use Rattle.dw_notation.specs.inner.StreamLemmas.{Reads-nil, Reads-trans}
+use Rattle.dw_report.specs.Running.{HoldsAhead}
 use Rattle.dw_notation.specs.declared.problems.Problem.{Problem}
+use Rattle.dw_notation.specs.declared.problems.reader.Problems.{Problems}
 use Rattle.dw_notation.specs.TextLines.{Found}
 use Rattle.dw_notation.specs.declared.problems.Form.{Form}
 use Rattle.dw_notation.specs.declared.problems.Form.TheVariants.{Fens, Pdn}
@@ -156,52 +164,38 @@ one_looked_at portion (suc left) next Old New game found some is before ahead ar
 
 -- ---- the next game of a text
 
--- what a known source still gives behind what was read
-rest_of : (bytes : List ℕ) (coming left : Option (List ℕ)) (read : List ℕ) → coming ≡ Some bytes
-    → Consumes coming left read → (rest : List ℕ) × (left ≡ Some rest) × (bytes ≡ read ++ rest)
-rest_of bytes coming None read is took = absurd (subst (λ z. Consumes z None read) is took)
-rest_of bytes coming (Some rest) read is took = (rest, refl, subst (λ z. Consumes z (Some rest) read) is took)
-
-game_comes : {B : Type 0} (g : Geometry) (bytes rest read : List ℕ) (old new : games.Reader) (found : Option (Game B))
-    → bytes ≡ read ++ rest → games.MayCome new rest → games.Gives g old new read (Ok found)
-    → Comes (old.ahead g bytes) (new.ahead g rest) found
-game_comes g bytes rest read old new None split may gives =
-    subst (λ z. old.ahead g z []) (sym split) (gives.1 rest may)
-game_comes g bytes rest read old new (Some game) split may gives = (
-  (λ all ahead. subst (λ z. old.ahead g z (numbered_game game ∷ all)) (sym split) (gives.0 rest all ahead)),
-  gives.1 rest may,
-)
+game_comes : {B : Type 0} (g : Geometry) (rest read : List ℕ) (old new : games.Reader) (found : Option (Game B))
+    → games.MayCome new rest → games.Gives g old new read (Ok found)
+    → Comes (old.ahead g (read ++ rest)) (new.ahead g rest) found
+game_comes g rest read old new None may gives = gives.1 rest may
+game_comes g rest read old new (Some game) may gives = (λ all ahead. gives.0 rest all ahead, gives.1 rest may)
 
 -- of a text of tags
-pub next_game : {B : Type 0} (g : Geometry) (bytes : List ℕ) (coming left : Option (List ℕ)) (has_ended : Bool)
-    (old new : games.Reader) (found : Option (Game B)) → coming ≡ Some bytes
-    → games.GivesNext g coming left old new (Ok found) → games.EndIsTrue left has_ended new
-    → (rest : List ℕ) × (left ≡ Some rest) × Comes (old.ahead g bytes) (new.ahead g rest) found
-next_game g bytes coming left has_ended old new found is given end =
-    let more = rest_of bytes coming left given.read is given.took in (
-      more.0,
-      more.1,
-      game_comes g bytes more.0 given.read old new found more.2
-          (λ met. subst IsAtEnd more.1 (end met).0) given.gives,
-    )
+pub next_game : {B S : Type 0} (g : Geometry) (supply : S → Supply) (old new : Games B S) (found : Option (Game B))
+    → games.GivesNext g (supply (games.source_of old)) (supply (games.source_of new)) (reading_of old) (reading_of new)
+    (Ok found) → ComesNext g supply (texts.Pdn old) (texts.Pdn new) found
+next_game g supply old new found given = record {
+  read = given.read;
+  took = given.took;
+  still = given.still;
+  comes = λ rest may. game_comes g rest given.read (reading_of old) (reading_of new) found may given.gives;
+}
 
-first_ahead : {B : Type 0} (g : Geometry) (bytes rest read : List ℕ) (old new : problems.Reader) (met : Bool)
-    (problem : Problem B) → bytes ≡ read ++ rest → new.met_end ≡ met → (new.met_end ≡ true → rest ≡ [])
+first_ahead : {B : Type 0} (g : Geometry) (rest read : List ℕ) (old new : problems.Reader) (met : Bool)
+    (problem : Problem B) → new.met_end ≡ met → (new.met_end ≡ true → rest ≡ [])
     → problems.Gives g old new read (Ok (Some problem))
-    → old.ahead g true bytes ≡ numbered problem ∷ new.ahead g true rest
-first_ahead g bytes rest read old new true problem split is end gives =
+    → old.ahead g true (read ++ rest) ≡ numbered problem ∷ new.ahead g true rest
+first_ahead g rest read old new true problem is end gives =
     let none = end is in
-    ap (old.ahead g true) (split ∙ (ap (λ z. read ++ z) none ∙ append-nil read))
+    ap (old.ahead g true) (ap (λ z. read ++ z) none ∙ append-nil read)
     ∙ (subst (λ z. MatchBool z (old.ahead g true read ≡ numbered problem ∷ new.ahead g true [])
     ((over : Bool) (more : List ℕ) → old.ahead g over (read ++ more) ≡ numbered problem ∷ new.ahead g over more)) is
     gives
     ∙ ap (λ z. numbered problem ∷ new.ahead g true z) (sym none))
-first_ahead g bytes rest read old new false problem split is end gives =
-    ap (old.ahead g true) split
-    ∙ subst (λ z. MatchBool z (old.ahead g true read ≡ numbered problem ∷ new.ahead g true [])
+first_ahead g rest read old new false problem is end gives =
+    subst (λ z. MatchBool z (old.ahead g true read ≡ numbered problem ∷ new.ahead g true [])
     ((over : Bool) (more : List ℕ) → old.ahead g over (read ++ more) ≡ numbered problem ∷ new.ahead g over more)) is
-    gives
-    true rest
+    gives true rest
 
 abbrev with_text : Numbered → (tags movetext : List ℕ) → NumberedGame
 with_text problem tags movetext =
@@ -213,117 +207,152 @@ pub without_text : (problem : Numbered) (tags movetext : List ℕ) → tags ≡ 
 without_text problem tags movetext none empty = rw (none, empty) refl
 
 -- of a text of lines
-pub next_line : {B : Type 0} (g : Geometry) (bytes : List ℕ) (coming left : Option (List ℕ)) (has_ended : Bool)
-    (old new : problems.Reader) (problem : Problem B) (game : NumberedGame) → game ≡ as_game (numbered problem)
-    → coming ≡ Some bytes → problems.NextGives g coming left old new (Ok (Some problem))
-    → problems.EndIsTrue left has_ended new
-    → (rest : List ℕ) × (left ≡ Some rest)
-    × (((all : List NumberedGame) → all ≡ map as_game (new.ahead g true rest)
-    → game ∷ all ≡ map as_game (old.ahead g true bytes))
-    × ((all : List NumberedGame) × (all ≡ map as_game (new.ahead g true rest))))
-next_line g bytes coming left has_ended old new problem game same is given end =
-    let more = rest_of bytes coming left given.read is given.took in
-    let first = first_ahead g bytes more.0 given.read old new new.met_end problem more.2 refl
-    (λ met. subst IsAtEnd more.1 (end met).0) given.gives in (
-      more.0,
-      more.1,
-      (
-        (λ all ahead. ap (λ z. z ∷ all) same ∙ (ap (λ z. as_game (numbered problem) ∷ z) ahead
-            ∙ sym (ap (map as_game) first))),
-        (map as_game (new.ahead g true more.0), refl),
-      ),
-    )
+pub next_line : {B S : Type 0} (g : Geometry) (supply : S → Supply) (old new : Problems B S) (problem : Problem B)
+    (game : Game B) → numbered_game game ≡ as_game (numbered problem)
+    → problems.NextGives g (supply (problems.source_of old)) (supply (problems.source_of new)) (reader_of old)
+    (reader_of new) (Ok (Some problem)) → ((reader_of old).met_end ≡ true → (reader_of new).met_end ≡ true)
+    → ComesNext g supply (texts.Fens old) (texts.Fens new) (Some game)
+next_line g supply old new problem game same given stays = record {
+  read = given.read;
+  took = given.took;
+  still = λ met. (given.still met, stays met);
+  comes = λ rest may.
+      let first = first_ahead g rest given.read (reader_of old) (reader_of new) (reader_of new).met_end problem refl
+      may given.gives in (
+        λ all ahead. ap (λ z. z ∷ all) same ∙ (ap (λ z. as_game (numbered problem) ∷ z) ahead
+            ∙ sym (ap (map as_game) first)),
+        (map as_game ((reader_of new).ahead g true rest), refl),
+      );
+}
 
-none_ahead : (B : Type 0) (g : Geometry) (bytes rest read : List ℕ) (old new : problems.Reader)
-    → bytes ≡ read ++ rest → (new.met_end ≡ true → rest ≡ []) → problems.Gives {B = B} g old new read (Ok None)
-    → old.ahead g true bytes ≡ []
-none_ahead B g bytes rest read old new split end (here, behind, inl met) =
-    ap (old.ahead g true) (split ∙ (ap (λ z. read ++ z) (end met) ∙ append-nil read)) ∙ here
-none_ahead B g bytes rest read old new split end (here, behind, inr (past, all)) =
-    ap (old.ahead g true) split ∙ all rest
+none_ahead : (B : Type 0) (g : Geometry) (rest read : List ℕ) (old new : problems.Reader)
+    → (new.met_end ≡ true → rest ≡ []) → problems.Gives {B = B} g old new read (Ok None)
+    → old.ahead g true (read ++ rest) ≡ []
+none_ahead B g rest read old new end (here, behind, inl met) =
+    ap (old.ahead g true) (ap (λ z. read ++ z) (end met) ∙ append-nil read) ∙ here
+none_ahead B g rest read old new end (here, behind, inr (past, all)) = all rest
 
-pub no_line : (B : Type 0) (g : Geometry) (bytes : List ℕ) (coming left : Option (List ℕ)) (has_ended : Bool)
-    (old new : problems.Reader) → coming ≡ Some bytes → problems.NextGives {B = B} g coming left old new (Ok None)
-    → problems.EndIsTrue left has_ended new
-    → (rest : List ℕ) × (left ≡ Some rest) × ([] ≡ map as_game (old.ahead g true bytes))
-no_line B g bytes coming left has_ended old new is given end =
-    let more = rest_of bytes coming left given.read is given.took in (
-      more.0,
-      more.1,
-      sym (ap (map as_game) (none_ahead B g bytes more.0 given.read old new more.2
-          (λ met. subst IsAtEnd more.1 (end met).0) given.gives)),
-    )
+pub no_line : {B S : Type 0} (g : Geometry) (supply : S → Supply) (old new : Problems B S)
+    → problems.NextGives {B = B} g (supply (problems.source_of old)) (supply (problems.source_of new)) (reader_of old)
+    (reader_of new) (Ok None) → ((reader_of old).met_end ≡ true → (reader_of new).met_end ≡ true)
+    → ComesNext {B = B} g supply (texts.Fens old) (texts.Fens new) None
+no_line {B} g supply old new given stays = record {
+  read = given.read;
+  took = given.took;
+  still = λ met. (given.still met, stays met);
+  comes = λ rest may. sym (ap (map as_game) (none_ahead B g rest given.read (reader_of old) (reader_of new) may
+      given.gives));
+}
 
 -- ---- what is handed out
 
--- of a source that is known
-pub if_known : (g : Geometry) (form : Form) (portion : Portion) (known : Option (List ℕ)) (found : List NumberedGame)
-    → ((text : List ℕ) → known ≡ Some text → AreChosen g form portion text found)
-    → AreChosenOf g form portion known found
-if_known g form portion None found are = tt
-if_known g form portion (Some text) found are = are text refl
+-- the same whole text, before a call
+rest_before : {B S : Type 0} (g : Geometry) (supply : S → Supply) (old new : Text B S) (found : Option (Game B))
+    (next : ComesNext g supply old new found) (whole rest : List ℕ) → IsRest supply whole new rest
+    → IsRest supply whole old (next.read ++ rest)
+rest_before g supply old new found next whole rest is = record {
+  joined = is.joined ∙ ap (λ z. z ++ rest) next.took.told ∙ append_assoc (supply (source_of old)).told next.read rest;
+  may = λ met. let still = next.still met in ap (λ z. z ++ rest) still.0 ∙ is.may still.1;
+}
 
 -- a game more is looked at
-pub then_comes : {B S : Type 0} (g : Geometry) (coming : S → Option (List ℕ)) (has_ended : S → Bool)
-    (portion : Portion) (left next : ℕ) (old new : Text B S) (game : Game B) (found : List NumberedGame)
-    → ComesNext g coming has_ended old new (Some game)
-    → (EndIsKnown coming has_ended old → EndIsKnown coming has_ended new) → 0 < left
-    → next ≡ cond (is_met portion.last game.problem.number) 0 (left - 1)
-    → AreComing g coming has_ended portion next new found
-    → AreComing g coming has_ended portion left old
+pub then_comes : {B S : Type 0} (g : Geometry) (supply : S → Supply) (portion : Portion) (left after : ℕ)
+    (old new : Text B S) (game : Game B) (whole : List ℕ) (found : List NumberedGame)
+    → ComesNext g supply old new (Some game) → 0 < left
+    → after ≡ cond (is_met portion.last game.problem.number) 0 (left - 1)
+    → AreComing g supply portion after new whole found
+    → AreComing g supply portion left old whole
     (cond (is_in portion game.problem.number) (numbered_game game ∷ []) [] ++ found)
-then_comes g coming has_ended portion left next old new game found comes ends some is come = λ bytes known end.
-    let one = comes bytes known end in
-    one_looked_at portion left next (AreAhead g old bytes) (AreAhead g new one.0) (numbered_game game) found some is
-    one.2.0 one.2.1 (come one.0 one.1 (ends end))
-
--- no game comes
-pub none_comes : {B S : Type 0} (g : Geometry) (coming : S → Option (List ℕ)) (has_ended : S → Bool)
-    (portion : Portion) (left : ℕ) (old new : Text B S) → ComesNext {B = B} g coming has_ended old new None
-    → AreComing g coming has_ended portion left old []
-none_comes g coming has_ended portion left old new comes = λ bytes known end.
-    inr ([], (comes bytes known end).2, sym (ap (up_to portion) (take_all left [] zero-le)))
-
--- none is looked at any more
-pub none_left : {B S : Type 0} (g : Geometry) (coming : S → Option (List ℕ)) (has_ended : S → Bool)
-    (portion : Portion) (left : ℕ) (text : Text B S) → left ≤ 0 → AreComing g coming has_ended portion left text []
-none_left g coming has_ended portion left text none = λ bytes known end. inl (omega (arith, none), refl)
-
--- ---- what is known of a text
-
--- it is known of the text behind a game
-pub still_known : {B S : Type 0} (g : Geometry) (coming : S → Option (List ℕ)) (has_ended : S → Bool)
-    (old new : Text B S) (game : Game B) → ComesNext g coming has_ended old new (Some game)
-    → (EndIsKnown coming has_ended old → EndIsKnown coming has_ended new) → IsTextKnown coming has_ended old
-    → IsTextKnown coming has_ended new
-still_known g coming has_ended old new game comes ends known =
-    let one = comes known.0.0 known.0.1 known.1 in ((one.0, one.1), ends known.1)
-
-some_is : (x y : List ℕ) → Some x ≡ Some y → x ≡ y
-some_is x y e = cc
-
--- behind a game there are those that are still to come
-pub some_come : {B S : Type 0} (g : Geometry) (coming : S → Option (List ℕ)) (has_ended : S → Bool)
-    (portion : Portion) (left : ℕ) (old new : Text B S) (game : Game B)
-    → ComesNext g coming has_ended old new (Some game) → IsTextKnown coming has_ended old
-    → (games : List NumberedGame) × AreComing g coming has_ended portion left new games
-some_come g coming has_ended portion left old new game comes known =
-    let one = comes known.0.0 known.0.1 known.1 in
-    let all = one.2.1 in (
-      up_to portion (take left all.0),
-      λ bytes is end. inr (
-        all.0,
-        subst (λ z. AreAhead g new z all.0) (some_is one.0 bytes (sym one.1 ∙ is)) all.1,
-        refl,
-      ),
+then_comes g supply portion left after old new game whole found next some is come =
+    let rest = come.0 in
+    let comes = next.comes rest come.1.may in (
+      next.read ++ rest,
+      rest_before g supply old new (Some game) next whole rest come.1,
+      one_looked_at portion left after (AreAhead g old (next.read ++ rest)) (AreAhead g new rest) (numbered_game game)
+          found some is comes.0 comes.1 come.2,
     )
 
+-- no game comes
+pub none_comes : {B S : Type 0} (g : Geometry) (supply : S → Supply) (portion : Portion) (left : ℕ)
+    (old new : Text B S) (whole : List ℕ) → ComesNext {B = B} g supply old new None
+    → ((rest : List ℕ) × IsRest supply whole new rest) → AreComing g supply portion left old whole []
+none_comes g supply portion left old new whole next (rest, is) = (
+  next.read ++ rest,
+  rest_before g supply old new None next whole rest is,
+  inr ([], next.comes rest is.may, sym (ap (up_to portion) (take_all left [] zero-le))),
+)
+
+-- none is looked at any more
+pub none_left : {B S : Type 0} (g : Geometry) (supply : S → Supply) (portion : Portion) (left : ℕ) (text : Text B S)
+    (whole : List ℕ) → left ≤ 0 → ((rest : List ℕ) × IsRest supply whole text rest)
+    → AreComing g supply portion left text whole []
+none_left g supply portion left text whole none (rest, is) = (rest, is, inl (omega (arith, none), refl))
+
+-- behind a game there are those that are still to come
+pub some_come : {B S : Type 0} (g : Geometry) (supply : S → Supply) (portion : Portion) (left : ℕ) (old new : Text B S)
+    (game : Game B) (whole : List ℕ) → ComesNext g supply old new (Some game)
+    → ((rest : List ℕ) × IsRest supply whole new rest)
+    → (games : List NumberedGame) × AreComing g supply portion left new whole games
+some_come g supply portion left old new game whole next (rest, is) =
+    let all = (next.comes rest is.may).1 in
+    (up_to portion (take left all.0), rest, is, inr (all.0, all.1, refl))
+
 -- what a call for the next game answered
-pub is_next : {B S : Type 0} (g : Geometry) (coming : S → Option (List ℕ)) (has_ended : S → Bool) (old new : Chosen B S)
-    (found : Option (Game B))
-    → HandsOut (AreToCome g coming has_ended old) (AreToCome g coming has_ended new) (option_map numbered_game found)
-    → IfSome found (λ _. IsKnown coming has_ended old → (games : List NumberedGame)
-    × AreToCome g coming has_ended new games)
-    → IsNext g coming has_ended old new (option_map numbered_game found)
-is_next g coming has_ended old new None handed more = (handed, tt)
-is_next g coming has_ended old new (Some game) handed more = (handed, more)
+pub is_next : {B S : Type 0} (g : Geometry) (supply : S → Supply) (old new : Chosen B S) (found : Option (Game B))
+    → HandsOut (AreToCome g supply old) (AreToCome g supply new) (MayBe supply new) (option_map numbered_game found)
+    → IfSome found (λ _. (whole : List ℕ) → MayBe supply new whole
+    → (games : List NumberedGame) × AreToCome g supply new whole games) → GoesOn supply old.text new.text
+    → IsNext g supply old new (option_map numbered_game found)
+is_next g supply old new None handed more on = (handed, tt, on)
+is_next g supply old new (Some game) handed more on = (handed, more, on)
+
+-- ---- reading goes on
+
+pub GoesOn-refl : {B S : Type 0} (supply : S → Supply) (text : Text B S) → GoesOn supply text text
+GoesOn-refl supply text = record { read = []; took = Reads-nil (supply (source_of text)); end = λ known. known }
+
+pub GoesOn-next : {B S : Type 0} (g : Geometry) (supply : S → Supply) (old mid new : Text B S) (found : Option (Game B))
+    → GoesOn supply old mid → ComesNext g supply mid new found → (EndIsKnown supply mid → EndIsKnown supply new)
+    → GoesOn supply old new
+GoesOn-next g supply old mid new found on next end = record {
+  read = on.read ++ next.read;
+  took = Reads-trans (supply (source_of old)) (supply (source_of mid)) (supply (source_of new)) on.read next.read on.took
+      next.took;
+  end = λ known. end (on.end known);
+}
+
+pub GoesOn-trans : {B S : Type 0} (supply : S → Supply) (old mid new : Text B S) → GoesOn supply old mid
+    → GoesOn supply mid new → GoesOn supply old new
+GoesOn-trans supply old mid new on more = record {
+  read = on.read ++ more.read;
+  took = Reads-trans (supply (source_of old)) (supply (source_of mid)) (supply (source_of new)) on.read more.read on.took
+      more.took;
+  end = λ known. more.end (on.end known);
+}
+
+over_at : {B S : Type 0} (supply : S → Supply) (text : Text B S) → EndIsKnown supply text → met_end text ≡ true
+    → IsOver (supply (source_of text))
+over_at supply (texts.Fens lines) known met = known met
+over_at supply (texts.Pdn sections) known met = known met
+
+-- of each text that may follow the bytes read, or of those alone if the end was met
+pub holds_ahead : {B S : Type 0} (supply : S → Supply) (P : List ℕ → Type 0) (old new : Chosen B S)
+    (on : GoesOn supply old.text new.text) → EndIsKnown supply old.text
+    → ((whole : List ℕ) → MayBe supply new whole
+    → (bytes : List ℕ) × (whole ≡ (supply (source_of old.text)).told ++ bytes) × P bytes)
+    → HoldsAhead P (supply (source_of new.text)) on.read
+unfolding MayBe
+holds_ahead supply P old new on known holds = elim (cases_Bool (met_end new.text)) [
+  | inl met ↦ inr (
+    over_at supply new.text (on.end known) met,
+    subst P (append-nil on.read) (at [] (λ _. refl)),
+  )
+  | inr unmet ↦ inl (λ more. at more (λ met. absurd (true≢false (sym met ∙ unmet))))
+]
+  where
+    at : (more : List ℕ) → (met_end new.text ≡ true → more ≡ []) → P (on.read ++ more)
+    at more may =
+        let whole = (supply (source_of new.text)).told ++ more in
+        let found = holds whole (more, record { joined = refl; may = may }) in
+        subst P (append_cancel_left (supply (source_of old.text)).told found.0 (on.read ++ more) (sym found.1
+        ∙ (ap (λ z. z ++ more) on.took.told ∙ append_assoc (supply (source_of old.text)).told on.read more))) found.2

@@ -2,10 +2,10 @@
 use Rattle.std.proofs.Common.{◌≡◌, ◌++◌, ◌∷◌, ◌∙◌, ◌+◌, ◌<◌, ◌≤◌, ap, refl, sym, subst, arith, ℕ, Bool, List, [], Bor}
 use Rattle.std.proofs.Common.{Option, Some, None, MatchOption, cond, flat_map, map, length, option_map, append-nil}
 use Rattle.std.proofs.Common.{Result, Ok, Err, IfOk, append_assoc, length-append, ◌⊎◌, inl, inr, true, false}
-use Rattle.std.specs.Io.KnownBytes.{Appends}
+use Rattle.dw_notation.specs.Streams.{Appends}
 use Rattle.std.specs.List.{All, cons_option, count_by, filter_map}
 use Rattle.std.specs.Prelude.{codes}
-use Rattle.std.proofs.KnownBytes.{Appends-trans}
+use Rattle.dw_notation.specs.inner.StreamLemmas.{Appends-trans}
 use Rattle.std.proofs.lemmas.Grind.{flat_map-append}
 use Rattle.std.proofs.lemmas.List.{map-append, length-map}
 use Rattle.std.proofs.lemmas.List.Elements.{All-push}
@@ -50,10 +50,11 @@ said_map [] = refl
 said_map (t ∷ read) = ap (λ z. (tag_text t).tag ∷ z) (said_map read)
 
 -- what is written of the games that were handed out, and what is to come later
-pub record SoFar (g : Geometry) (query : PageArgs) (Old New : List NumberedGame → Type 0) (counts : Counts)
-    (before after : Option (List ℕ)) (later : List ℕ) : Type 0 where
+pub record SoFar (g : Geometry) (query : PageArgs) (Old New : List ℕ → List NumberedGame → Type 0)
+    (counts : Counts) (before after later : List ℕ) : Type 0 where
   pub shown : List Shown
-  pub handed : (more : List NumberedGame) → New more → Old (map (λ s. s.game) shown ++ more)
+  pub handed : (whole : List ℕ) (more : List NumberedGame) → New whole more
+      → Old whole (map (λ s. s.game) shown ++ more)
   pub each : All (IsShownIn g query) shown
   pub number : length shown ≤ MAX_PROBLEMS + 1 → counts.shown ≡ length shown
   pub refused : length shown ≤ MAX_PROBLEMS + 1 → counts.refused ≡ count_by (λ s. s.is_refused) shown
@@ -61,13 +62,13 @@ pub record SoFar (g : Geometry) (query : PageArgs) (Old New : List NumberedGame 
       (head g (language_for query.language) query.title.now ++ flat_map (λ s. s.part) shown)
   pub kept : later ≡ heading_of query.solutions (language_for query.language) ++ flat_map (λ s. s.later) shown
 
-pub none_yet : (g : Geometry) (query : PageArgs) (Old : List NumberedGame → Type 0) (counts : Counts)
-    (before after : Option (List ℕ)) (later : List ℕ) → counts.shown ≡ 0 → counts.refused ≡ 0
+pub none_yet : (g : Geometry) (query : PageArgs) (Old : List ℕ → List NumberedGame → Type 0)
+    (counts : Counts) (before after later : List ℕ) → counts.shown ≡ 0 → counts.refused ≡ 0
     → Appends before after (head g (language_for query.language) query.title.now)
     → later ≡ heading_of query.solutions (language_for query.language) → SoFar g query Old Old counts before after later
 none_yet g query Old counts before after later shown refused wrote kept = record {
   shown = [];
-  handed = λ more these. these;
+  handed = λ whole more these. these;
   each = λ k d lt. absurd (omega (arith, lt));
   number = λ few. shown;
   refused = λ few. refused;
@@ -103,15 +104,17 @@ flat_push f front xs y =
     ∙ ap (λ t. front ++ t) (sym (flat_map-append f xs (y ∷ []) ∙ ap (λ t. flat_map f xs ++ t) (append-nil (f y))))
 
 -- one more is written
-pub then_one : (g : Geometry) (query : PageArgs) (Old Mid New : List NumberedGame → Type 0) (counts counted : Counts)
-    (before after written : Option (List ℕ)) (later kept : List ℕ) (game : NumberedGame) (is_refused : Bool)
-    → SoFar g query Old Mid counts before after later → HandsOut Mid New (Some game)
+pub then_one : (g : Geometry) (query : PageArgs) (Old Mid New : List ℕ → List NumberedGame → Type 0)
+    (MayBe : List ℕ → Type 0) (counts counted : Counts) (before after written later kept : List ℕ)
+    (game : NumberedGame) (is_refused : Bool)
+    → SoFar g query Old Mid counts before after later → HandsOut Mid New MayBe (Some game)
     → ((part new : List ℕ) × IsPart g query game.number game.said.found game.said.tags is_refused part new
     × (kept ≡ later ++ new) × Appends after written part)
     → (counts.shown < 4294967295 → counts.refused < 4294967295
     → counted ≡ record { shown = counts.shown + 1; refused = counts.refused + cond is_refused 1 0 })
     → SoFar g query Old New counted before written kept
-then_one g query Old Mid New counts counted before after written later kept game is_refused so_far handed one with =
+then_one g query Old Mid New MayBe counts counted before after written later kept game is_refused so_far handed one
+    with =
     let xs = so_far.shown in
     let this : Shown = record { game = game; is_refused = is_refused; part = one.0; later = one.1 } in
     let counts_one = counted_one xs this counts counted so_far.number so_far.refused with in
@@ -119,10 +122,10 @@ then_one g query Old Mid New counts counted before after written later kept game
     let heading = heading_of query.solutions (language_for query.language) in
     record {
       shown = xs ++ this ∷ [];
-      handed = λ more these. subst Old
+      handed = λ whole more these. subst (Old whole)
           (sym (ap (λ t. t ++ more) (map-append (λ s. s.game) xs (this ∷ []))
           ∙ append_assoc (map (λ s. s.game) xs) (game ∷ []) more))
-          (so_far.handed (game ∷ more) (handed more these));
+          (so_far.handed whole (game ∷ more) (handed whole more these));
       each = All-push (IsShownIn g query) xs this so_far.each one.2;
       number = λ few. (counts_one few).0;
       refused = λ few. (counts_one few).1;
@@ -132,12 +135,13 @@ then_one g query Old Mid New counts counted before after written later kept game
     }
 
 -- no more comes, and the page ends
-pub all_written : (g : Geometry) (query : PageArgs) (Old Mid : List NumberedGame → Type 0) (counts : Counts)
-    (before after ended : Option (List ℕ)) (later : List ℕ) → SoFar g query Old Mid counts before after later
-    → HandsOut Mid Mid None → Appends after ended (later ++ end)
-    → (games : List NumberedGame) × (text : List ℕ) × Old games × IsPage g query games counts text
-    × Appends before ended text
-all_written g query Old Mid counts before after ended later so_far none wrote =
+pub all_written : (g : Geometry) (query : PageArgs) (Old Mid : List ℕ → List NumberedGame → Type 0)
+    (MayBe : List ℕ → Type 0) (counts : Counts) (before after ended later : List ℕ)
+    → SoFar g query Old Mid counts before after later
+    → HandsOut Mid Mid MayBe None → Appends after ended (later ++ end)
+    → (games : List NumberedGame) × (text : List ℕ) × ((whole : List ℕ) → MayBe whole → Old whole games)
+    × IsPage g query games counts text × Appends before ended text
+all_written g query Old Mid MayBe counts before after ended later so_far none wrote =
     let xs = so_far.shown in
     let front = head g (language_for query.language) query.title.now in
     let heading = heading_of query.solutions (language_for query.language) in
@@ -145,7 +149,7 @@ all_written g query Old Mid counts before after ended later so_far none wrote =
     let laters = flat_map (λ s. s.later) xs in (
       map (λ s. s.game) xs,
       front ++ (parts ++ (heading ++ (laters ++ end))),
-      subst Old (append-nil (map (λ s. s.game) xs)) (so_far.handed [] none),
+      λ whole may. subst (Old whole) (append-nil (map (λ s. s.game) xs)) (so_far.handed whole [] (none whole may)),
       record {
         games_shown = xs;
         are = refl;

@@ -2,8 +2,8 @@
 use Rattle.std.proofs.Common.{◌≡◌, ℕ, ◌-◌, ◌++◌, Bool, List, Option, Some, None, Result, Ok, Err, refl, sym, subst}
 use Rattle.std.proofs.Common.{arith}
 use Rattle.std.specs.Prelude.{IfOk, IfSome, is_some, true}
-use Rattle.std.specs.Io.KnownBytes.{Appends}
-use Rattle.std.proofs.KnownBytes.{Appends-trans}
+use Rattle.dw_notation.specs.Streams.{Appends}
+use Rattle.dw_notation.specs.inner.StreamLemmas.{Appends-trans}
 use Rattle.dw_board.specs.Geometry.{Geometry}
 use Rattle.dw_board.specs.Placement.{Placement}
 use Rattle.dw_notation.specs.Problems.{Numbered}
@@ -13,7 +13,7 @@ use Rattle.dw_desk_commands.specs.ProblemText.{IsFurther, IsProblemText}
 
 -- a first line and what is said of the position, one after the other
 pub line_and_more : (g : Geometry) (Says : Placement → Bool → List ℕ → Type 0) (problem : Numbered) (p : Placement)
-    (refused : Bool) (further : List ℕ) (a b c : Option (List ℕ)) → problem.found ≡ Ok p → Says p refused further
+    (refused : Bool) (further : List ℕ) (a b c : List ℕ) → problem.found ≡ Ok p → Says p refused further
     → Appends a b (first_line g problem) → Appends b c further
     → (text : List ℕ) × IsProblemText g Says problem refused text × Appends a c text
 line_and_more g Says problem p refused further a b c is said line more = (

@@ -1,5 +1,5 @@
 -- The problems that a command works on, each as a game.
-use Rattle.std.specs.Prelude.{◌≡◌, ◌&&◌, ⊤, ℕ, Bool, true, List, [], Option, Some, None, filter, map, nat_le}
+use Rattle.std.specs.Prelude.{◌≡◌, ◌&&◌, ℕ, Bool, true, List, [], Option, Some, None, filter, map, nat_le}
 use Rattle.dw_board.specs.Geometry.{Geometry}
 use Rattle.dw_arguments.specs.declared.portion.Portion.{Portion}
 use Rattle.dw_games.specs.Games.{NumberedGame, AreGames}
@@ -34,8 +34,3 @@ abbrev pub AreChosen : Geometry → Form → Portion → (text : List ℕ) → L
 AreChosen g form portion text games =
     (all : List NumberedGame) × AreGamesIn g form text all
     × (games ≡ filter (λ game. is_in portion game.number) all)
-
--- the games of a portion among the bytes that a source has still to give, if they are known
-abbrev pub AreChosenOf : Geometry → Form → Portion → (coming : Option (List ℕ)) → List NumberedGame → Type 0
-AreChosenOf g form portion None games = ⊤
-AreChosenOf g form portion (Some text) games = AreChosen g form portion text games

@@ -1,10 +1,9 @@
 -- The effect of each command on the chosen problems of a text.
-use Rattle.std.specs.Prelude.{◌≡◌, ◌⊎◌, ℕ, Option, List}
-use Rattle.std.specs.Io.KnownBytes.{Appends}
+use Rattle.std.specs.Prelude.{◌≡◌, ◌⊎◌, ℕ, List}
 use Rattle.dw_board.specs.Geometry.{Geometry}
 use Rattle.dw_desk_commands.specs.Certifying.{IsCertifyOf}
 use Rattle.dw_desk_commands.specs.Checking.{IsCheckOf}
-use Rattle.dw_desk_commands.specs.Chosen.{AreChosenOf}
+use Rattle.dw_desk_commands.specs.Chosen.{AreChosen}
 use Rattle.dw_desk_commands.specs.Ending.{ending_after}
 use Rattle.dw_desk_commands.specs.Finding.{IsFindOf}
 use Rattle.dw_desk_commands.specs.Mending.{IsMendOf}
@@ -23,6 +22,8 @@ use Rattle.dw_arguments.specs.declared.desk.Task.TheVariants as task
 use Rattle.dw_games.specs.Games.{NumberedGame, problem_of}
 use Rattle.dw_notation.specs.declared.problems.Form.{Form}
 use Rattle.dw_notation.specs.declared.problems.Form.TheVariants.{Pdn}
+use Rattle.dw_notation.specs.Streams.{Supply, Reads, Appends}
+use Rattle.dw_report.specs.Running.{HoldsAhead}
 use Rattle.dw_report.specs.declared.settings.RunFault.{RunFault}
 
 -- the form of the problems for a task: tags for `check`, which needs games, else as the arguments say
@@ -49,16 +50,25 @@ Tells g portion (task.Mend query) games ending text =
 Tells g portion (task.Token line) games ending text =
     IsReportOnOne (λ game. IsTokenFor g line.now game.said.found) portion.first games ending text
 
--- A command is done: the chosen games of a text are read, just their output is written, and the program ends.
-pub record DoesIt {T : Type 0} (g : Geometry) (words : DeskArgs) (coming before after : Option (List ℕ))
-    (ending : Ending T) : Type 0 where
+-- the output of a command for a text: that for its chosen games
+pub record IsDone {T : Type 0} (g : Geometry) (args : DeskArgs) (bytes : List ℕ) (ending : Ending T) (text : List ℕ) :
+    Type 0 where
   pub games : List NumberedGame
-  pub are : AreChosenOf g (form_for words.task words.form) words.portion coming games
+  pub are : AreChosen g (form_for args.task args.form) args.portion bytes games
+  pub told : Tells g args.portion args.task games ending text
+
+-- A command is done: it reads some bytes, and just its output for them is written, whatever bytes follow; or the end
+-- of its source is met.
+pub record DoesIt {T : Type 0} (g : Geometry) (args : DeskArgs) (before after : Supply) (accepted new : List ℕ)
+    (ending : Ending T) : Type 0 where
+  pub read : List ℕ
+  pub took : Reads before after read
   pub text : List ℕ
-  pub told : Tells g words.portion words.task games ending text
-  pub written : Appends before after text
+  pub wrote : Appends accepted new text
+  pub done : HoldsAhead (λ bytes. IsDone g args bytes ending text) after read
 
 -- a command is done; or the program was stopped, or a stream failed
-abbrev pub Obeys : {T : Type 0} → Geometry → DeskArgs → (coming before after : Option (List ℕ)) → Ending T → Type 0
-Obeys g words coming before after ending =
-    ((fault : RunFault) × (ending ≡ Failed fault)) ⊎ DoesIt g words coming before after ending
+abbrev pub Obeys : {T : Type 0} → Geometry → DeskArgs → (before after : Supply) → (accepted new : List ℕ) → Ending T
+    → Type 0
+Obeys g args before after accepted new ending =
+    ((fault : RunFault) × (ending ≡ Failed fault)) ⊎ DoesIt g args before after accepted new ending

@@ -1,7 +1,7 @@
 //! The command `check`: the faults of the solution in each game, and the moves that it leaves out.
 ghost use Rattle.std.specs.Prelude.{◌≡◌, ◌+◌, ◌≤◌, ◌<◌, ◌↔◌, ℕ, List, [], Some, false, map, IfOk, OnOk, IsTrue};
 ghost use Rattle.std.specs.Prelude.{codes, if◌then◌else◌, IsErrOf};
-ghost use Rattle.std.specs.Io.KnownBytes.{Appends};
+ghost use Rattle.dw_notation.specs.Streams.{Appends};
 ghost use Rattle.std.specs.String.{string_bytes};
 ghost use Rattle.dw_board.specs.Lists.{Member};
 ghost use Rattle.dw_desk_commands.specs.Checking.{IsCheckOf, IsChecked, IsCheckedLine, IsCheckedText, IsNumberFor};
@@ -87,7 +87,7 @@ fn write_fault<B: Board, K: Sink>(
     sink: &mut K,
 ) -> Result<(), DeskFault>
     requires { K.is_failed sink.old ≡ false }
-    ensures text { OnOk result (Appends (K.taken sink.old) (K.taken sink.new)
+    ensures text { OnOk result (Appends (K.accepted sink.old) (K.accepted sink.new)
         (fault_text B.geometry json (numbered problem.now) position.now what place)) }
     ensures works { OnOk result (K.is_failed sink.new ≡ false) }
     ensures fails { SinkFails (K.is_failed sink.new) result }
@@ -175,7 +175,7 @@ fn write_solution<B: Board, K: Sink>(
         × AreRemarks B.geometry solution.now.tree.now.paths solution.now.n solution.now.tree.now.start [] remarks
         × IsChecked B.geometry query.now (numbered solution.now.problem.now) solution.now.tree.now.start solution.now.n
         remarks refused text
-        × Appends (K.taken sink.old) (K.taken sink.new) text) }
+        × Appends (K.accepted sink.old) (K.accepted sink.new) text) }
     ensures works { IfOk result (λ _. K.is_failed sink.new ≡ false) }
     ensures fails { SinkFails (K.is_failed sink.new) result }
 {
@@ -216,7 +216,7 @@ fn write_checked<B: Board, K: Sink>(
         × MatchBool json (IsCheckedLine B.geometry (numbered solution.now.problem.now).number
         solution.now.tree.now.start solution.now.n said text) (IsCheckedText B.geometry
         (numbered solution.now.problem.now) solution.now.tree.now.start solution.now.n said text)
-        × Appends (K.taken sink.old) (K.taken sink.new) text) }
+        × Appends (K.accepted sink.old) (K.accepted sink.new) text) }
     ensures works { OnOk result (K.is_failed sink.new ≡ false) }
     ensures fails { SinkFails (K.is_failed sink.new) result }
 {
@@ -284,7 +284,7 @@ fn write_plain<B: Board, K: Sink>(
         → OnOk result ((text : List ℕ)
         × IsCheckedText B.geometry (numbered solution.now.problem.now) solution.now.tree.now.start solution.now.n
         said text
-        × Appends (K.taken sink.old) (K.taken sink.new) text) }
+        × Appends (K.accepted sink.old) (K.accepted sink.new) text) }
     ensures works { OnOk result (K.is_failed sink.new ≡ false) }
     ensures fails { SinkFails (K.is_failed sink.new) result }
 {
@@ -323,7 +323,7 @@ fn write_remarks<B: Board, K: Sink>(
     ensures texts { (said : List AnyRemark) → map (remark_in tree.now.paths) remarks.now ≡ map (λ r. Some r) said
         → ((r : AnyRemark) → Member r said → HasTexts B.geometry tree.now.start r)
         → OnOk result ((told : List ℕ) × AreTexts (IsRemarkText B.geometry tree.now.start) said told
-        × Appends (K.taken sink.old) (K.taken sink.new) told) }
+        × Appends (K.accepted sink.old) (K.accepted sink.new) told) }
     ensures works { OnOk result (K.is_failed sink.new ≡ false) }
     ensures fails { SinkFails (K.is_failed sink.new) result }
 {
@@ -344,7 +344,7 @@ fn write_remark<B: Board, K: Sink>(
     ensures text { (r : AnyRemark) → remark_in tree.now.paths remark.now ≡ Some r
         → HasTexts B.geometry tree.now.start r
         → OnOk result ((text : List ℕ) × IsRemarkText B.geometry tree.now.start r text
-        × Appends (K.taken sink.old) (K.taken sink.new) text) }
+        × Appends (K.accepted sink.old) (K.accepted sink.new) text) }
     ensures works { OnOk result (K.is_failed sink.new ≡ false) }
     ensures fails { SinkFails (K.is_failed sink.new) result }
 {

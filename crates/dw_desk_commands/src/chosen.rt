@@ -23,7 +23,7 @@ pub(crate) struct Chosen<'a, B: Board, S> {
 impl<'a, B: Board, S: Source> Chosen<'a, B, S> {
     ghost use Rattle.dw_desk_commands.specs.Chosen.{is_in};
     ghost use Rattle.dw_desk_commands.specs.inner.Choosing.{HandsOut};
-    ghost use Rattle.dw_desk_commands.specs.inner.Choosing.{AreToCome, IsKnown, is_met};
+    ghost use Rattle.dw_desk_commands.specs.inner.Choosing.{AreToCome, GoesOn, MayBe, is_met};
     ghost use Rattle.dw_desk_commands.specs.inner.Choosing.{IsFresh, Runs, lender, source_of};
     ghost use Rattle.dw_desk_commands.specs.inner.Faults.{IsCaused};
     ghost use Rattle.dw_games.specs.GameReading.{numbered_game};
@@ -32,7 +32,7 @@ impl<'a, B: Board, S: Source> Chosen<'a, B, S> {
     /// Returns the problems of a portion, of a text of this form that the source gives.
     pub(crate) fn new(alloc: Global, source: &'a mut S, form: Form, portion: Portion) -> Self
         requires { S.is_failed source.old ≡ false }
-        ensures fresh { IsFresh B.geometry S.coming S.has_ended form portion result }
+        ensures fresh { IsFresh B.geometry S.supply form portion result }
         ensures source { source_of result.text ≡ source.old }
         ensures lender { lender result.text ≡ source.entry.ghost_name }
     {
@@ -61,10 +61,11 @@ impl<'a, B: Board, S: Source> Chosen<'a, B, S> {
     /// Returns the next of them, or `None` if there is no more. Reading ends after the last.
     pub(crate) fn next(&mut self) -> Result<Option<Game<B>>, DeskFault>
         requires { Runs self.old.text }
-        ensures given { IfOk result (λ found. HandsOut (AreToCome B.geometry S.coming S.has_ended self.old)
-            (AreToCome B.geometry S.coming S.has_ended self.new) (option_map numbered_game found)) }
-        ensures more { IfOk result (λ found. IfSome found (λ _. IsKnown S.coming S.has_ended self.old
-            → (games : List NumberedGame) × AreToCome B.geometry S.coming S.has_ended self.new games)) }
+        ensures given { IfOk result (λ found. HandsOut (AreToCome B.geometry S.supply self.old)
+            (AreToCome B.geometry S.supply self.new) (MayBe S.supply self.new) (option_map numbered_game found)) }
+        ensures more { IfOk result (λ found. IfSome found (λ _. (whole : List ℕ) → MayBe S.supply self.new whole
+            → (games : List NumberedGame) × AreToCome B.geometry S.supply self.new whole games)) }
+        ensures on { IfOk result (λ _. GoesOn S.supply self.old.text self.new.text) }
         ensures portion { self.new.portion ≡ self.old.portion }
         ensures fewer { IfOk result (λ found. IfSome found (λ _. self.new.left < self.old.left)) }
         ensures lender { lender self.new.text ≡ lender self.old.text }
@@ -126,7 +127,7 @@ impl<'a, B: Board, S: Source> Text<'a, B, S> {
         ensures source { source_of result ≡ source.old }
         ensures games { (bytes : List ℕ) (games : List NumberedGame) → AreAhead B.geometry result bytes games
             → AreGamesIn B.geometry form bytes games }
-        ensures end { EndIsKnown S.coming S.has_ended result }
+        ensures end { EndIsKnown S.supply result }
         ensures lender { lender result ≡ source.entry.ghost_name }
         ensures runs { Runs result }
     {
@@ -139,8 +140,8 @@ impl<'a, B: Board, S: Source> Text<'a, B, S> {
     /// Returns the next problem, chosen or not.
     fn next(&mut self, alloc: Global) -> Result<Option<Game<B>>, DeskFault>
         requires { Runs self.old }
-        ensures given { IfOk result (ComesNext B.geometry S.coming S.has_ended self.old self.new) }
-        ensures end { EndIsKnown S.coming S.has_ended self.old → EndIsKnown S.coming S.has_ended self.new }
+        ensures given { IfOk result (ComesNext B.geometry S.supply self.old self.new) }
+        ensures end { EndIsKnown S.supply self.old → EndIsKnown S.supply self.new }
         ensures lender { lender self.new ≡ lender self.old }
         ensures cause { IfErr result (IsCaused (S.is_failed (source_of self.new)) false) }
         ensures runs { OnOk result (Runs self.new) }

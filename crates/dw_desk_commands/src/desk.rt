@@ -174,7 +174,8 @@ pub fn run_on<'a, B: Board, W: DeskWatcher, S: Source, K: Sink>(
     requires rows { (B.geometry.rows ≡ 10) ⊎ (B.geometry.rows ≡ 8) }
     requires source { S.is_failed source.old ≡ false }
     requires sink { K.is_failed sink.old ≡ false }
-    ensures obeys { Obeys B.geometry args.now (S.coming source.old) (K.taken sink.old) (K.taken sink.new) result }
+    ensures obeys { Obeys B.geometry args.now (S.supply source.old) (S.supply source.new) (K.accepted sink.old)
+        (K.accepted sink.new) result }
     ensures fails { FailsForCause (K.is_failed sink.new) result }
 {
     let Ok(mut desk) = Desk::<B>::new(alloc, args) else {
@@ -197,8 +198,8 @@ fn dispatch<'a, B: Board, W: DeskWatcher, S: Source, K: Sink>(
     requires rows { (B.geometry.rows ≡ 10) ⊎ (B.geometry.rows ≡ 8) }
     requires source { S.is_failed source.old ≡ false }
     requires sink { K.is_failed sink.old ≡ false }
-    ensures does { IfOk result (DoesIt B.geometry args.now (S.coming source.old) (K.taken sink.old)
-        (K.taken sink.new)) }
+    ensures does { IfOk result (DoesIt B.geometry args.now (S.supply source.old) (S.supply source.new)
+        (K.accepted sink.old) (K.accepted sink.new)) }
     ensures told { IfOk result FailsForMemory }
     ensures fails { (read_failed : Bool) × IfErr result (λ fault.
         HasCause read_failed (K.is_failed sink.new) (run_fault fault desk.new.solver.expanded)) }
@@ -216,11 +217,11 @@ fn do_with<'a, B: Board, W: DeskWatcher, S: Source, K: Sink>(
     sink: &mut K,
 ) -> Result<Ending<&'a str>, DeskFault>
     requires rows { (B.geometry.rows ≡ 10) ⊎ (B.geometry.rows ≡ 8) }
-    requires fresh { IsFresh B.geometry S.coming S.has_ended (form_for args.now.task args.now.form)
-        args.now.portion chosen.old }
+    requires fresh { IsFresh B.geometry S.supply (form_for args.now.task args.now.form) args.now.portion
+        chosen.old }
     requires sink { K.is_failed sink.old ≡ false }
-    ensures does { IfOk result (DoesIt B.geometry args.now (S.coming (source_of chosen.old.text))
-        (K.taken sink.old) (K.taken sink.new)) }
+    ensures does { IfOk result (DoesIt B.geometry args.now (S.supply (source_of chosen.old.text))
+        (S.supply (source_of chosen.new.text)) (K.accepted sink.old) (K.accepted sink.new)) }
     ensures told { IfOk result FailsForMemory }
     ensures ends { CommandFails S.is_failed (K.is_failed sink.new) desk.new.solver.expanded chosen.old chosen.new
         result }

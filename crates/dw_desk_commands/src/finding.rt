@@ -1,7 +1,7 @@
 //! The command `find`: the verdict on each problem, at the least number of moves within which it is won or at a given
 //! number.
 ghost use Rattle.std.specs.Prelude.{◌≡◌, ℕ, List, false, IfOk, IfSome, IsErrOf};
-ghost use Rattle.std.specs.Io.KnownBytes.{Appends};
+ghost use Rattle.dw_notation.specs.Streams.{Appends};
 ghost use Rattle.std.specs.String.{string_bytes};
 ghost use Rattle.dw_desk_commands.specs.Finding.{HasSolution, IsFindOf, IsFound, IsJsonOf, SaysFound, is_open};
 ghost use Rattle.dw_desk_commands.specs.ProblemText.{IsProblemText};
@@ -56,7 +56,7 @@ fn report_in_words<B: Board, W: DeskWatcher, K: Sink>(
     ensures text { IfOk result (λ refused. (text : List ℕ)
         × IsProblemText B.geometry (SaysFound B.geometry query.now) (numbered problem.now)
         refused text
-        × Appends (K.taken sink.old) (K.taken sink.new) text) }
+        × Appends (K.accepted sink.old) (K.accepted sink.new) text) }
     ensures works { IfOk result (λ _. K.is_failed sink.new ≡ false) }
     ensures fails { ReportFails (K.is_failed sink.new) desk.new.solver.expanded result }
 {
@@ -81,7 +81,7 @@ fn report_in_json<B: Board, W: DeskWatcher, K: Sink>(
     requires { K.is_failed sink.old ≡ false }
     ensures text { IfOk result (λ refused. (text : List ℕ)
         × IsJsonOf B.geometry query.now problem.now.number problem.now.found refused text
-        × Appends (K.taken sink.old) (K.taken sink.new) text) }
+        × Appends (K.accepted sink.old) (K.accepted sink.new) text) }
     ensures works { IfOk result (λ _. K.is_failed sink.new ≡ false) }
     ensures fails { ReportFails (K.is_failed sink.new) desk.new.solver.expanded result }
 {

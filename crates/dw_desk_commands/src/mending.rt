@@ -1,6 +1,6 @@
 //! The command `mend`: the sound problems that are one change away from a problem.
 ghost use Rattle.std.specs.Prelude.{◌≡◌, ◌==◌, if◌then◌else◌, false, not, OnOk};
-ghost use Rattle.std.specs.Io.KnownBytes.{Appends};
+ghost use Rattle.dw_notation.specs.Streams.{Appends};
 ghost use Rattle.dw_desk_commands.specs.Mending.{IsMendOf, front, wording_for};
 ghost use Rattle.dw_desk_commands.specs.inner.Faults.{SinkFails};
 ghost use Rattle.dw_notation.specs.Problems.{numbered};
@@ -72,7 +72,7 @@ fn write_front<B: Board, K: Sink>(
     sink: &mut K,
 ) -> Result<(), DeskFault>
     requires { K.is_failed sink.old ≡ false }
-    ensures text { OnOk result (Appends (K.taken sink.old) (K.taken sink.new)
+    ensures text { OnOk result (Appends (K.accepted sink.old) (K.accepted sink.new)
         (front B.geometry query.now (numbered problem.now))) }
     ensures works { OnOk result (K.is_failed sink.new ≡ false) }
     ensures fails { SinkFails (K.is_failed sink.new) result }

@@ -1,6 +1,6 @@
 //! The command `moves`: the effect of each first move of a problem.
 ghost use Rattle.std.specs.Prelude.{◌≡◌, ℕ, List, false, IfOk, IsErrOf};
-ghost use Rattle.std.specs.Io.KnownBytes.{Appends};
+ghost use Rattle.dw_notation.specs.Streams.{Appends};
 ghost use Rattle.std.specs.String.{string_bytes};
 ghost use Rattle.dw_desk_commands.specs.Moving.{IsFirstMovesLine, IsMovesOf, SaysFirstMoves};
 ghost use Rattle.dw_desk_commands.specs.ProblemText.{IsProblemText};
@@ -63,7 +63,7 @@ fn write_plain<B: Board, W: DeskWatcher, K: Sink>(
     ensures text { IfOk result (λ refused. (text : List ℕ)
         × IsProblemText B.geometry (SaysFirstMoves B.geometry query.now.n.value query.now.part query.now.parts)
         (numbered problem.now) refused text
-        × Appends (K.taken sink.old) (K.taken sink.new) text) }
+        × Appends (K.accepted sink.old) (K.accepted sink.new) text) }
     ensures fails { ReportFails (K.is_failed sink.new) desk.new.solver.expanded result }
 {
     write_all(sink, problem_line(problem).as_str().as_bytes())?;
@@ -88,7 +88,7 @@ fn write_row<B: Board, W: DeskWatcher, K: Sink>(
     ensures text { IfOk result (λ refused. (text : List ℕ)
         × IsFirstMovesLine B.geometry query.now.n.value query.now.part query.now.parts problem.now.number
         problem.now.found refused text
-        × Appends (K.taken sink.old) (K.taken sink.new) text) }
+        × Appends (K.accepted sink.old) (K.accepted sink.new) text) }
     ensures fails { ReportFails (K.is_failed sink.new) desk.new.solver.expanded result }
 {
     let (line, is_refused) = row_of(desk, slices, query, problem)?;

@@ -1,12 +1,12 @@
 //! The command `page`: all problems on a page, with diagrams and solutions.
 ghost use Rattle.std.specs.Prelude.{◌≡◌, ◌≤◌, ◌⊎◌, ◌++◌, ◌∷◌, [], ℕ, List, true, false, IfOk, OnOk, map};
 ghost use Rattle.std.specs.Prelude.{filter_map, option_map, Err, IsErrOf};
-ghost use Rattle.std.specs.Io.KnownBytes.{Appends};
+ghost use Rattle.dw_notation.specs.Streams.{Appends};
 ghost use Rattle.dw_desk_commands.specs.Paging.{HasMoves, IsPage, IsPageOf, IsPart, IsPositionPart, IsSolved, Stands};
 ghost use Rattle.dw_desk_commands.specs.Paging.{language_for, task_part};
 ghost use Rattle.dw_desk_commands.specs.Paging as of;
 ghost use Rattle.dw_desk_commands.specs.Finding.{is_open};
-ghost use Rattle.dw_desk_commands.specs.inner.Choosing.{AreToCome, Runs};
+ghost use Rattle.dw_desk_commands.specs.inner.Choosing.{AreToCome, GoesOn, MayBe, Runs};
 ghost use Rattle.dw_desk_commands.specs.inner.Faults.{CommandFails, ReportFails, SinkFails};
 ghost use Rattle.dw_games.specs.GameReading.{numbered_game};
 ghost use Rattle.dw_games.specs.Games.{NumberedGame};
@@ -50,9 +50,11 @@ pub(crate) fn page_problems<B: Board, W: DeskWatcher, S: Source, K: Sink>(
     requires works { K.is_failed sink.old ≡ false }
     requires runs { Runs chosen.old.text }
     ensures report { IfOk result (λ counts. (games : List NumberedGame) × (text : List ℕ)
-        × AreToCome B.geometry S.coming S.has_ended chosen.old games
+        × ((whole : List ℕ) → MayBe S.supply chosen.new whole
+        → AreToCome B.geometry S.supply chosen.old whole games)
         × IsPageOf B.geometry query.now chosen.old.portion games counts text
-        × Appends (K.taken sink.old) (K.taken sink.new) text) }
+        × Appends (K.accepted sink.old) (K.accepted sink.new) text) }
+    ensures on { IfOk result (λ _. GoesOn S.supply chosen.old.text chosen.new.text) }
     ensures ends { CommandFails S.is_failed (K.is_failed sink.new) desk.new.solver.expanded chosen.old chosen.new
         result }
 {
@@ -80,7 +82,7 @@ fn empty_page<B: Board, K: Sink>(
     ensures page { IfOk result (λ counts. (text : List ℕ)
         × ((IsPage B.geometry query.now [] counts text × (must_exist ≡ false))
         ⊎ ((must_exist ≡ true) × (counts.shown ≡ 0) × (counts.refused ≡ 0) × (text ≡ [])))
-        × Appends (K.taken sink.old) (K.taken sink.new) text) }
+        × Appends (K.accepted sink.old) (K.accepted sink.new) text) }
     ensures fails { SinkFails (K.is_failed sink.new) result }
 {
     if must_exist {
@@ -99,7 +101,7 @@ fn begin_page<B: Board, K: Sink>(
     sink: &mut K,
 ) -> Result<Vec<u8>, DeskFault>
     requires { K.is_failed sink.old ≡ false }
-    ensures head { IfOk result (λ _. Appends (K.taken sink.old) (K.taken sink.new)
+    ensures head { IfOk result (λ _. Appends (K.accepted sink.old) (K.accepted sink.new)
         (head B.geometry (language_for query.now.language) query.now.title.now)) }
     ensures later { IfOk result (λ later. later.items
         ≡ of.heading_of query.now.solutions (language_for query.now.language)) }
@@ -127,7 +129,7 @@ fn heading_of(alloc: Global, query: &PageArgs<'_>) -> Result<Vec<u8>, AllocError
 /// Writes the text for the end of a page, and its end.
 fn end_page<K: Sink>(alloc: Global, later: &mut Vec<u8>, sink: &mut K) -> Result<(), DeskFault>
     requires { K.is_failed sink.old ≡ false }
-    ensures text { OnOk result (Appends (K.taken sink.old) (K.taken sink.new) (later.old.items ++ end)) }
+    ensures text { OnOk result (Appends (K.accepted sink.old) (K.accepted sink.new) (later.old.items ++ end)) }
     ensures fails { SinkFails (K.is_failed sink.new) result }
 {
     push_end(alloc, later)?;
@@ -148,7 +150,7 @@ fn write_part<B: Board, W: DeskWatcher, K: Sink>(
     ensures part { IfOk result (λ is_refused. (part new : List ℕ) × IsPart B.geometry query.now
         (numbered_game game.now).number (numbered_game game.now).said.found (numbered_game game.now).said.tags
         is_refused part new × (later.new.items ≡ later.old.items ++ new)
-        × Appends (K.taken sink.old) (K.taken sink.new) part) }
+        × Appends (K.accepted sink.old) (K.accepted sink.new) part) }
     ensures works { IfOk result (λ _. K.is_failed sink.new ≡ false) }
     ensures fails { ReportFails (K.is_failed sink.new) desk.new.solver.expanded result }
 {

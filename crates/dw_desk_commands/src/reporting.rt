@@ -1,9 +1,9 @@
 //! Reports on games: on each that is chosen, or on the first alone.
 ghost use Rattle.std.specs.Prelude.{◌≡◌, ◌-◌, ℕ, Bool, List, Option, false, IfOk, OnOk};
-ghost use Rattle.std.specs.Io.KnownBytes.{Appends};
+ghost use Rattle.dw_notation.specs.Streams.{Appends};
 ghost use Rattle.dw_commands.specs.declared.ending.Ending.{Ending};
 ghost use Rattle.dw_desk_commands.specs.ProblemText.{IsReport, IsReportOnOne, refused_text};
-ghost use Rattle.dw_desk_commands.specs.inner.Choosing.{AreToCome, Runs};
+ghost use Rattle.dw_desk_commands.specs.inner.Choosing.{AreToCome, GoesOn, MayBe, Runs};
 ghost use Rattle.dw_desk_commands.specs.inner.Faults.{CommandFails, FailsForMemory, ReportFails, SinkFails};
 ghost use Rattle.dw_desk_commands.specs.inner.NextGame.{IsNext, as_list};
 ghost use Rattle.dw_games.specs.GameReading.{numbered_game};
@@ -36,7 +36,7 @@ pub(crate) trait ReportEach<B: Board> {
     ) -> Result<bool, DeskFault>
         requires { K.is_failed sink.old ≡ false }
         ensures text { IfOk result (λ refused. (text : List ℕ) × says self.now (numbered_game game.now) refused text
-            × Appends (K.taken sink.old) (K.taken sink.new) text) }
+            × Appends (K.accepted sink.old) (K.accepted sink.new) text) }
         ensures works { IfOk result (λ _. K.is_failed sink.new ≡ false) }
         ensures fails { ReportFails (K.is_failed sink.new) desk.new.solver.expanded result };
 }
@@ -52,9 +52,11 @@ pub(crate) fn report_all<B: Board, W: DeskWatcher, S: Source, K: Sink, R: Report
     requires works { K.is_failed sink.old ≡ false }
     requires runs { Runs chosen.old.text }
     ensures report { IfOk result (λ counts. (games : List NumberedGame) × (text : List ℕ)
-        × AreToCome B.geometry S.coming S.has_ended chosen.old games
+        × ((whole : List ℕ) → MayBe S.supply chosen.new whole
+        → AreToCome B.geometry S.supply chosen.old whole games)
         × IsReport (R.says command.now) games counts text
-        × Appends (K.taken sink.old) (K.taken sink.new) text) }
+        × Appends (K.accepted sink.old) (K.accepted sink.new) text) }
+    ensures on { IfOk result (λ _. GoesOn S.supply chosen.old.text chosen.new.text) }
     ensures ends { CommandFails S.is_failed (K.is_failed sink.new) desk.new.solver.expanded chosen.old chosen.new
         result }
 {
@@ -85,7 +87,7 @@ pub(crate) trait ReportOne<B: Board, E> {
         requires works { K.is_failed sink.old ≡ false }
         ensures text { IfOk result (λ ending. (text : List ℕ)
             × says self.now (desk.new.solver.expanded - desk.old.solver.expanded) (numbered_game game.now) ending text
-            × Appends (K.taken sink.old) (K.taken sink.new) text) }
+            × Appends (K.accepted sink.old) (K.accepted sink.new) text) }
         ensures told { IfOk result FailsForMemory }
         ensures fails { ReportFails (K.is_failed sink.new) desk.new.solver.expanded result };
 }
@@ -102,10 +104,10 @@ pub(crate) fn report_first<E, B: Board, W: DeskWatcher, S: Source, K: Sink, R: R
     requires works { K.is_failed sink.old ≡ false }
     requires runs { Runs chosen.old.text }
     ensures report { IfOk result (λ ending. (next : Option NumberedGame) × (text : List ℕ)
-        × IsNext B.geometry S.coming S.has_ended chosen.old chosen.new next
+        × IsNext B.geometry S.supply chosen.old chosen.new next
         × IsReportOnOne (R.says command.now (desk.new.solver.expanded - desk.old.solver.expanded))
         chosen.old.portion.first (as_list next) ending text
-        × Appends (K.taken sink.old) (K.taken sink.new) text) }
+        × Appends (K.accepted sink.old) (K.accepted sink.new) text) }
     ensures told { IfOk result FailsForMemory }
     ensures ends { CommandFails S.is_failed (K.is_failed sink.new) desk.new.solver.expanded chosen.old chosen.new
         result }
@@ -125,7 +127,7 @@ pub(crate) fn write_refused<B: Board, K: Sink>(
     sink: &mut K,
 ) -> Result<(), DeskFault>
     requires { K.is_failed sink.old ≡ false }
-    ensures text { OnOk result (Appends (K.taken sink.old) (K.taken sink.new)
+    ensures text { OnOk result (Appends (K.accepted sink.old) (K.accepted sink.new)
         (refused_text B.geometry json (numbered problem.now) fault)) }
     ensures works { OnOk result (K.is_failed sink.new ≡ false) }
     ensures fails { SinkFails (K.is_failed sink.new) result }

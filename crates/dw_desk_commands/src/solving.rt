@@ -1,6 +1,6 @@
 //! The command `solution`: each problem with its solution, as a game of a PDN file or as a row of JSON.
 ghost use Rattle.std.specs.Prelude.{◌≡◌, ◌≤◌, ℕ, List, false, map, IfOk, OnOk, IsErrOf};
-ghost use Rattle.std.specs.Io.KnownBytes.{Appends};
+ghost use Rattle.dw_notation.specs.Streams.{Appends};
 ghost use Rattle.std.specs.List.{flat_map};
 ghost use Rattle.std.specs.String.{string_bytes};
 ghost use Rattle.dw_desk_commands.specs.Solving.{AreFirstLines, AreWrittenTags, IsGameFor, IsMovetextOf};
@@ -60,7 +60,7 @@ fn write_game<B: Board, W: DeskWatcher, K: Sink>(
     requires { K.is_failed sink.old ≡ false }
     ensures text { IfOk result (λ refused. (text : List ℕ)
         × IsGameFor B.geometry query.now game.now.problem.number game.now.problem.found game.now.tags.items refused text
-        × Appends (K.taken sink.old) (K.taken sink.new) text) }
+        × Appends (K.accepted sink.old) (K.accepted sink.new) text) }
     ensures works { IfOk result (λ _. K.is_failed sink.new ≡ false) }
     ensures fails { ReportFails (K.is_failed sink.new) desk.new.solver.expanded result }
 {
@@ -92,7 +92,7 @@ fn write_row<B: Board, W: DeskWatcher, K: Sink>(
     requires { K.is_failed sink.old ≡ false }
     ensures text { IfOk result (λ refused. (text : List ℕ)
         × IsSolutionLine B.geometry query.now problem.now.number problem.now.found refused text
-        × Appends (K.taken sink.old) (K.taken sink.new) text) }
+        × Appends (K.accepted sink.old) (K.accepted sink.new) text) }
     ensures works { IfOk result (λ _. K.is_failed sink.new ≡ false) }
     ensures fails { ReportFails (K.is_failed sink.new) desk.new.solver.expanded result }
 {
@@ -284,7 +284,7 @@ fn write_tags<B: Board, K: Sink>(
 ) -> Result<(), DeskFault>
     requires { K.is_failed sink.old ≡ false }
     ensures tags { OnOk result ((text : List ℕ) × AreWrittenTags B.geometry position.now section.now text
-        × Appends (K.taken sink.old) (K.taken sink.new) text) }
+        × Appends (K.accepted sink.old) (K.accepted sink.new) text) }
     ensures works { OnOk result (K.is_failed sink.new ≡ false) }
     ensures fails { SinkFails (K.is_failed sink.new) result }
 {
@@ -298,7 +298,7 @@ fn write_tags<B: Board, K: Sink>(
 /// Writes the tags of a section but for those that are written anew.
 fn write_own_tags<K: Sink>(tags: &[Tag<'_>], sink: &mut K) -> Result<(), DeskFault>
     requires { K.is_failed sink.old ≡ false }
-    ensures lines { OnOk result (Appends (K.taken sink.old) (K.taken sink.new)
+    ensures lines { OnOk result (Appends (K.accepted sink.old) (K.accepted sink.new)
         (flat_map own_line (map tag_text tags.now))) }
     ensures works { OnOk result (K.is_failed sink.new ≡ false) }
     ensures fails { SinkFails (K.is_failed sink.new) result }
@@ -331,7 +331,7 @@ fn type_line<B: Board>() -> &'static str
 /// Writes a tag in a line of its own, unless it is written anew.
 fn write_own<K: Sink>(tag: &Tag<'_>, sink: &mut K) -> Result<(), DeskFault>
     requires { K.is_failed sink.old ≡ false }
-    ensures line { OnOk result (Appends (K.taken sink.old) (K.taken sink.new) (own_line (tag_text tag.now))) }
+    ensures line { OnOk result (Appends (K.accepted sink.old) (K.accepted sink.new) (own_line (tag_text tag.now))) }
     ensures works { OnOk result (K.is_failed sink.new ≡ false) }
     ensures fails { SinkFails (K.is_failed sink.new) result }
 {

@@ -1,6 +1,6 @@
 //! The command `token`: a line of play as a token.
 ghost use Rattle.std.specs.Prelude.{◌≡◌, ◌⊎◌, ℕ, List, false, IfOk};
-ghost use Rattle.std.specs.Io.KnownBytes.{Appends};
+ghost use Rattle.dw_notation.specs.Streams.{Appends};
 ghost use Rattle.dw_desk_commands.specs.Writing.{IsTokenFor};
 ghost use Rattle.dw_desk_commands.specs.inner.Faults.{FailsForMemory, SinkFails};
 
@@ -50,7 +50,7 @@ fn write_token_of<T, B: Board, K: Sink>(
     requires rows { (B.geometry.rows ≡ 10) ⊎ (B.geometry.rows ≡ 8) }
     requires sink { K.is_failed sink.old ≡ false }
     ensures report { IfOk result (λ ending. (text : List ℕ) × IsTokenFor B.geometry line.now found.now ending text
-        × Appends (K.taken sink.old) (K.taken sink.new) text) }
+        × Appends (K.accepted sink.old) (K.accepted sink.new) text) }
     ensures told { IfOk result FailsForMemory }
     ensures fails { SinkFails (K.is_failed sink.new) result }
 {

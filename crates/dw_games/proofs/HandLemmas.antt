@@ -2,8 +2,7 @@
 use Rattle.std.proofs.Common.{◌≡◌, ◌+◌, ◌<◌, ◌≤◌, nat_lt, cond, MatchBool, ℕ, List, [], ◌∷◌, ◌++◌, take, drop, Bool}
 use Rattle.std.proofs.Common.{true, false, Option, Some, None, Result, Ok, Err, refl, sym, ap, ◌∙◌, subst, append_assoc}
 use Rattle.std.proofs.lemmas.Bool.{lt-ltb, le-ltb, ltb-true}
-use Rattle.std.proofs.KnownBytes.{Consumes-nil}
-use Rattle.std.specs.Io.KnownBytes.{Consumes}
+use Rattle.dw_notation.specs.inner.StreamLemmas.{Reads-nil}
 use Rattle.dw_board.specs.Geometry.{Geometry}
 use Rattle.dw_notation.specs.TextLines.{Found}
 use Rattle.dw_notation.specs.TagLaws.{TextsOfTagsSay}
@@ -12,6 +11,7 @@ use Rattle.dw_notation.specs.declared.problems.ProblemFault.TheVariants.{Unclose
 use Rattle.dw_games.specs.Games.{Said, told, tags_if_valid, said_with, HasGames, NumberedGame, games_from, AreGames}
 use Rattle.dw_games.specs.GameReading.{is_failure, numbered_game, GivesNext}
 use Rattle.dw_notation.specs.Buffering.{Input, Passes}
+use Rattle.dw_notation.specs.Streams.{Supply, Reads as ReadsBytes}
 use Rattle.dw_notation.specs.Numbering.{handed_out}
 use Rattle.dw_games.specs.inner.Keeping.{IsKept, IsKeptFor, IsTold, spaces_on, row_of}
 use Rattle.dw_games.specs.inner.Playing.{unclosed, Follows, EndsAt, ReadsPlay}
@@ -130,44 +130,44 @@ kept_said found seen text tags items row kept ends whole is keeps same =
     ∙ ap (λ l. record { found = found; tags = tags; movetext = l }) (told_kept found text items kept keeps same)
 
 -- ---- what is passed, and what comes behind it
-module _ {S : Type 0} (coming : S → Option (List ℕ)) (has_ended is_failed : S → Bool) (pulls : S → ℕ) where
+module _ {S : Type 0} (supply : S → Supply) (is_failed : S → Bool) (pulls : S → ℕ) where
   text_on : (old mid : Input S) (passed bytes : List ℕ) (fails : Bool)
-      → (p : Passes coming has_ended is_failed pulls old mid passed fails)
+      → (p : Passes supply is_failed pulls old mid passed fails)
       → old.unread ++ (p.read ++ bytes) ≡ passed ++ (mid.unread ++ bytes)
   text_on old mid passed bytes fails p = sym (append_assoc old.unread p.read bytes)
       ∙ ap (λ l. l ++ bytes) p.same ∙ append_assoc passed mid.unread bytes
 
   over_on : (old mid : Input S) (passed bytes : List ℕ) (fails : Bool)
-      → (p : Passes coming has_ended is_failed pulls old mid passed fails) → (mid.met_end ≡ true → bytes ≡ [])
+      → (p : Passes supply is_failed pulls old mid passed fails) → (mid.met_end ≡ true → bytes ≡ [])
       → old.met_end ≡ true → p.read ++ bytes ≡ []
   over_on old mid passed bytes fails p over met =
       let s = p.stays met in ap (λ l. l ++ bytes) s.0 ∙ over s.1
 
   both_on : (old mid new : Input S) (first second bytes : List ℕ) (fails : Bool)
-      → (whole : Passes coming has_ended is_failed pulls old new (first ++ second) fails)
-      → (p : Passes coming has_ended is_failed pulls mid new second fails)
+      → (whole : Passes supply is_failed pulls old new (first ++ second) fails)
+      → (p : Passes supply is_failed pulls mid new second fails)
       → old.unread ++ (whole.read ++ bytes) ≡ first ++ (mid.unread ++ (p.read ++ bytes))
   both_on old mid new first second bytes fails whole p =
       text_on old new (first ++ second) bytes fails whole
       ∙ append_assoc first second (new.unread ++ bytes)
       ∙ ap (λ l. first ++ l) (sym (text_on mid new second bytes fails p))
 
-module _ {B S : Type 0} (g : Geometry) (coming : S → Option (List ℕ)) (has_ended is_failed : S → Bool)
+module _ {B S : Type 0} (g : Geometry) (supply : S → Supply) (is_failed : S → Bool)
     (pulls : S → ℕ) where
   abbrev Reads : Games B S → Games B S → Result (Option (Game B)) GameFault → Type 0
-  Reads = ReadsGame g coming has_ended is_failed pulls
+  Reads = ReadsGame g supply is_failed pulls
 
   pub ReadsGame-fault : (old new : Games B S) (passed : List ℕ) (fault : GameFault)
-      → Passes coming has_ended is_failed pulls (input_in old) (input_in new) passed (is_failure {A = Option (Game B)}
+      → Passes supply is_failed pulls (input_in old) (input_in new) passed (is_failure {A = Option (Game B)}
       (Err fault)) → Reads old new (Err fault)
   ReadsGame-fault old new passed fault passes = record { passed = passed; passes = passes; gives = tt }
 
   -- a section is read, and what stands behind it
   pub ReadsGame-section : TextsOfTagsSay → (old new : Games B S) (between : Input S)
       (begun row spaces read kept movetext : BoundedBuf) (found : Found) (end : PlayEnd) (game : Game B)
-      → (section : ReadsSection g coming has_ended is_failed pulls (input_in old) between begun row spaces read
+      → (section : ReadsSection g supply is_failed pulls (input_in old) between begun row spaces read
       (Ok (Some found)))
-      → (play : ReadsPlay coming has_ended is_failed pulls between (input_in new) kept movetext (Ok end))
+      → (play : ReadsPlay supply is_failed pulls between (input_in new) kept movetext (Ok end))
       → IsKept MAX_SECTION [] begun → IsTold game.problem.found row.bytes.items game.tags.items
       → IsKept 1048577 [] spaces → ((text : List ℕ) → IsKept 1048577 text read → IsKeptFor game.problem.found text kept)
       → game.movetext.items ≡ movetext.bytes.items → (new.stage ≡ stage_behind end)
@@ -177,7 +177,7 @@ module _ {B S : Type 0} (g : Geometry) (coming : S → Option (List ℕ)) (has_e
       → Reads old new (Ok (Some game))
   ReadsGame-section law old new between begun row spaces read kept movetext found end game section play
       empty told none keep same stage room count number says =
-      let passes = Passes-trans coming has_ended is_failed pulls (input_in old) between (input_in new) section.passed
+      let passes = Passes-trans supply is_failed pulls (input_in old) between (input_in new) section.passed
       play.passed false section.passes play.passes in
       let text = spaces_on [] section.passed ++ play.passed in
       let is_kept = kept_on game.problem.found (spaces_on [] section.passed) play.passed kept movetext play.kept
@@ -195,18 +195,18 @@ module _ {B S : Type 0} (g : Geometry) (coming : S → Option (List ℕ)) (has_e
               let behind = play.said g bytes ahead.said (follows_of g (input_in new) end bytes ahead.said play.ends
               ahead.over stands) in
               let all = section.said (play.passes.read ++ bytes) play.passed ahead.said
-              (over_on coming has_ended is_failed pulls between (input_in new) play.passed bytes false play.passes
+              (over_on supply is_failed pulls between (input_in new) play.passed bytes false play.passes
               ahead.over) (subst (λ l. HasGames g l play.passed ahead.said)
-              (sym (text_on coming has_ended is_failed pulls between (input_in new) play.passed bytes false
+              (sym (text_on supply is_failed pulls between (input_in new) play.passed bytes false
               play.passes)) behind) in
               record {
                 said = said_with found (row_of section.passed) text ∷ ahead.said;
-                over = over_on coming has_ended is_failed pulls (input_in old) (input_in new) (section.passed ++
+                over = over_on supply is_failed pulls (input_in old) (input_in new) (section.passed ++
                     play.passed) bytes false passes ahead.over;
                 stands = (
                   [],
                   subst (λ l. HasGames g l [] (said_with found (row_of section.passed) text ∷ ahead.said))
-                      (sym (both_on coming has_ended is_failed pulls (input_in old) between (input_in new)
+                      (sym (both_on supply is_failed pulls (input_in old) between (input_in new)
                       section.passed play.passed bytes false passes play.passes)) all,
                 );
                 numbers = numbers_on (handed_out old.numbers) (handed_out new.numbers) found (row_of section.passed)
@@ -218,7 +218,7 @@ module _ {B S : Type 0} (g : Geometry) (coming : S → Option (List ℕ)) (has_e
 
   -- what stands before a section is passed, and then a game is read
   front_on : (old mid : Games B S) (before after : BoundedBuf)
-      → (play : ReadsPlay coming has_ended is_failed pulls (input_in old) (input_in mid) before after (Ok Section))
+      → (play : ReadsPlay supply is_failed pulls (input_in old) (input_in mid) before after (Ok Section))
       → mid.numbers ≡ old.numbers → (read rest : List ℕ) (games : List NumberedGame)
       → (input_in old).unread ++ rest ≡ play.passed ++ ((input_in mid).unread ++ read)
       → ((input_in old).met_end ≡ true → rest ≡ []) → IsAhead g (input_in mid) Reading (handed_out mid.numbers) read
@@ -236,14 +236,14 @@ module _ {B S : Type 0} (g : Geometry) (coming : S → Option (List ℕ)) (has_e
   }
 
   pub ReadsGame-front : (old mid new : Games B S) (before after : BoundedBuf) (result : Result (Option (Game B))
-      GameFault) → ReadsPlay coming has_ended is_failed pulls (input_in old) (input_in mid) before after (Ok Section)
+      GameFault) → ReadsPlay supply is_failed pulls (input_in old) (input_in mid) before after (Ok Section)
       → mid.numbers ≡ old.numbers → Reads mid new result → Reads old new result
   ReadsGame-front old mid new before after (Err fault) play handed game = ReadsGame-fault old new
       (play.passed ++ game.passed) fault
-      (Passes-trans coming has_ended is_failed pulls (input_in old) (input_in mid) (input_in new) play.passed
+      (Passes-trans supply is_failed pulls (input_in old) (input_in mid) (input_in new) play.passed
       game.passed _ play.passes game.passes)
   ReadsGame-front old mid new before after (Ok None) play handed game =
-      let passes = Passes-trans coming has_ended is_failed pulls (input_in old) (input_in mid) (input_in new)
+      let passes = Passes-trans supply is_failed pulls (input_in old) (input_in mid) (input_in new)
       play.passed game.passed false play.passes game.passes in
       record {
         passed = play.passed ++ game.passed;
@@ -251,15 +251,15 @@ module _ {B S : Type 0} (g : Geometry) (coming : S → Option (List ℕ)) (has_e
         gives = (
           game.gives.0,
           λ bytes over. front_on old mid before after play handed (game.passes.read ++ bytes) (passes.read ++ bytes) []
-              (both_on coming has_ended is_failed pulls (input_in old) (input_in mid) (input_in new) play.passed
+              (both_on supply is_failed pulls (input_in old) (input_in mid) (input_in new) play.passed
               game.passed bytes false passes game.passes)
-              (over_on coming has_ended is_failed pulls (input_in old) (input_in new) (play.passed ++ game.passed) bytes
+              (over_on supply is_failed pulls (input_in old) (input_in new) (play.passed ++ game.passed) bytes
               false passes over)
               (game.gives.1 bytes over),
         );
       }
   ReadsGame-front old mid new before after (Ok (Some one)) play handed game =
-      let passes = Passes-trans coming has_ended is_failed pulls (input_in old) (input_in mid) (input_in new)
+      let passes = Passes-trans supply is_failed pulls (input_in old) (input_in mid) (input_in new)
       play.passed game.passed false play.passes game.passes in
       record {
         passed = play.passed ++ game.passed;
@@ -267,9 +267,9 @@ module _ {B S : Type 0} (g : Geometry) (coming : S → Option (List ℕ)) (has_e
         gives = (
           λ bytes games ahead. front_on old mid before after play handed (game.passes.read ++ bytes)
               (passes.read ++ bytes) (numbered_game one ∷ games)
-              (both_on coming has_ended is_failed pulls (input_in old) (input_in mid) (input_in new) play.passed
+              (both_on supply is_failed pulls (input_in old) (input_in mid) (input_in new) play.passed
               game.passed bytes false passes game.passes)
-              (over_on coming has_ended is_failed pulls (input_in old) (input_in new) (play.passed ++ game.passed) bytes
+              (over_on supply is_failed pulls (input_in old) (input_in new) (play.passed ++ game.passed) bytes
               false passes ahead.over)
               (game.gives.0 bytes games ahead),
           game.gives.1,
@@ -278,11 +278,11 @@ module _ {B S : Type 0} (g : Geometry) (coming : S → Option (List ℕ)) (has_e
 
   -- no section comes, but a comment is left open
   pub ReadsGame-open : TextsOfTagsSay → (old new : Games B S) (mid : Input S) (before after : BoundedBuf) (game : Game
-      B) → ReadsPlay coming has_ended is_failed pulls (input_in old) mid before after (Ok LeftOpen)
+      B) → ReadsPlay supply is_failed pulls (input_in old) mid before after (Ok LeftOpen)
       → (input_in new) ≡ mid → (new.stage ≡ Over)
       → numbered_game game ∷ [] ≡ games_from (handed_out old.numbers) (unclosed ∷ []) → Reads old new (Ok (Some game))
   ReadsGame-open law old new mid before after game play input stage given =
-      let passes = subst (λ i. Passes coming has_ended is_failed pulls (input_in old) i play.passed false) (sym input)
+      let passes = subst (λ i. Passes supply is_failed pulls (input_in old) i play.passed false) (sym input)
       play.passes in
       record {
         passed = play.passed;
@@ -295,12 +295,12 @@ module _ {B S : Type 0} (g : Geometry) (coming : S → Option (List ℕ)) (has_e
               let text = none_left mid.unread bytes play.ends.0 (over play.ends.1) in
               record {
                 said = unclosed ∷ [];
-                over = over_on coming has_ended is_failed pulls (input_in old) (input_in new) play.passed bytes false
+                over = over_on supply is_failed pulls (input_in old) (input_in new) play.passed bytes false
                     passes ahead.over;
                 stands = (
                   play.passed,
                   subst (λ l. HasGames g l play.passed (unclosed ∷ []))
-                      (sym (text_on coming has_ended is_failed pulls (input_in old) (input_in new) play.passed bytes
+                      (sym (text_on supply is_failed pulls (input_in old) (input_in new) play.passed bytes
                       false passes ∙ ap (λ i. play.passed ++ (i.unread ++ bytes)) input))
                       (play.said g bytes (unclosed ∷ []) (text, refl)),
                 );
@@ -313,7 +313,7 @@ module _ {B S : Type 0} (g : Geometry) (coming : S → Option (List ℕ)) (has_e
 
   -- the text ends
   pub ReadsGame-end : (old new : Games B S) (before after : BoundedBuf)
-      → ReadsPlay coming has_ended is_failed pulls (input_in old) (input_in new) before after (Ok Text) → (new.stage ≡
+      → ReadsPlay supply is_failed pulls (input_in old) (input_in new) before after (Ok Text) → (new.stage ≡
       Over) → Reads old new (Ok None)
   ReadsGame-end old new before after play stage = record {
     passed = play.passed;
@@ -322,12 +322,12 @@ module _ {B S : Type 0} (g : Geometry) (coming : S → Option (List ℕ)) (has_e
       stage,
       λ bytes over. record {
         said = [];
-        over = over_on coming has_ended is_failed pulls (input_in old) (input_in new) play.passed bytes false
+        over = over_on supply is_failed pulls (input_in old) (input_in new) play.passed bytes false
             play.passes over;
         stands = (
           play.passed,
           subst (λ l. HasGames g l play.passed [])
-              (sym (text_on coming has_ended is_failed pulls (input_in old) (input_in new) play.passed bytes false
+              (sym (text_on supply is_failed pulls (input_in old) (input_in new) play.passed bytes false
               play.passes))
               (play.said g bytes [] (none_left ((input_in new).unread) bytes play.ends.0 (over play.ends.1), refl)),
         );
@@ -350,16 +350,17 @@ fresh g input handed bytes games none zero ahead =
     }
 
 -- ---- a comment is left open, and was not yet told
-pub open_given : {B S : Type 0} (g : Geometry) (coming : S → Option (List ℕ)) (old new : Games B S) (game : Game B)
+pub open_given : {B S : Type 0} (g : Geometry) (supply : S → Supply) (old new : Games B S) (game : Game B)
     → (old.stage ≡ Open) → (input_in new) ≡ (input_in old) → (new.stage ≡ Over)
     → numbered_game game ∷ [] ≡ games_from (handed_out old.numbers) (unclosed ∷ [])
-    → GivesNext g (coming (input_in old).source) (coming (input_in new).source) (reading_of old) (reading_of new)
+    → GivesNext g (supply (input_in old).source) (supply (input_in new).source) (reading_of old) (reading_of new)
     (Ok (Some game))
 unfolding reading_of
-open_given g coming old new game here input stage given = record {
+open_given g supply old new game here input stage given = record {
   read = [];
-  took = subst (λ i. Consumes (coming (input_in old).source) (coming i.source) []) (sym input)
-      (Consumes-nil (coming (input_in old).source));
+  still = λ met. (refl, ap (λ i. i.met_end) input ∙ met);
+  took = subst (λ i. ReadsBytes (supply (input_in old).source) (supply i.source) []) (sym input)
+      (Reads-nil (supply (input_in old).source));
   gives = (
     λ bytes games ahead.
         let none : ahead.said ≡ [] = subst (λ s. Stands g s ((input_in new).unread ++ bytes) ahead.said) stage
@@ -396,14 +397,15 @@ over_games Open handed said text g over stands = games_from-over handed said (lt
 over_games Over handed said text g over stands = ap (games_from handed) stands
 over_games (Stopped fault) handed said text g over stands = ap (games_from handed) stands
 
-pub over_given : {B S : Type 0} → TextsOfTagsSay → (g : Geometry) (coming : S → Option (List ℕ)) (games : Games B S)
+pub over_given : {B S : Type 0} → TextsOfTagsSay → (g : Geometry) (supply : S → Supply) (games : Games B S)
     → is_done games.stage (handed_out games.numbers) ≡ true
-    → GivesNext {B = B} g (coming (input_in games).source) (coming (input_in games).source) (reading_of games)
+    → GivesNext {B = B} g (supply (input_in games).source) (supply (input_in games).source) (reading_of games)
     (reading_of games) (Ok None)
 unfolding reading_of
-over_given law g coming games over = record {
+over_given law g supply games over = record {
   read = [];
-  took = Consumes-nil (coming (input_in games).source);
+  took = Reads-nil (supply (input_in games).source);
+  still = λ met. (refl, met);
   gives = (
     over,
     λ bytes may.

@@ -6,23 +6,23 @@ use Rattle.std.proofs.Common.{length-append}
 use Rattle.std.proofs.Math.Seq.{take-append-add}
 use Rattle.std.proofs.lemmas.Bool.{cases_lt}
 use Rattle.std.proofs.lemmas.List.{length-take, take-append-drop, take-append-le, take_all, take_min}
-use Rattle.std.proofs.KnownBytes.{Consumes-nil, Consumes-trans}
-use Rattle.std.specs.Io.KnownBytes.{Consumes}
+use Rattle.dw_notation.specs.Streams.{Supply, Reads}
+use Rattle.dw_notation.specs.inner.StreamLemmas.{Reads-nil, Reads-trans}
 use Rattle.dw_notation.specs.Buffering.{Input, Passes}
 
 or-false : (b : Bool) → (b || false) ≡ b
 or-false true = refl
 or-false false = refl
 
-module _ {S : Type 0} (coming : S → Option (List ℕ)) (has_ended is_failed : S → Bool) (pulls : S → ℕ) where
+module _ {S : Type 0} (supply : S → Supply) (is_failed : S → Bool) (pulls : S → ℕ) where
   -- a piece of what was read is passed
   pub Passes-piece : (old new : Input S) (count : ℕ) → new.source ≡ old.source
       → new.met_end ≡ old.met_end → new.unread ≡ drop count old.unread
-      → Passes coming has_ended is_failed pulls old new (take count old.unread) false
+      → Passes supply is_failed pulls old new (take count old.unread) false
   Passes-piece old new count source met rest = record {
     read = [];
-    took = subst (λ s. Consumes (coming old.source) (coming s) []) (sym source)
-        (Consumes-nil (coming old.source));
+    took = subst (λ s. Reads (supply old.source) (supply s) []) (sym source)
+        (Reads-nil (supply old.source));
     same = append-nil old.unread ∙ sym (take-append-drop count old.unread)
         ∙ ap (λ l. take count old.unread ++ l) (sym rest);
     stays = λ m. (refl, met ∙ m);
@@ -36,10 +36,10 @@ module _ {S : Type 0} (coming : S → Option (List ℕ)) (has_ended is_failed : 
         omega (arith, split, same, short);
   }
 
-  pub Passes-refl : (old : Input S) → Passes coming has_ended is_failed pulls old old [] false
+  pub Passes-refl : (old : Input S) → Passes supply is_failed pulls old old [] false
   Passes-refl old = record {
     read = [];
-    took = Consumes-nil (coming old.source);
+    took = Reads-nil (supply old.source);
     same = append-nil old.unread;
     stays = λ m. (refl, m);
     end = λ known. known;
@@ -48,12 +48,12 @@ module _ {S : Type 0} (coming : S → Option (List ℕ)) (has_ended is_failed : 
   }
 
   pub Passes-trans : (old mid new : Input S) (first second : List ℕ) (fails : Bool)
-      → Passes coming has_ended is_failed pulls old mid first false
-      → Passes coming has_ended is_failed pulls mid new second fails
-      → Passes coming has_ended is_failed pulls old new (first ++ second) fails
+      → Passes supply is_failed pulls old mid first false
+      → Passes supply is_failed pulls mid new second fails
+      → Passes supply is_failed pulls old new (first ++ second) fails
   Passes-trans old mid new first second fails a b = record {
     read = a.read ++ b.read;
-    took = Consumes-trans (coming old.source) (coming mid.source) (coming new.source) a.read b.read a.took
+    took = Reads-trans (supply old.source) (supply mid.source) (supply new.source) a.read b.read a.took
         b.took;
     same = sym (append_assoc old.unread a.read b.read) ∙ ap (λ l. l ++ b.read) a.same
         ∙ append_assoc first mid.unread b.read ∙ ap (λ l. first ++ l) b.same

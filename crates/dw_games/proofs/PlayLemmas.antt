@@ -8,6 +8,7 @@ use Rattle.dw_notation.specs.Between.{IsBetween}
 use Rattle.dw_notation.specs.Between.IsBetween.{nothing, other, opened as open_brace, within, closed as close_brace}
 use Rattle.dw_games.specs.GameReading.{is_failure}
 use Rattle.dw_notation.specs.Buffering.{Input, Passes}
+use Rattle.dw_notation.specs.Streams.{Supply}
 use Rattle.dw_games.specs.inner.Keeping.{IsKept}
 use Rattle.dw_games.specs.inner.Playing.{InComment, unclosed, HasGamesFrom, ReadsPlay, PlaysOn}
 use Rattle.dw_games.specs.inner.Playing.InComment.{closed, left_open}
@@ -40,25 +41,25 @@ between_games g (within byte here is) more front games has = inside g byte here 
     has)
 between_games g (close_brace is) more front games has = closed [] refl (between_games g is more front games has)
 
-module _ {S : Type 0} (coming : S → Option (List ℕ)) (has_ended is_failed : S → Bool) (pulls : S → ℕ) where
+module _ {S : Type 0} (supply : S → Supply) (is_failed : S → Bool) (pulls : S → ℕ) where
   abbrev On : Input S → Input S → BoundedBuf → BoundedBuf → Bool → Type 0
-  On = PlaysOn coming has_ended is_failed pulls
+  On = PlaysOn supply is_failed pulls
 
   pub PlaysOn-start : (old : Input S) (before : BoundedBuf) → On old old before before false
   PlaysOn-start old before = record {
     passed = [];
-    passes = Passes-refl coming has_ended is_failed pulls old;
+    passes = Passes-refl supply is_failed pulls old;
     keeps = λ limit text is. subst (λ l. IsKept limit l before) (sym (append-nil text)) is;
     said = λ g more front games has. has;
   }
 
   -- the next bytes are known
   pub PlaysOn-fill : (old mid now : Input S) (before kept : BoundedBuf) (was : Bool) → On old mid before kept was
-      → Passes coming has_ended is_failed pulls mid now [] false → On old now before kept was
+      → Passes supply is_failed pulls mid now [] false → On old now before kept was
   PlaysOn-fill old mid now before kept was on fill = record {
     passed = on.passed;
-    passes = subst (λ l. Passes coming has_ended is_failed pulls old now l false) (append-nil on.passed)
-        (Passes-trans coming has_ended is_failed pulls old mid now on.passed [] false on.passes fill);
+    passes = subst (λ l. Passes supply is_failed pulls old now l false) (append-nil on.passed)
+        (Passes-trans supply is_failed pulls old mid now on.passed [] false on.passes fill);
     keeps = on.keeps;
     said = on.said;
   }
@@ -67,11 +68,11 @@ module _ {S : Type 0} (coming : S → Option (List ℕ)) (has_ended is_failed : 
   pub PlaysOn-piece : (old mid now : Input S) (before kept after : BoundedBuf) (was next : Bool) (piece : List ℕ)
       → On old mid before kept was → IsBetween was next piece
       → ((limit : ℕ) (text : List ℕ) → IsKept limit text kept → IsKept limit (text ++ piece) after)
-      → Passes coming has_ended is_failed pulls mid now piece false
+      → Passes supply is_failed pulls mid now piece false
       → On old now before after next
   PlaysOn-piece old mid now before kept after was next piece on between extend pass = record {
     passed = on.passed ++ piece;
-    passes = Passes-trans coming has_ended is_failed pulls old mid now on.passed piece false on.passes pass;
+    passes = Passes-trans supply is_failed pulls old mid now on.passed piece false on.passes pass;
     keeps = λ limit text is. subst (λ l. IsKept limit l after) (append_assoc text on.passed piece)
         (extend limit (text ++ on.passed) (on.keeps limit text is));
     said = λ g more front games has.
@@ -81,7 +82,7 @@ module _ {S : Type 0} (coming : S → Option (List ℕ)) (has_ended is_failed : 
   }
 
   abbrev Result-of : Input S → Input S → BoundedBuf → BoundedBuf → Result PlayEnd GameFault → Type 0
-  Result-of = ReadsPlay coming has_ended is_failed pulls
+  Result-of = ReadsPlay supply is_failed pulls
 
   -- a section begins
   pub PlaysOn-section : (old now : Input S) (before after : BoundedBuf) → On old now before after false
@@ -135,12 +136,12 @@ module _ {S : Type 0} (coming : S → Option (List ℕ)) (has_ended is_failed : 
   -- the source fails, or memory is refused
   pub PlaysOn-fault : (old mid now : Input S) (before kept after : BoundedBuf) (was : Bool) (fault : GameFault)
       → On old mid before kept was
-      → Passes coming has_ended is_failed pulls mid now [] (is_failure {A = PlayEnd} (Err fault))
+      → Passes supply is_failed pulls mid now [] (is_failure {A = PlayEnd} (Err fault))
       → Result-of old now before after (Err fault)
   PlaysOn-fault old mid now before kept after was fault on fill = record {
     passed = on.passed;
-    passes = subst (λ l. Passes coming has_ended is_failed pulls old now l (is_failure {A = PlayEnd} (Err fault)))
-        (append-nil on.passed) (Passes-trans coming has_ended is_failed pulls old mid now on.passed [] _ on.passes
+    passes = subst (λ l. Passes supply is_failed pulls old now l (is_failure {A = PlayEnd} (Err fault)))
+        (append-nil on.passed) (Passes-trans supply is_failed pulls old mid now on.passed [] _ on.passes
         fill);
     kept = tt;
     said = tt;

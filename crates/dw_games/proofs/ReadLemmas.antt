@@ -10,6 +10,7 @@ use Rattle.dw_notation.specs.declared.problems.section_reader.SectionReader.{Sec
 use Rattle.dw_games.specs.Games.{Said, said_with, HasGames}
 use Rattle.dw_games.specs.GameReading.{is_failure}
 use Rattle.dw_notation.specs.Buffering.{Input, Passes}
+use Rattle.dw_notation.specs.Streams.{Supply}
 use Rattle.dw_games.specs.inner.Keeping.{IsKept, spaces_on, row_of}
 use Rattle.dw_games.specs.inner.Sectioning.{ReadsOn, ReadsSection, EndsWell}
 use Rattle.dw_games.specs.declared.games.GameFault.{GameFault}
@@ -23,17 +24,17 @@ front_begins : (passed behind rest : List ℕ) (byte : ℕ) → passed ++ byte �
 front_begins [] behind rest byte e = ([], ap (λ b. b ∷ []) (ap first e))
 front_begins (p ∷ passed) behind rest byte e = (passed ++ byte ∷ [], ap (λ b. b ∷ (passed ++ byte ∷ [])) (ap first e))
 
-module _ {B S : Type 0} (g : Geometry) (coming : S → Option (List ℕ)) (has_ended is_failed : S → Bool)
+module _ {B S : Type 0} (g : Geometry) (supply : S → Supply) (is_failed : S → Bool)
     (pulls : S → ℕ) where
   abbrev On : Input S → Input S → BoundedBuf → BoundedBuf → BoundedBuf → BoundedBuf → SectionReader B → Type 0
-  On = ReadsOn g coming has_ended is_failed pulls
+  On = ReadsOn g supply is_failed pulls
 
   pub ReadsOn-start : (old : Input S) (begun before : BoundedBuf) (reader : SectionReader B)
       → ((over : Bool) (bytes : List ℕ) → SectionsSay g over bytes (ahead_of reader g over bytes))
       → ahead_of reader g false [] ≡ [] → On old old begun begun before before reader
   ReadsOn-start old begun before reader said unsaid = record {
     passed = [];
-    passes = Passes-refl coming has_ended is_failed pulls old;
+    passes = Passes-refl supply is_failed pulls old;
     rows = λ limit is. is;
     keeps = λ limit is. is;
     said = said;
@@ -42,12 +43,12 @@ module _ {B S : Type 0} (g : Geometry) (coming : S → Option (List ℕ)) (has_e
 
   -- the next bytes are known
   pub ReadsOn-fill : (old mid now : Input S) (begun row before kept : BoundedBuf) (reader : SectionReader B)
-      → On old mid begun row before kept reader → Passes coming has_ended is_failed pulls mid now [] false
+      → On old mid begun row before kept reader → Passes supply is_failed pulls mid now [] false
       → On old now begun row before kept reader
   ReadsOn-fill old mid now begun row before kept reader on fill = record {
     passed = on.passed;
-    passes = subst (λ l. Passes coming has_ended is_failed pulls old now l false) (append-nil on.passed)
-        (Passes-trans coming has_ended is_failed pulls old mid now on.passed [] false on.passes fill);
+    passes = subst (λ l. Passes supply is_failed pulls old now l false) (append-nil on.passed)
+        (Passes-trans supply is_failed pulls old mid now on.passed [] false on.passes fill);
     rows = on.rows;
     keeps = on.keeps;
     said = on.said;
@@ -61,12 +62,12 @@ module _ {B S : Type 0} (g : Geometry) (coming : S → Option (List ℕ)) (has_e
       → ahead_of next g false [] ≡ []
       → ((limit : ℕ) (text : List ℕ) → IsKept limit text row → IsKept limit (text ++ piece) longer)
       → ((limit : ℕ) (text : List ℕ) → IsKept limit text kept → IsKept limit (spaces_on text piece) after)
-      → Passes coming has_ended is_failed pulls mid now piece false
+      → Passes supply is_failed pulls mid now piece false
       → On old now begun longer before after next
   ReadsOn-piece old mid now begun row longer before kept after reader next piece on same unsaid extend keep pass =
       record {
         passed = on.passed ++ piece;
-        passes = Passes-trans coming has_ended is_failed pulls old mid now on.passed piece false on.passes pass;
+        passes = Passes-trans supply is_failed pulls old mid now on.passed piece false on.passes pass;
         rows = λ limit is. extend limit on.passed (on.rows limit is);
         keeps = λ limit is. subst (λ l. IsKept limit l after) (sym (spaces_on-append [] on.passed piece))
             (keep limit (spaces_on [] on.passed) (on.keeps limit is));
@@ -91,12 +92,12 @@ module _ {B S : Type 0} (g : Geometry) (coming : S → Option (List ℕ)) (has_e
       ≡ found ∷ ahead_of next g over more)
       → ((limit : ℕ) (text : List ℕ) → IsKept limit text row → IsKept limit (text ++ piece) longer)
       → ((limit : ℕ) (text : List ℕ) → IsKept limit text kept → IsKept limit (spaces_on text piece) after)
-      → Passes coming has_ended is_failed pulls mid now piece false → result ≡ Some found
-      → ReadsSection g coming has_ended is_failed pulls old now begun longer before after (Ok result)
+      → Passes supply is_failed pulls mid now piece false → result ≡ Some found
+      → ReadsSection g supply is_failed pulls old now begun longer before after (Ok result)
   ReadsOn-cut law old mid now begun row longer before kept after reader next piece byte result found on begins here none
       add extend keep pass is =
       let passed = on.passed ++ piece in
-      let passes = Passes-trans coming has_ended is_failed pulls old mid now on.passed piece false on.passes pass in
+      let passes = Passes-trans supply is_failed pulls old mid now on.passed piece false on.passes pass in
       let behind = drop 1 now.unread in
       let joined : passed ++ byte ∷ behind ≡ 91 ∷ (drop 1 old.unread ++ passes.read) =
       ap (λ l. passed ++ l) (sym here) ∙ sym passes.same ∙ ap (λ l. l ++ passes.read) begins in
@@ -107,7 +108,7 @@ module _ {B S : Type 0} (g : Geometry) (coming : S → Option (List ℕ)) (has_e
       (ahead_of reader g false (piece ++ byte ∷ []))) (sym (append_assoc on.passed piece (byte ∷ [])))
       (on.said false (piece ++ byte ∷ []))) refl front.1 all
       (subst (SectionsSay g false passed) none (on.said false piece)) in
-      subst (λ r. ReadsSection g coming has_ended is_failed pulls old now begun longer before after (Ok r)) (sym is)
+      subst (λ r. ReadsSection g supply is_failed pulls old now begun longer before after (Ok r)) (sym is)
       (record {
         passed = passed;
         passes = passes;
@@ -126,7 +127,7 @@ module _ {B S : Type 0} (g : Geometry) (coming : S → Option (List ℕ)) (has_e
   pub ReadsOn-last : TextsOfTagsSay → (old now : Input S) (begun row before kept : BoundedBuf) (reader : SectionReader
       B) (result : Option Found) → On old now begun row before kept reader → old.unread ≡ 91 ∷ drop 1 old.unread
       → (now.unread ≡ []) × (now.met_end ≡ true) → ahead_of reader g true [] ≡ option_to_list result
-      → ReadsSection g coming has_ended is_failed pulls old now begun row before kept (Ok result)
+      → ReadsSection g supply is_failed pulls old now begun row before kept (Ok result)
   ReadsOn-last law old now begun row before kept reader result on begins end finish =
       let joined : on.passed ++ [] ≡ 91 ∷ (drop 1 old.unread ++ on.passes.read) =
       ap (λ l. on.passed ++ l) (sym end.0) ∙ sym on.passes.same ∙ ap (λ l. l ++ on.passes.read) begins in
@@ -158,12 +159,12 @@ module _ {B S : Type 0} (g : Geometry) (coming : S → Option (List ℕ)) (has_e
   -- the source fails, or memory is refused
   pub ReadsOn-fault : (old mid now : Input S) (begun row longer before kept after : BoundedBuf) (reader : SectionReader
       B) (fault : GameFault) → On old mid begun row before kept reader
-      → Passes coming has_ended is_failed pulls mid now [] (is_failure {A = Option Found} (Err fault))
-      → ReadsSection g coming has_ended is_failed pulls old now begun longer before after (Err fault)
+      → Passes supply is_failed pulls mid now [] (is_failure {A = Option Found} (Err fault))
+      → ReadsSection g supply is_failed pulls old now begun longer before after (Err fault)
   ReadsOn-fault old mid now begun row longer before kept after reader fault on fill = record {
     passed = on.passed;
-    passes = subst (λ l. Passes coming has_ended is_failed pulls old now l (is_failure {A = Option Found} (Err fault)))
-        (append-nil on.passed) (Passes-trans coming has_ended is_failed pulls old mid now on.passed [] _ on.passes
+    passes = subst (λ l. Passes supply is_failed pulls old now l (is_failure {A = Option Found} (Err fault)))
+        (append-nil on.passed) (Passes-trans supply is_failed pulls old mid now on.passed [] _ on.passes
         fill);
     rows = tt;
     kept = tt;

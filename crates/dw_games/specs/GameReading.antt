@@ -1,8 +1,8 @@
 -- The value of a reader of games, and the effect of a call for the next game.
 use Rattle.std.specs.Prelude.{◌≡◌, ◌⊎◌, ℕ, List, [], ◌∷◌, ◌++◌, Bool, true, false, Option, Some, None, Result, Ok, Err}
 use Rattle.std.specs.Borrow.{GName}
-use Rattle.std.specs.Io.KnownBytes.{Consumes, IsAtEnd}
 use Rattle.dw_board.specs.Geometry.{Geometry}
+use Rattle.dw_notation.specs.Streams.{Supply, Reads, IsOver}
 use Rattle.dw_games.specs.Games.{NumberedGame}
 use Rattle.dw_games.specs.declared.games.Game.{Game}
 use Rattle.dw_games.specs.declared.games.Games.{Games}
@@ -49,16 +49,17 @@ Gives g old new read (Ok None) =
     (new.is_over ≡ true) × ((bytes : List ℕ) → MayCome new bytes → old.ahead g (read ++ bytes) [])
 Gives g old new read (Err fault) = new.fault ≡ Some fault
 
--- the effect of a call that took some bytes off the source
-pub record GivesNext {B : Type 0} (g : Geometry) (coming left : Option (List ℕ)) (old new : Reader)
+-- the effect of a call that read some bytes, and none after the end
+pub record GivesNext {B : Type 0} (g : Geometry) (before after : Supply) (old new : Reader)
     (result : Result (Option (Game B)) GameFault) : Type 0 where
   pub read : List ℕ
-  pub took : Consumes coming left read
+  pub took : Reads before after read
+  pub still : old.met_end ≡ true → (read ≡ []) × (new.met_end ≡ true)
   pub gives : Gives g old new read result
 
--- if a reader has met the end, the source has ended and nothing is left in it
-abbrev pub EndIsTrue : Option (List ℕ) → Bool → Reader → Type 0
-EndIsTrue coming has_ended reader = reader.met_end ≡ true → IsAtEnd coming × (has_ended ≡ true)
+-- the end that a reader has met is the source's
+abbrev pub EndIsTrue : Supply → Reader → Type 0
+EndIsTrue supply reader = reader.met_end ≡ true → IsOver supply
 
 -- the answer of a reader at its end, or after a fault: the same each time
 abbrev pub StandsStill : {B : Type 0} → Reader → Result (Option (Game B)) GameFault → Type 0

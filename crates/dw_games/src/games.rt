@@ -177,7 +177,7 @@ impl<'a, B: Board, S: Source> Games<'a, B, S> {
         requires begins { unread_in self.old.buffer ≡ 91 ∷ drop 1 (unread_in self.old.buffer) }
         requires room { handed_out self.old.numbers ≤ MAX_PROBLEMS }
         ensures lender { lender self.new ≡ lender self.old }
-        ensures reads { ReadsGame B.geometry S.coming S.has_ended S.is_failed S.pulls_left self.old self.new result }
+        ensures reads { ReadsGame B.geometry S.supply S.is_failed S.pulls_left self.old self.new result }
         ensures goes_on { OnOk result (fault_of self.new.stage ≡ None) }
     {
         dw_notation::laws::texts_of_tags_say();
@@ -207,7 +207,7 @@ impl<'a, B: Board, S: Source> Games<'a, B, S> {
     fn read_on(&mut self) -> Result<Option<Game<B>>, GameFault>
         requires { handed_out self.old.numbers ≤ MAX_PROBLEMS }
         ensures lender { lender self.new ≡ lender self.old }
-        ensures reads { ReadsGame B.geometry S.coming S.has_ended S.is_failed S.pulls_left self.old self.new result }
+        ensures reads { ReadsGame B.geometry S.supply S.is_failed S.pulls_left self.old self.new result }
         ensures goes_on { OnOk result (fault_of self.new.stage ≡ None) }
     {
         dw_notation::laws::texts_of_tags_say();
@@ -232,11 +232,10 @@ impl<'a, B: Board, S: Source> Games<'a, B, S> {
     #[tactic(auto, unfolding(crate::specs::inner::GameReaders::reading_of))]
     pub fn next(&mut self) -> Result<Option<Game<B>>, GameFault>
         ensures lender { lender self.new ≡ lender self.old }
-        ensures given { GivesNext B.geometry
-            (S.coming (source_of self.old)) (S.coming (source_of self.new))
+        ensures given { GivesNext B.geometry (S.supply (source_of self.old)) (S.supply (source_of self.new))
             (reading_of self.old) (reading_of self.new) result }
-        ensures end { EndIsTrue (S.coming (source_of self.old)) (S.has_ended (source_of self.old)) (reading_of self.old)
-            → EndIsTrue (S.coming (source_of self.new)) (S.has_ended (source_of self.new)) (reading_of self.new) }
+        ensures end { EndIsTrue (S.supply (source_of self.old)) (reading_of self.old)
+            → EndIsTrue (S.supply (source_of self.new)) (reading_of self.new) }
         ensures failed { (reading_of self.old).fault ≡ None
             → S.is_failed (source_of self.new) ≡ (S.is_failed (source_of self.old) || is_failure result) }
         ensures still { StandsStill (reading_of self.old) result }

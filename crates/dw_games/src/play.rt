@@ -24,7 +24,7 @@ pub(crate) fn scan_to_section<S: Source>(
     buffer: &mut Buffer,
     kept: &mut BoundedBuf,
 ) -> Result<PlayEnd, GameFault>
-    ensures { ReadsPlay S.coming S.has_ended S.is_failed S.pulls_left (input_of source.old buffer.old)
+    ensures { ReadsPlay S.supply S.is_failed S.pulls_left (input_of source.old buffer.old)
         (input_of source.new buffer.new) kept.old kept.new result }
 {
     let mut finder = SectionFinder::new();

@@ -48,7 +48,7 @@ pub(crate) fn read_section<B: Board, S: Source>(
     spaces: &mut BoundedBuf,
 ) -> Result<Option<Result<Position<B>, ProblemFault>>, GameFault>
     requires { unread_in buffer.old ≡ open_bracket ∷ drop 1 (unread_in buffer.old) }
-    ensures { ReadsSection B.geometry S.coming S.has_ended S.is_failed S.pulls_left (input_of source.old buffer.old)
+    ensures { ReadsSection B.geometry S.supply S.is_failed S.pulls_left (input_of source.old buffer.old)
         (input_of source.new buffer.new) row.old row.new spaces.old spaces.new result }
 {
     dw_notation::laws::texts_of_tags_say();

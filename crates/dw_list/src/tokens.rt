@@ -2,7 +2,7 @@
 ghost use Rattle.std.specs.Prelude.{◌≡◌, ◌<◌, ◌≤◌, ◌+◌, ◌*◌, ◌%◌, ◌^◌, ◌++◌, ◌⊎◌, ◌↔◌, ◌∷◌};
 ghost use Rattle.std.specs.Prelude.{List, false, true, length, Some};
 ghost use Rattle.std.specs.Prelude.{MatchOption, MatchResult, OnOk, OnErr, IfErr, IsErr};
-ghost use Rattle.std.specs.Io.KnownBytes.{Appends};
+ghost use Rattle.dw_notation.specs.Streams.{Appends};
 ghost use Rattle.arrayvec.specs.ArrayVec.{array_vec_len};
 ghost use Rattle.dw_board.specs.Geometry.{squares};
 ghost use Rattle.dw_moves.specs.Moves.{Move as AnyMove};
@@ -59,9 +59,9 @@ pub fn write_token<B: Board, K: Sink>(line: &[Move<B>], sink: &mut K) -> Result<
     requires most { length line.now ≤ 39 }
     requires rows { (B.geometry.rows ≡ 10) ⊎ (B.geometry.rows ≡ 8) }
     requires works { K.is_failed sink.old ≡ false }
-    ensures ok { OnOk result (Appends (K.taken sink.old) (K.taken sink.new) (tokens.token_of B.geometry line.now)) }
+    ensures ok { OnOk result (Appends (K.accepted sink.old) (K.accepted sink.new) (tokens.token_of B.geometry line.now)) }
     ensures err { OnErr result
-        (StopsShort (K.taken sink.old) (K.taken sink.new) (tokens.token_of B.geometry line.now)) }
+        (StopsShort (K.accepted sink.old) (K.accepted sink.new) (tokens.token_of B.geometry line.now)) }
     ensures failed { IsErr result → K.is_failed sink.new ≡ true }
     ensures kept { OnOk result (K.is_failed sink.new ≡ false) }
 {

@@ -3,7 +3,7 @@ ghost use Rattle.std.specs.Prelude.{◌≡◌, ℕ, ◌+◌, ◌≤◌, false, t
 ghost use Rattle.std.specs.Prelude.{IsErrOf, OnOk, MatchOption, map};
 ghost use Rattle.dw_moves.specs.Moves.{Move as AnyMove};
 ghost use Rattle.dw_verdict.specs.Verdict.{IsVerdict, sound};
-ghost use Rattle.std.specs.Io.KnownBytes.{Appends};
+ghost use Rattle.dw_notation.specs.Streams.{Appends};
 ghost use Rattle.dw_board.specs.Placement.{Placement};
 ghost use Rattle.dw_memo.specs.Content.{IsMap};
 ghost use Rattle.dw_solve.specs.declared.stop.Stop.TheVariants as stops;
@@ -109,14 +109,14 @@ pub fn mend<B: Board, M: Memo<B>, G: Guide<B>, W: Watcher, K: Sink>(
     ensures text { IfOk result (λ mended. (text : List ℕ)
         × IsMendText bounds.wording B.geometry position.now bounds.moves.value bounds.part.number bounds.part.parts
         mended.all mended.sound mended.undecided text
-        × Appends (K.taken sink.old) (K.taken sink.new) text) }
+        × Appends (K.accepted sink.old) (K.accepted sink.new) text) }
     ensures bounded { IfOk result (λ mended. AreBounded bounds.each mended.all mended.undecided solver.old.expanded
         solver.new.expanded) }
     ensures stopped { (stop : _) (all : List (Changed × Placement)) → AreNeighbours B.geometry position.now all
         → result ≡ Err (because.Stopped stop)
         → (text : List ℕ)
         × IsMendStop bounds.wording B.geometry bounds.moves.value (part_of bounds.part.number bounds.part.parts all)
-        text × Appends (K.taken sink.old) (K.taken sink.new) text }
+        text × Appends (K.accepted sink.old) (K.accepted sink.new) text }
     ensures count { IsCounted solver.old.expanded solver.old.limit solver.new.expanded solver.new.limit }
     ensures stop { result ≡ Err (because.Stopped Limit) → solver.new.expanded ≡ solver.new.limit }
     ensures right { AreTrue B.geometry (M.content solver.new.memo) }
@@ -150,13 +150,13 @@ fn mend_these<B: Board, M: Memo<B>, G: Guide<B>, W: Watcher, K: Sink>(
     ensures text { IfOk result (λ mended. (text : List ℕ)
         × AreMended bounds.wording B.geometry bounds.moves.value (map told_by some.now) text
         (record { sound = mended.sound; undecided = mended.undecided })
-        × Appends (K.taken sink.old) (K.taken sink.new) text) }
+        × Appends (K.accepted sink.old) (K.accepted sink.new) text) }
     ensures all { IfOk result (λ mended. mended.all ≡ length some.now) }
     ensures bounded { IfOk result (λ mended. AreBounded bounds.each mended.all mended.undecided solver.old.expanded
         solver.new.expanded) }
     ensures stopped { (stop : _) → result ≡ Err (because.Stopped stop)
         → (text : List ℕ) × IsMendStop bounds.wording B.geometry bounds.moves.value (map told_by some.now) text
-        × Appends (K.taken sink.old) (K.taken sink.new) text }
+        × Appends (K.accepted sink.old) (K.accepted sink.new) text }
     ensures leaves { Leaves B.geometry M.content solver.old solver.new result }
     ensures sink { OnOk result (K.is_failed sink.new ≡ false) }
     ensures write { result ≡ Err because.Write → K.is_failed sink.new ≡ true }
@@ -216,9 +216,9 @@ fn write_found<B: Board, M: Memo<B>, G: Guide<B>, W: Watcher, K: Sink>(
     requires works { K.is_failed sink.old ≡ false }
     ensures text { IfOk result (λ found. (text : List ℕ)
         × Adds bounds.wording B.geometry bounds.moves.value (told_by neighbour.now) found text
-        × Appends (K.taken sink.old) (K.taken sink.new) text) }
+        × Appends (K.accepted sink.old) (K.accepted sink.new) text) }
     ensures goes { Goes bounds.each solver.old.expanded solver.old.limit solver.new.expanded solver.new.limit result }
-    ensures stopped { (stop : _) → result ≡ Err (because.Stopped stop) → K.taken sink.new ≡ K.taken sink.old }
+    ensures stopped { (stop : _) → result ≡ Err (because.Stopped stop) → K.accepted sink.new ≡ K.accepted sink.old }
     ensures right { AreTrue B.geometry (M.content solver.new.memo) }
     ensures map { IsMap (M.content solver.new.memo) }
     ensures sink { OnOk result (K.is_failed sink.new ≡ false) }

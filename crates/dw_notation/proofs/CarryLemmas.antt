@@ -1,12 +1,12 @@
 -- Lemmas on reading on.
-use Rattle.std.proofs.Common.{◌≡◌, ℕ, ◌≤◌, length, List, [], ◌++◌, Bool, true, false, subst, ◌⊎◌, Option, refl, sym, ap}
+use Rattle.std.proofs.Common.{◌≡◌, ℕ, ◌≤◌, length, List, [], ◌++◌, Bool, true, false, subst, ◌⊎◌, refl, sym, ap}
 use Rattle.std.proofs.Common.{◌∙◌, append_assoc, append-nil, Result, Ok, is_err, IsErr, ◌||◌, inl, inr}
-use Rattle.std.proofs.KnownBytes.{Consumes-nil, Consumes-trans}
-use Rattle.std.specs.Io.KnownBytes.{Consumes}
+use Rattle.dw_notation.specs.Streams.{Supply, Reads}
+use Rattle.dw_notation.specs.inner.StreamLemmas.{Reads-nil, Reads-trans}
 use Rattle.dw_board.specs.Geometry.{Geometry}
 use Rattle.dw_notation.specs.inner.Pieces.{pieces_ahead, pieces_behind}
 use Rattle.dw_notation.specs.inner.Cutting.{found_ahead, CarriesOn, TakesPiece, TakesLast, found_behind, found_cut}
-use Rattle.dw_notation.specs.inner.Cutting.{progress_at}
+use Rattle.dw_notation.specs.inner.Cutting.{progress_at, StaysOver}
 use Rattle.dw_notation.specs.Buffering.{Input, unread_in, input_of, Passes}
 use Rattle.dw_notation.specs.declared.streams.buffer.Buffer.{Buffer}
 use Rattle.dw_notation.specs.declared.problems.TheConstants.{MAX_READ}
@@ -14,33 +14,36 @@ use Rattle.dw_notation.specs.inner.Cutting.{Progress}
 use Rattle.dw_notation.specs.declared.problems.reader.Pieces.{Pieces}
 use Rattle.dw_notation.specs.declared.problems.reader.Pieces.TheVariants.{InLines, InSections}
 
-pub CarriesOn-refl : (coming : Option (List ℕ)) (progress : Progress) → CarriesOn coming coming progress progress
-CarriesOn-refl coming progress = record {
+pub CarriesOn-refl : (supply : Supply) (progress : Progress) → CarriesOn supply supply progress progress
+CarriesOn-refl supply progress = record {
   read = [];
-  took = Consumes-nil coming;
+  took = Reads-nil supply;
+  still = λ met. (refl, met);
   need = inl refl;
   same = λ g at_end more. refl;
 }
 
 -- what was read ends no piece
-pub CarriesOn-cut : (coming left : Option (List ℕ)) (old mid new : Progress) → CarriesOn coming left old mid
+pub CarriesOn-cut : (before after : Supply) (old mid new : Progress) → CarriesOn before after old mid
     → ((g : Geometry) (at_end : Bool) (more : List ℕ) → found_ahead at_end g mid more ≡ found_ahead at_end g new more)
-    → CarriesOn coming left old new
-CarriesOn-cut coming left old mid new so_far same = record {
+    → new.met_end ≡ mid.met_end → CarriesOn before after old new
+CarriesOn-cut before after old mid new so_far same end = record {
   read = so_far.read;
   took = so_far.took;
+  still = λ met. let was = so_far.still met in (was.0, end ∙ was.1);
   need = so_far.need;
   same = λ g at_end more. so_far.same g at_end more ∙ same g at_end more;
 }
 
 -- what was read ends one
-pub TakesPiece-cut : (coming left : Option (List ℕ)) (old mid new : Progress) → CarriesOn coming left old mid
+pub TakesPiece-cut : (before after : Supply) (old mid new : Progress) → CarriesOn before after old mid
     → ((g : Geometry) (at_end : Bool) (more : List ℕ) → found_ahead at_end g mid more ≡ found_cut g new
     ++ found_behind at_end g new more)
-    → TakesPiece coming left old new
-TakesPiece-cut coming left old mid new so_far same = record {
+    → new.met_end ≡ mid.met_end → TakesPiece before after old new
+TakesPiece-cut before after old mid new so_far same end = record {
   read = so_far.read;
   took = so_far.took;
+  still = λ met. let was = so_far.still met in (was.0, end ∙ was.1);
   need = so_far.need;
   same = λ g at_end more. so_far.same g at_end more ∙ same g at_end more;
 }
@@ -55,12 +58,16 @@ pub ended-none : (g : Geometry) (new : Progress) → new.rest ≡ [] → found_a
 ended-none g new none = ap (λ l. pieces_ahead false g new.pieces (l ++ [])) none ∙ ended-piece g new.pieces
 
 -- a read into the empty buffer
-pub CarriesOn-fill : (coming left after : Option (List ℕ)) (old mid new : Progress) → CarriesOn coming left old mid
-    → (mid.rest ≡ []) → (new.pieces ≡ mid.pieces) → Consumes left after new.rest
-    → length new.rest ≤ MAX_READ → CarriesOn coming after old new
-CarriesOn-fill coming left after old mid new so_far none pieces bytes few = record {
+pub CarriesOn-fill : (before now after : Supply) (old mid new : Progress) → CarriesOn before now old mid
+    → (mid.rest ≡ []) → (new.pieces ≡ mid.pieces) → Reads now after new.rest → StaysOver mid new new.rest
+    → length new.rest ≤ MAX_READ → CarriesOn before after old new
+CarriesOn-fill before now after old mid new so_far none pieces bytes still few = record {
   read = so_far.read ++ new.rest;
-  took = Consumes-trans coming left after so_far.read new.rest so_far.took bytes;
+  took = Reads-trans before now after so_far.read new.rest so_far.took bytes;
+  still = λ met. let was = so_far.still met in let more = still was.1 in (
+    ap (λ l. l ++ new.rest) was.0 ∙ more.0,
+    more.1,
+  );
   need = inr (
     so_far.read,
     new.rest,
@@ -77,31 +84,31 @@ CarriesOn-fill coming left after old mid new so_far none pieces bytes few = reco
 }
 
 -- the same of a source that is read through a buffer, of which nothing is read while a byte is unread
-pub CarriesOn-filled : {S : Type 0} (coming : S → Option (List ℕ)) (has_ended is_failed : S → Bool) (pulls : S → ℕ)
-    (first : Option (List ℕ)) (old : Progress) (pieces : Pieces) (handed : ℕ) (source after : S) (mid new : Buffer)
-    (fails : Bool) → CarriesOn first (coming source) old (progress_at mid pieces handed)
-    → Passes coming has_ended is_failed pulls (input_of source mid) (input_of after new) [] fails
+pub CarriesOn-filled : {S : Type 0} (supply : S → Supply) (is_failed : S → Bool) (pulls : S → ℕ) (first : Supply)
+    (old : Progress) (pieces : Pieces) (handed : ℕ) (source after : S) (mid new : Buffer) (fails : Bool)
+    → CarriesOn first (supply source) old (progress_at mid pieces handed)
+    → Passes supply is_failed pulls (input_of source mid) (input_of after new) [] fails
     → (unread_in mid ≡ []) ⊎ (input_of after new ≡ input_of source mid) → length (unread_in new) ≤ MAX_READ
-    → CarriesOn first (coming after) old (progress_at new pieces handed)
-CarriesOn-filled coming has_ended is_failed pulls first old pieces handed source after mid new fails so_far passes
-    (inl none) few =
+    → CarriesOn first (supply after) old (progress_at new pieces handed)
+CarriesOn-filled supply is_failed pulls first old pieces handed source after mid new fails so_far passes (inl none) few =
     let read : passes.read ≡ unread_in new = ap (λ l. l ++ passes.read) (sym none) ∙ passes.same in
-    CarriesOn-fill first (coming source) (coming after) old (progress_at mid pieces handed)
-    (progress_at new pieces handed) so_far none refl (subst (Consumes (coming source) (coming after)) read passes.took)
-    few
-CarriesOn-filled {S} coming has_ended is_failed pulls first old pieces handed source after mid new fails so_far passes
-    (inr same) few =
+    CarriesOn-fill first (supply source) (supply after) old (progress_at mid pieces handed)
+    (progress_at new pieces handed) so_far none refl (subst (Reads (supply source) (supply after)) read passes.took)
+    (λ met. let stays = passes.stays met in (sym read ∙ stays.0, stays.1)) few
+CarriesOn-filled {S} supply is_failed pulls first old pieces handed source after mid new fails so_far passes (inr same)
+    few =
     let at : Input S → Progress = λ i. record { rest = i.unread; pieces = pieces; handed = handed; met_end = i.met_end }
-    in subst (λ i. CarriesOn first (coming i.source) old (at i)) (sym same) so_far
+    in subst (λ i. CarriesOn first (supply i.source) old (at i)) (sym same) so_far
 
 -- the end of the text
-pub TakesLast-end : (coming left : Option (List ℕ)) (old mid new : Progress) → CarriesOn coming left old mid
-    → (mid.rest ≡ []) → (new.rest ≡ mid.rest) → ((g : Geometry) → pieces_ahead true g mid.pieces []
-    ≡ found_cut g new) → ((g : Geometry) → pieces_behind true g new.pieces [] ≡ [])
-    → TakesLast coming left old new
-TakesLast-end coming left old mid new so_far none rest found over = record {
+pub TakesLast-end : (before after : Supply) (old mid new : Progress) → CarriesOn before after old mid
+    → (mid.rest ≡ []) → (new.rest ≡ mid.rest) → (new.met_end ≡ mid.met_end) → ((g : Geometry)
+    → pieces_ahead true g mid.pieces [] ≡ found_cut g new) → ((g : Geometry) → pieces_behind true g new.pieces [] ≡ [])
+    → TakesLast before after old new
+TakesLast-end before after old mid new so_far none rest end found over = record {
   read = so_far.read;
   took = so_far.took;
+  still = λ met. let was = so_far.still met in (was.0, end ∙ was.1);
   need = so_far.need;
   same = λ g.
       ap (found_ahead true g old) (sym (append-nil so_far.read))

@@ -1,7 +1,8 @@
 -- Lemmas on what is handed out.
-use Rattle.std.proofs.Common.{◌≡◌, ℕ, ◌<◌, ◌≤◌, inl, inr, List, [], ◌∷◌, ◌++◌, Bool, true, false, Option, Some, None}
+use Rattle.std.proofs.Common.{◌≡◌, ℕ, ◌<◌, ◌≤◌, inl, inr, List, [], ◌∷◌, ◌++◌, Bool, true, false, Some, None}
 use Rattle.std.proofs.Common.{Ok, Err, refl, sym, ap, ◌∙◌, append_assoc, append-nil, subst, MatchBool}
-use Rattle.std.proofs.KnownBytes.{Consumes-nil, Consumes-trans}
+use Rattle.dw_notation.specs.Streams.{Supply}
+use Rattle.dw_notation.specs.inner.StreamLemmas.{Reads-nil, Reads-trans}
 use Rattle.dw_board.specs.Geometry.{Geometry}
 use Rattle.dw_notation.specs.TextLines.{Found}
 use Rattle.dw_notation.specs.Problems.{Numbered, numbered, number_from}
@@ -9,7 +10,7 @@ use Rattle.dw_notation.specs.Reading.{NextGives, ReadsAtNeed}
 use Rattle.dw_notation.specs.inner.Pieces.{pieces_ahead, pieces_behind}
 use Rattle.dw_notation.specs.inner.Cutting.{found_ahead, problems_from, to_come, ended, reader_at, CarriesOn}
 use Rattle.dw_notation.specs.inner.Cutting.{ReadsOnAtNeed, TakesPiece, TakesLast, HandsOut, ReadsPiece, found_behind}
-use Rattle.dw_notation.specs.inner.Cutting.{found_cut}
+use Rattle.dw_notation.specs.inner.Cutting.{found_cut, StaysOver}
 use Rattle.dw_notation.specs.declared.problems.TheConstants.{MAX_PROBLEMS}
 use Rattle.dw_notation.specs.inner.Cutting.{Progress}
 use Rattle.dw_notation.specs.declared.problems.Problem.{Problem}
@@ -22,14 +23,16 @@ pub record PieceHanded (g : Geometry) (cut new : Progress) (problems : List Numb
   pub ahead : (at_end : Bool) (more : List ℕ) → pieces_behind at_end g cut.pieces more
       ≡ pieces_ahead at_end g new.pieces more
   pub rest : new.rest ≡ cut.rest
+  pub end : new.met_end ≡ cut.met_end
   pub given : (found : List Found) → number_from cut.handed (found_cut g cut ++ found)
       ≡ problems ++ number_from new.handed found
 
-pub HandsOut-refl : (g : Geometry) (coming : Option (List ℕ)) (progress : Progress)
-    → HandsOut g coming coming progress progress []
-HandsOut-refl g coming progress = record {
+pub HandsOut-refl : (g : Geometry) (supply : Supply) (progress : Progress)
+    → HandsOut g supply supply progress progress []
+HandsOut-refl g supply progress = record {
   read = [];
-  took = Consumes-nil coming;
+  took = Reads-nil supply;
+  still = λ met. (refl, met);
   need = inl refl;
   same = λ at_end more. refl;
 }
@@ -57,15 +60,24 @@ need-join g old mid read more room need same (inr (before, last, split, few, non
   same before ∙ ap (number_from mid.handed) (none g),
 )
 
+-- after the end nothing was read, and then nothing more
+still-join : (old mid cut new : Progress) (read more : List ℕ) → StaysOver old mid read → StaysOver mid cut more
+    → new.met_end ≡ cut.met_end → StaysOver old new (read ++ more)
+still-join old mid cut new read more so_far still end = λ met. let was = so_far met in let later = still was.1 in (
+  ap (λ l. l ++ more) was.0 ∙ later.0,
+  end ∙ later.1,
+)
+
 -- nothing so far, and then a piece
-pub HandsOut-piece : (g : Geometry) (coming left after : Option (List ℕ)) (old mid cut new : Progress)
+pub HandsOut-piece : (g : Geometry) (first now after : Supply) (old mid cut new : Progress)
     (problems : List Numbered)
-    → old.handed ≤ MAX_PROBLEMS → HandsOut g coming left old mid [] → TakesPiece left after mid cut → (cut.handed ≡
+    → old.handed ≤ MAX_PROBLEMS → HandsOut g first now old mid [] → TakesPiece now after mid cut → (cut.handed ≡
     mid.handed) → PieceHanded g cut new problems
-    → HandsOut g coming after old new problems
-HandsOut-piece g coming left after old mid cut new problems room so_far piece same_number handed = record {
+    → HandsOut g first after old new problems
+HandsOut-piece g first now after old mid cut new problems room so_far piece same_number handed = record {
   read = so_far.read ++ piece.read;
-  took = Consumes-trans coming left after so_far.read piece.read so_far.took piece.took;
+  took = Reads-trans first now after so_far.read piece.read so_far.took piece.took;
+  still = still-join old mid cut new so_far.read piece.read so_far.still piece.still handed.end;
   need = need-join g old mid so_far.read piece.read room so_far.need (so_far.same false) piece.need;
   same = λ at_end more.
       ap (problems_from at_end g old) (append_assoc so_far.read piece.read more)
@@ -77,13 +89,14 @@ HandsOut-piece g coming left after old mid cut new problems room so_far piece sa
 }
 
 -- a problem that was handed out
-pub NextGives-problem : {B : Type 0} (g : Geometry) (coming left : Option (List ℕ)) (old new : Progress)
+pub NextGives-problem : {B : Type 0} (g : Geometry) (first after : Supply) (old new : Progress)
     (problem : Problem B)
-    → HandsOut g coming left old new (numbered problem ∷ []) → NextGives g coming left (reader_at old) (reader_at new)
+    → HandsOut g first after old new (numbered problem ∷ []) → NextGives g first after (reader_at old) (reader_at new)
     (Ok (Some problem))
-NextGives-problem g coming left old new problem out = record {
+NextGives-problem g first after old new problem out = record {
   read = out.read;
   took = out.took;
+  still = λ met. (out.still met).0;
   need = out.need;
   gives = elim new.met_end as (λ v. MatchBool v (to_come g old out.read ≡ numbered problem ∷ to_come g new [])
       ((at_end : Bool) (bytes : List ℕ) → problems_from at_end g old (out.read ++ bytes)
@@ -92,26 +105,27 @@ NextGives-problem g coming left old new problem out = record {
 }
 
 -- all problems are handed out
-pub NextGives-over : {B : Type 0} (g : Geometry) (coming left : Option (List ℕ)) (old new : Progress)
-    → HandsOut g coming left old new [] → 1000000 < new.handed → NextGives {B = B} g coming left (reader_at old)
+pub NextGives-over : {B : Type 0} (g : Geometry) (first after : Supply) (old new : Progress)
+    → HandsOut g first after old new [] → 1000000 < new.handed → NextGives {B = B} g first after (reader_at old)
     (reader_at new) (Ok None)
-NextGives-over g coming left old new out over =
+NextGives-over g first after old new out over =
     let done : (more : List ℕ) → to_come g new more
     ≡ [] = λ more. number_from-over new.handed (found_ahead true g new more) over in
     let left_over : (more : List ℕ) → to_come g old (out.read ++ more) ≡ [] = λ more. out.same true more ∙ done more in
     record {
       read = out.read;
       took = out.took;
+      still = λ met. (out.still met).0;
       need = out.need;
       gives = (ap (to_come g old) (sym (append-nil out.read)) ∙ left_over [], done [], inr (over, left_over));
     }
 
 -- the source failed
-pub NextGives-err : {B : Type 0} (g : Geometry) (coming left after : Option (List ℕ)) (old mid new : Progress)
+pub NextGives-err : {B : Type 0} (g : Geometry) (first now after : Supply) (old mid new : Progress)
     (fault : ReadFault)
-    → old.handed ≤ MAX_PROBLEMS → HandsOut g coming left old mid [] → CarriesOn left after mid new → (new.rest ≡ []) →
-    (new.handed ≡ mid.handed) → NextGives {B = B} g coming after (reader_at old) (reader_at new) (Err fault)
-NextGives-err g coming left after old mid new fault room so_far on none same_number =
+    → old.handed ≤ MAX_PROBLEMS → HandsOut g first now old mid [] → CarriesOn now after mid new → (new.rest ≡ []) →
+    (new.handed ≡ mid.handed) → NextGives {B = B} g first after (reader_at old) (reader_at new) (Err fault)
+NextGives-err g first now after old mid new fault room so_far on none same_number =
     let read = so_far.read ++ on.read in
     let same : (at_end : Bool) (bytes : List ℕ) → problems_from at_end g old (read ++ bytes)
     ≡ problems_from at_end g new bytes =
@@ -122,7 +136,8 @@ NextGives-err g coming left after old mid new fault room so_far on none same_num
     ∙ ap (λ n. number_from n (found_ahead at_end g new bytes)) (sym same_number) in
     record {
       read = read;
-      took = Consumes-trans coming left after so_far.read on.read so_far.took on.took;
+      took = Reads-trans first now after so_far.read on.read so_far.took on.took;
+      still = λ met. (still-join old mid new new so_far.read on.read so_far.still on.still refl met).0;
       need = need-join g old mid so_far.read on.read room so_far.need (so_far.same false) on.need;
       gives = (
         ap (ended g old) (sym (append-nil read)) ∙ same false [] ∙ ap (number_from new.handed) (ended-none g new none),
@@ -131,12 +146,12 @@ NextGives-err g coming left after old mid new fault room so_far on none same_num
     }
 
 -- the last piece of the text
-pub to_come-last : (g : Geometry) (coming left after : Option (List ℕ)) (old mid cut new : Progress)
+pub to_come-last : (g : Geometry) (first now after : Supply) (old mid cut new : Progress)
     (problems : List Numbered)
-    → (so_far : HandsOut g coming left old mid []) → (last : TakesLast left after mid cut) → (cut.handed ≡ mid.handed)
+    → (so_far : HandsOut g first now old mid []) → (last : TakesLast now after mid cut) → (cut.handed ≡ mid.handed)
     → PieceHanded g cut new problems
     → (to_come g old (so_far.read ++ last.read) ≡ problems ++ to_come g new []) × (to_come g new [] ≡ [])
-to_come-last g coming left after old mid cut new problems so_far last same_number handed =
+to_come-last g first now after old mid cut new problems so_far last same_number handed =
     let empty : to_come g new [] ≡ [] =
     ap (number_from new.handed) (
     ap (λ l. pieces_ahead true g new.pieces (l ++ [])) (handed.rest ∙ last.none)
@@ -152,59 +167,61 @@ to_come-last g coming left after old mid cut new problems so_far last same_numbe
       empty,
     )
 
-pub NextGives-last : {B : Type 0} (g : Geometry) (coming left after : Option (List ℕ)) (old mid cut new : Progress)
+pub NextGives-last : {B : Type 0} (g : Geometry) (first now after : Supply) (old mid cut new : Progress)
     (problem : Problem B)
-    → old.handed ≤ MAX_PROBLEMS → HandsOut g coming left old mid [] → TakesLast left after mid cut → (cut.handed ≡
+    → old.handed ≤ MAX_PROBLEMS → HandsOut g first now old mid [] → TakesLast now after mid cut → (cut.handed ≡
     mid.handed) → PieceHanded g cut new (numbered problem ∷ []) → (new.met_end ≡ true)
-    → NextGives g coming after (reader_at old) (reader_at new) (Ok (Some problem))
-NextGives-last g coming left after old mid cut new problem room so_far last same_number handed met = record {
+    → NextGives g first after (reader_at old) (reader_at new) (Ok (Some problem))
+NextGives-last g first now after old mid cut new problem room so_far last same_number handed met = record {
   read = so_far.read ++ last.read;
-  took = Consumes-trans coming left after so_far.read last.read so_far.took last.took;
+  took = Reads-trans first now after so_far.read last.read so_far.took last.took;
+  still = λ met. (still-join old mid cut cut so_far.read last.read so_far.still last.still refl met).0;
   need = need-join g old mid so_far.read last.read room so_far.need (so_far.same false) last.need;
   gives = subst (λ v. MatchBool v (to_come g old (so_far.read ++ last.read) ≡ numbered problem ∷ to_come g new [])
       ((at_end : Bool) (bytes : List ℕ) → problems_from at_end g old ((so_far.read ++ last.read) ++ bytes)
       ≡ numbered problem ∷ problems_from at_end g new bytes)) (sym met)
-      (to_come-last g coming left after old mid cut new (numbered problem ∷ []) so_far last same_number handed).0;
+      (to_come-last g first now after old mid cut new (numbered problem ∷ []) so_far last same_number handed).0;
 }
 
-pub NextGives-none : {B : Type 0} (g : Geometry) (coming left after : Option (List ℕ)) (old mid cut new : Progress)
-    → old.handed ≤ MAX_PROBLEMS → HandsOut g coming left old mid [] → TakesLast left after mid cut → (cut.handed ≡
+pub NextGives-none : {B : Type 0} (g : Geometry) (first now after : Supply) (old mid cut new : Progress)
+    → old.handed ≤ MAX_PROBLEMS → HandsOut g first now old mid [] → TakesLast now after mid cut → (cut.handed ≡
     mid.handed) → PieceHanded g cut new [] → (new.met_end ≡ true)
-    → NextGives {B = B} g coming after (reader_at old) (reader_at new) (Ok None)
-NextGives-none g coming left after old mid cut new room so_far last same_number handed met =
-    let end = to_come-last g coming left after old mid cut new [] so_far last same_number handed in
+    → NextGives {B = B} g first after (reader_at old) (reader_at new) (Ok None)
+NextGives-none g first now after old mid cut new room so_far last same_number handed met =
+    let end = to_come-last g first now after old mid cut new [] so_far last same_number handed in
     record {
       read = so_far.read ++ last.read;
-      took = Consumes-trans coming left after so_far.read last.read so_far.took last.took;
+      took = Reads-trans first now after so_far.read last.read so_far.took last.took;
+      still = λ met. (still-join old mid cut cut so_far.read last.read so_far.still last.still refl met).0;
       need = need-join g old mid so_far.read last.read room so_far.need (so_far.same false) last.need;
       gives = (end.0 ∙ end.1, end.1, inl met);
     }
 
-pub NextGives-some : {B : Type 0} (g : Geometry) (coming left after : Option (List ℕ)) (old mid cut new : Progress)
+pub NextGives-some : {B : Type 0} (g : Geometry) (first now after : Supply) (old mid cut new : Progress)
     (problem : Problem B) (is_whole : Bool)
-    → old.handed ≤ MAX_PROBLEMS → HandsOut g coming left old mid [] → ReadsPiece left after mid cut (Ok is_whole) →
-    (cut.handed ≡ mid.handed) → PieceHanded g cut new (numbered problem ∷ []) → (new.met_end ≡ cut.met_end)
-    → NextGives g coming after (reader_at old) (reader_at new) (Ok (Some problem))
-NextGives-some g coming left after old mid cut new problem true room so_far piece same_number handed met =
-    NextGives-problem g coming after old new problem (HandsOut-piece g coming left after old mid cut new
+    → old.handed ≤ MAX_PROBLEMS → HandsOut g first now old mid [] → ReadsPiece now after mid cut (Ok is_whole) →
+    (cut.handed ≡ mid.handed) → PieceHanded g cut new (numbered problem ∷ [])
+    → NextGives g first after (reader_at old) (reader_at new) (Ok (Some problem))
+NextGives-some g first now after old mid cut new problem true room so_far piece same_number handed =
+    NextGives-problem g first after old new problem (HandsOut-piece g first now after old mid cut new
     (numbered problem ∷ []) room so_far piece same_number handed)
-NextGives-some g coming left after old mid cut new problem false room so_far piece same_number handed met =
-    NextGives-last g coming left after old mid cut new problem room so_far piece.0 same_number handed (met ∙ piece.1)
+NextGives-some g first now after old mid cut new problem false room so_far piece same_number handed =
+    NextGives-last g first now after old mid cut new problem room so_far piece.0 same_number handed (handed.end ∙ piece.1)
 
-pub NextGives-end : {B : Type 0} (g : Geometry) (coming left after : Option (List ℕ)) (old mid cut new : Progress)
+pub NextGives-end : {B : Type 0} (g : Geometry) (first now after : Supply) (old mid cut new : Progress)
     (is_whole : Bool) → is_whole ≡ false
-    → old.handed ≤ MAX_PROBLEMS → HandsOut g coming left old mid [] → ReadsPiece left after mid cut (Ok is_whole) →
-    (cut.handed ≡ mid.handed) → PieceHanded g cut new [] → (new.met_end ≡ cut.met_end)
-    → NextGives {B = B} g coming after (reader_at old) (reader_at new) (Ok None)
-NextGives-end g coming left after old mid cut new true e room so_far piece same_number handed met = cc
-NextGives-end g coming left after old mid cut new false e room so_far piece same_number handed met =
-    NextGives-none g coming left after old mid cut new room so_far piece.0 same_number handed (met ∙ piece.1)
-
-pub HandsOut-blank : (g : Geometry) (coming left after : Option (List ℕ)) (old mid cut new : Progress) (is_whole : Bool)
-    → is_whole ≡ true
-    → old.handed ≤ MAX_PROBLEMS → HandsOut g coming left old mid [] → ReadsPiece left after mid cut (Ok is_whole) →
+    → old.handed ≤ MAX_PROBLEMS → HandsOut g first now old mid [] → ReadsPiece now after mid cut (Ok is_whole) →
     (cut.handed ≡ mid.handed) → PieceHanded g cut new []
-    → HandsOut g coming after old new []
-HandsOut-blank g coming left after old mid cut new false e room so_far piece same_number handed = cc
-HandsOut-blank g coming left after old mid cut new true e room so_far piece same_number handed = HandsOut-piece g coming
-    left after old mid cut new [] room so_far piece same_number handed
+    → NextGives {B = B} g first after (reader_at old) (reader_at new) (Ok None)
+NextGives-end g first now after old mid cut new true e room so_far piece same_number handed = cc
+NextGives-end g first now after old mid cut new false e room so_far piece same_number handed =
+    NextGives-none g first now after old mid cut new room so_far piece.0 same_number handed (handed.end ∙ piece.1)
+
+pub HandsOut-blank : (g : Geometry) (first now after : Supply) (old mid cut new : Progress) (is_whole : Bool)
+    → is_whole ≡ true
+    → old.handed ≤ MAX_PROBLEMS → HandsOut g first now old mid [] → ReadsPiece now after mid cut (Ok is_whole) →
+    (cut.handed ≡ mid.handed) → PieceHanded g cut new []
+    → HandsOut g first after old new []
+HandsOut-blank g first now after old mid cut new false e room so_far piece same_number handed = cc
+HandsOut-blank g first now after old mid cut new true e room so_far piece same_number handed = HandsOut-piece g first
+    now after old mid cut new [] room so_far piece same_number handed

@@ -1,7 +1,7 @@
 -- A buffer over a source, as its caller sees it.
-use Rattle.std.specs.Prelude.{◌≡◌, ℕ, ◌+◌, ◌*◌, ◌≤◌, ◌||◌, List, [], ◌++◌, length, Bool, true, Option}
+use Rattle.std.specs.Prelude.{◌≡◌, ℕ, ◌+◌, ◌*◌, ◌≤◌, ◌||◌, List, [], ◌++◌, length, Bool, true}
 use Rattle.std.specs.List.{slice_range}
-use Rattle.std.specs.Io.KnownBytes.{Consumes, IsAtEnd}
+use Rattle.dw_notation.specs.Streams.{Supply, Reads, IsOver}
 use Rattle.dw_notation.specs.declared.streams.buffer.Buffer.{Buffer}
 
 -- the bytes read and not yet consumed
@@ -21,22 +21,22 @@ pub record Input (S : Type 0) : Type 0 where
 abbrev pub input_of : {S : Type 0} → S → Buffer → Input S
 input_of source buffer = record { source = source; unread = unread_in buffer; met_end = met_end_in buffer }
 
--- the end that was met is the source's, which has nothing left
-abbrev pub EndIsKnown : Option (List ℕ) → Bool → Bool → Type 0
-EndIsKnown coming has_ended met_end = met_end ≡ true → IsAtEnd coming × (has_ended ≡ true)
+-- the end that was met is the source's
+abbrev pub EndIsKnown : Supply → Bool → Type 0
+EndIsKnown supply met_end = met_end ≡ true → IsOver supply
 
 -- a bound on the bytes that can still be consumed
 abbrev pub weight : ℕ → List ℕ → ℕ
 weight pulls unread = pulls * 2049 + length unread
 
 -- these bytes were consumed, and the source failed in this call or not
-pub record Passes {S : Type 0} (coming : S → Option (List ℕ)) (has_ended is_failed : S → Bool) (pulls : S → ℕ)
+pub record Passes {S : Type 0} (supply : S → Supply) (is_failed : S → Bool) (pulls : S → ℕ)
     (old new : Input S) (passed : List ℕ) (fails : Bool) : Type 0 where
   pub read : List ℕ
-  pub took : Consumes (coming old.source) (coming new.source) read
+  pub took : Reads (supply old.source) (supply new.source) read
   pub same : old.unread ++ read ≡ passed ++ new.unread
   pub stays : old.met_end ≡ true → (read ≡ []) × (new.met_end ≡ true)
-  pub end : EndIsKnown (coming old.source) (has_ended old.source) old.met_end
-      → EndIsKnown (coming new.source) (has_ended new.source) new.met_end
+  pub end : EndIsKnown (supply old.source) old.met_end
+      → EndIsKnown (supply new.source) new.met_end
   pub failed : is_failed new.source ≡ (is_failed old.source || fails)
   pub lighter : weight (pulls new.source) new.unread + length passed ≤ weight (pulls old.source) old.unread

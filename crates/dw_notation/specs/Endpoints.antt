@@ -1,5 +1,5 @@
 -- A reader or a writer of std, as a source or a sink.
-use Rattle.std.specs.Prelude.{ℕ, ◌-◌, Bool}
+use Rattle.std.specs.Prelude.{ℕ, ◌-◌, Bool, List}
 use Rattle.dw_notation.specs.declared.streams.reading.TheConstants.{MAX_READS}
 use Rattle.dw_notation.specs.declared.streams.reading.Reading.{Reading}
 use Rattle.dw_notation.specs.declared.streams.writing.Writing.{Writing}
@@ -7,6 +7,10 @@ use Rattle.dw_notation.specs.declared.streams.writing.Writing.{Writing}
 -- the reader that a source reads from
 abbrev pub read_from : {R : Type 0} → Reading R → R
 read_from source = source.reader
+
+-- the bytes that its reads have returned
+abbrev pub told_by : {R : Type 0} → Reading R → List ℕ
+told_by source = source.told
 
 abbrev pub has_read_all : {R : Type 0} → Reading R → Bool
 has_read_all source = source.has_ended
@@ -21,6 +25,10 @@ reads_left source = MAX_READS - source.reads
 -- the writer that a sink writes to
 abbrev pub written_to : {W : Type 0} → Writing W → W
 written_to sink = sink.writer
+
+-- the bytes that its writes have taken
+abbrev pub accepted_by : {W : Type 0} → Writing W → List ℕ
+accepted_by sink = sink.accepted
 
 abbrev pub has_write_failed : {W : Type 0} → Writing W → Bool
 has_write_failed sink = sink.has_failed

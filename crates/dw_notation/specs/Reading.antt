@@ -2,9 +2,9 @@
 use Rattle.std.specs.Prelude.{◌≡◌, ℕ, ◌+◌, ◌<◌, ◌≤◌, ◌⊎◌, List, [], ◌∷◌, ◌++◌, length, Bool, true, false, Option, Some}
 use Rattle.std.specs.Prelude.{None, option_to_list, Result, Ok, Err, MatchBool, IfOk, IfSome}
 use Rattle.std.specs.Borrow.{GName}
-use Rattle.std.specs.Io.KnownBytes.{Consumes, IsAtEnd}
 use Rattle.dw_board.specs.Geometry.{Geometry}
 use Rattle.dw_notation.specs.Problems.{Numbered, numbered}
+use Rattle.dw_notation.specs.Streams.{Supply, Reads, IsOver}
 use Rattle.dw_notation.specs.declared.problems.TheConstants.{MAX_PROBLEMS, MAX_READ}
 use Rattle.dw_notation.specs.declared.problems.Problem.{Problem}
 use Rattle.dw_notation.specs.declared.problems.ReadFault.{ReadFault}
@@ -48,11 +48,12 @@ ReadsAtNeed g old read =
     (read ≡ []) ⊎ ((old.handed ≤ MAX_PROBLEMS) × (before : List ℕ) × (last : List ℕ) × (read ≡ before ++ last)
     × (length last ≤ MAX_READ) × (old.ahead g false before ≡ []))
 
--- the effect of a call for the next problem: these bytes are taken off the source, and this result is given
-pub record NextGives {B : Type 0} (g : Geometry) (coming left : Option (List ℕ)) (old new : Reader)
+-- the effect of a call for the next problem: these bytes are read, none after the end, and this result is given
+pub record NextGives {B : Type 0} (g : Geometry) (before after : Supply) (old new : Reader)
     (result : Result (Option (Problem B)) ReadFault) : Type 0 where
   pub read : List ℕ
-  pub took : Consumes coming left read
+  pub took : Reads before after read
+  pub still : old.met_end ≡ true → read ≡ []
   pub need : ReadsAtNeed g old read
   pub gives : Gives g old new read result
 
@@ -62,9 +63,9 @@ IsCounted old new result = IfOk result (λ found.
     (new.handed ≡ old.handed + length (option_to_list found))
     × IfSome found (λ problem. (problem.number ≡ new.handed) × (old.handed ≤ MAX_PROBLEMS)))
 
--- the end that a reader has met is the source's, which has nothing left
-abbrev pub EndIsTrue : Option (List ℕ) → Bool → Reader → Type 0
-EndIsTrue coming has_ended reader = reader.met_end ≡ true → IsAtEnd coming × (has_ended ≡ true)
+-- the end that a reader has met is the source's
+abbrev pub EndIsTrue : Supply → Reader → Type 0
+EndIsTrue supply reader = reader.met_end ≡ true → IsOver supply
 
 -- the next problem needs a read, and the source has failed before its end was met
 pub record HasStopped (is_failed : Bool) (reader : Reader) : Type 0 where

@@ -14,3 +14,5 @@ pub mod LineWords
 pub mod WrittenMoves
 pub mod LineCodes
 pub mod Writes
+pub mod StreamLemmas
+pub mod History

@@ -1,23 +1,21 @@
 //! Sources and sinks of bytes.
 ghost use Rattle.std.specs.Prelude.{◌≡◌, ℕ, ◌<◌, ◌||◌, List, Bool, true, false, length, is_none, IfSome, IsNone};
-ghost use Rattle.std.specs.Prelude.{Option};
-ghost use Rattle.dw_notation.specs.Streams.{PullTakes, PullEnds, PullFalls, GiveAdds, GiveFails};
+ghost use Rattle.dw_notation.specs.Streams.{Supply, PullGives, PullFalls, GiveAdds, GiveFails};
 
 mod buffer;
+mod history;
 mod reading;
 mod writing;
 
 pub use buffer::Buffer;
+pub use history::History;
 pub use reading::{MAX_READS, Reading};
 pub use writing::Writing;
 
 /// A source of bytes.
 pub trait Source {
-    /// The bytes still to come, if the source tells them.
-    ghost coming: { Self → Option (List ℕ) };
-
-    /// Whether a pull has met the end: it gave no byte.
-    ghost has_ended: { Self → Bool };
+    /// The bytes that its pulls have returned, those still to come, if it tells them, and whether a pull has met the end.
+    ghost supply: { Self → Supply };
 
     /// Whether a pull has failed.
     ghost is_failed: { Self → Bool };
@@ -29,8 +27,7 @@ pub trait Source {
     /// end. `None` is a failure, and each later pull returns `None` too.
     fn pull(&mut self, buffer: &mut [u8]) -> Option<usize>
         requires { 0 < length buffer.old }
-        ensures bytes { PullTakes (coming self.old) (coming self.new) result buffer.new }
-        ensures ended { PullEnds (has_ended self.old) (has_ended self.new) result }
+        ensures gives { PullGives (supply self.old) (supply self.new) result buffer.new }
         ensures failed { is_failed self.new ≡ (is_failed self.old || is_none result) }
         ensures again { is_failed self.old ≡ true → IsNone result }
         ensures falls { PullFalls (pulls_left self.old) (pulls_left self.new) result };
@@ -42,8 +39,8 @@ pub trait Source {
 
 /// A sink for bytes.
 pub trait Sink {
-    /// The bytes taken so far, if the sink tells them.
-    ghost taken: { Self → Option (List ℕ) };
+    /// The bytes that its gives have taken.
+    ghost accepted: { Self → List ℕ };
 
     /// Whether a give has failed.
     ghost is_failed: { Self → Bool };
@@ -51,7 +48,7 @@ pub trait Sink {
     /// Takes bytes from the front of the piece, and returns their number. `None` is a failure, and so is 0 for a piece
     /// that is not empty. After a failure each give returns `None`.
     fn give(&mut self, piece: &[u8]) -> Option<usize>
-        ensures bytes { GiveAdds (taken self.old) (taken self.new) result piece.now }
+        ensures bytes { GiveAdds (accepted self.old) (accepted self.new) result piece.now }
         ensures failed { GiveFails (is_failed self.old) (is_failed self.new) result piece.now }
         ensures again { is_failed self.old ≡ true → IsNone result };
 
@@ -61,9 +58,7 @@ pub trait Sink {
 }
 
 impl<S: Source> Source for &mut S {
-    ghost coming = { λ s. S.coming s.now };
-
-    ghost has_ended = { λ s. S.has_ended s.now };
+    ghost supply = { λ s. S.supply s.now };
 
     ghost is_failed = { λ s. S.is_failed s.now };
 
@@ -79,7 +74,7 @@ impl<S: Source> Source for &mut S {
 }
 
 impl<K: Sink> Sink for &mut K {
-    ghost taken = { λ k. K.taken k.now };
+    ghost accepted = { λ k. K.accepted k.now };
 
     ghost is_failed = { λ k. K.is_failed k.now };
 

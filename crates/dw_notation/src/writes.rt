@@ -1,6 +1,6 @@
 //! Writing a piece to its end.
 ghost use Rattle.std.specs.Prelude.{◌≡◌, true, OnOk, OnErr, IsErr};
-ghost use Rattle.std.specs.Io.KnownBytes.{Appends};
+ghost use Rattle.dw_notation.specs.Streams.{Appends};
 ghost use Rattle.dw_notation.specs.Writes.{StopsShort};
 
 use crate::streams::Sink;
@@ -15,8 +15,8 @@ pub enum WriteFault {
 
 /// Gives the whole piece to the sink. At a fault the sink has taken some beginning of the piece, and has failed.
 pub fn write_all<K: Sink>(sink: &mut K, piece: &[u8]) -> Result<(), WriteFault>
-    ensures ok { OnOk result (Appends (K.taken sink.old) (K.taken sink.new) piece.now) }
-    ensures err { OnErr result (StopsShort (K.taken sink.old) (K.taken sink.new) piece.now) }
+    ensures ok { OnOk result (Appends (K.accepted sink.old) (K.accepted sink.new) piece.now) }
+    ensures err { OnErr result (StopsShort (K.accepted sink.old) (K.accepted sink.new) piece.now) }
     ensures failed { IsErr result → K.is_failed sink.new ≡ true }
     ensures kept { OnOk result (K.is_failed sink.new ≡ K.is_failed sink.old) }
 {

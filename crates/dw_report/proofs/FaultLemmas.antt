@@ -1,5 +1,5 @@
 -- Lemmas on faults that are handed on, and on results without one.
-use Rattle.std.proofs.Common.{◌≡◌, ◌∙◌, ℕ, List, refl, sym, ap, subst, Option, Bool, true, false, Result, Ok, Err}
+use Rattle.std.proofs.Common.{◌≡◌, ◌∙◌, ℕ, List, refl, sym, ap, subst, Bool, true, false, Result, Ok, Err}
 use Rattle.std.proofs.Common.{IsErrOf, arith, IfOk, IsTrue, ◌↔◌}
 use Rattle.dw_solve.specs.Solving.{Solving}
 use Rattle.dw_solve.specs.declared.stop.Stop.{Stop}
@@ -16,7 +16,7 @@ use Rattle.dw_report.proofs.SpendingLemmas.{Counted, counted_then}
 use Rattle.dw_report.proofs.WritingLemmas.{fault_stays}
 
 -- a fault handed on says the same of the text
-pub fault_same : {X Y : Type 0} (P Part : List ℕ → Type 0) (old new : Option (List ℕ)) (r : Result X TextFault)
+pub fault_same : {X Y : Type 0} (P Part : List ℕ → Type 0) (old new : List ℕ) (r : Result X TextFault)
     (s : Result Y TextFault) (fault other : TextFault) → r ≡ Err fault → s ≡ Err other → fault ≡ other
     → TextEnds P Part old new r → TextEnds P Part old new s
 fault_same P Part old new r s fault other was is same h = fault_stays P P Part Part old new r s fault other was is same

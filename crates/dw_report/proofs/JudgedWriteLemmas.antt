@@ -1,8 +1,8 @@
 -- A verdict and then its tries are written.
 use Rattle.std.proofs.Common.{◌≡◌, ℕ, List, [], ◌∷◌, ◌++◌, refl, sym, ap, ◌∙◌, subst, inl, append_assoc, append-nil}
-use Rattle.std.proofs.Common.{codes, decimal, Option, Result, Ok, Err}
-use Rattle.std.specs.Io.KnownBytes.{Appends}
-use Rattle.std.proofs.KnownBytes.{Appends-trans, Appends-nil}
+use Rattle.std.proofs.Common.{codes, decimal, Result, Ok, Err}
+use Rattle.dw_notation.specs.Streams.{Appends}
+use Rattle.dw_notation.specs.inner.StreamLemmas.{Appends-trans, Appends-nil}
 use Rattle.dw_board.specs.Geometry.{Geometry, IsBoard}
 use Rattle.dw_board.specs.Placement.{Placement}
 use Rattle.dw_notation.specs.TextLaws.{MovesHaveTexts, LinesHaveTexts}
@@ -34,7 +34,7 @@ verdict_ends g p n (dual beginning choices) line (first, moves, is, are, e) = (
 verdict_ends g p n (sound key) line (move, is, e) = (codes "sound in " ++ decimal n ++ codes ": " ++ move, e)
 
 -- whatever follows the verdict
-behind_verdict : (X : Type 0) (g : Geometry) (p : Placement) (n : ℕ) (old mid new : Option (List ℕ))
+behind_verdict : (X : Type 0) (g : Geometry) (p : Placement) (n : ℕ) (old mid new : List ℕ)
     (r : Result X TextFault) → Writes (IsVerdictLine g p n) old mid
     → TextEnds (AreTriesListed g p n) (AreLinesOf (AreTriesListed g p n)) mid new r
     → TextEnds (IsJudgedText g p n) (AreLinesOf (IsJudgedText g p n)) old new r
@@ -63,14 +63,14 @@ behind_verdict X g p n old mid new (Err Sink) v h = record {
       h.stops;
 }
 
-pub judged_ends : {X : Type 0} (g : Geometry) (p : Placement) (n : ℕ) (old mid new : Option (List ℕ))
+pub judged_ends : {X : Type 0} (g : Geometry) (p : Placement) (n : ℕ) (old mid new : List ℕ)
     (r : Result X TextFault) → Writes (IsVerdictLine g p n) old mid
     → TextEnds (AreTriesListed g p n) (AreLinesOf (AreTriesListed g p n)) mid new r
     → TextEnds (IsJudgedText g p n) (AreLinesOf (IsJudgedText g p n)) old new r
 judged_ends {X} g p n old mid new r v h = behind_verdict X g p n old mid new r v h
 
 fault_before : (X Y : Type 0) → OneVerdict → TriesAreListed → MovesHaveTexts → LinesHaveTexts → (g : Geometry)
-    → IsBoard g → (p : Placement) (n : ℕ) (old new : Option (List ℕ)) (fault : TextFault)
+    → IsBoard g → (p : Placement) (n : ℕ) (old new : List ℕ) (fault : TextFault)
     → TextEnds {X = X} (IsVerdictLine g p n) (λ out. out ≡ []) old new (Err fault)
     → TextEnds {X = Y} (IsJudgedText g p n) (AreLinesOf (IsJudgedText g p n)) old new (Err fault)
 fault_before X Y verdicts tries moves lines g board p n old new (Stopped why) h =
@@ -90,7 +90,7 @@ fault_before X Y verdicts tries moves lines g board p n old new Sink h =
 
 -- the verdict was not written to its end
 pub verdict_fault : {X Y : Type 0} → OneVerdict → TriesAreListed → MovesHaveTexts → LinesHaveTexts → (g : Geometry)
-    → IsBoard g → (p : Placement) (n : ℕ) (old new : Option (List ℕ)) (r : Result X TextFault) (s : Result Y TextFault)
+    → IsBoard g → (p : Placement) (n : ℕ) (old new : List ℕ) (r : Result X TextFault) (s : Result Y TextFault)
     (fault other : TextFault)
     → r ≡ Err fault → s ≡ Err other → fault ≡ other → TextEnds (IsVerdictLine g p n) (λ out. out ≡ []) old new r
     → TextEnds (IsJudgedText g p n) (AreLinesOf (IsJudgedText g p n)) old new s

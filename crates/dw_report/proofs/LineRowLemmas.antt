@@ -4,8 +4,8 @@ use Rattle.std.proofs.Common.{sym, ap, ◌∙◌, subst, inl, inr, arith, append
 use Rattle.std.proofs.Common.{Some, None, codes, decimal, Result, Ok, Err, OnOk, OnErr, IfOk, IsTrue, ◌↔◌, Bool, true}
 use Rattle.std.proofs.Common.{false}
 use Rattle.std.proofs.lemmas.Bool.{cond-true, cond-false}
-use Rattle.std.specs.Io.KnownBytes.{Appends}
-use Rattle.std.proofs.KnownBytes.{Appends-trans, Appends-nil}
+use Rattle.dw_notation.specs.Streams.{Appends}
+use Rattle.dw_notation.specs.inner.StreamLemmas.{Appends-trans, Appends-nil}
 use Rattle.dw_board.specs.Geometry.{Geometry, IsBoard}
 use Rattle.dw_board.specs.Placement.{Placement}
 use Rattle.dw_moves.specs.Moves.{Move, play}
@@ -177,13 +177,13 @@ pub record Rows (g : Geometry) (p : Placement) (start now : LineStack) (count : 
   pub are : AreLineTexts g p given texts
 
 -- they were written
-pub record RowsSoFar (g : Geometry) (p : Placement) (start now : LineStack) (count : ℕ) (old new : Option (List ℕ)) :
+pub record RowsSoFar (g : Geometry) (p : Placement) (start now : LineStack) (count : ℕ) (old new : List ℕ) :
     Type 0 where
   pub texts : List ℕ
   pub rows : Rows g p start now count texts
   pub wrote : Appends old new texts
 
-pub no_rows : LinesInTurn → (g : Geometry) (p : Placement) (s : LineStack) (old : Option (List ℕ)) → RowsSoFar g p s s 0
+pub no_rows : LinesInTurn → (g : Geometry) (p : Placement) (s : LineStack) (old : List ℕ) → RowsSoFar g p s s 0
     old old
 no_rows turn g p s old = record {
   texts = [];
@@ -209,9 +209,9 @@ row_given turn g p start a b count texts row h first r = record {
   are = rows_more g p h.given (reverse b.line) texts row h.are r;
 }
 
-pub row_written : LinesInTurn → (g : Geometry) (p : Placement) (start a b : LineStack) (count : ℕ) (old mid new : Option
-    (List ℕ)) → RowsSoFar g p start a count old mid → GivesFirst g a b → Writes (IsRow g p (reverse b.line)) mid new
-    → RowsSoFar g p start b (count + 1) old new
+pub row_written : LinesInTurn → (g : Geometry) (p : Placement) (start a b : LineStack) (count : ℕ)
+    (old mid new : List ℕ) → RowsSoFar g p start a count old mid → GivesFirst g a b
+    → Writes (IsRow g p (reverse b.line)) mid new → RowsSoFar g p start b (count + 1) old new
 row_written turn g p start a b count old mid new h first w = record {
   texts = h.texts ++ w.text;
   rows = row_given turn g p start a b count h.texts w.text h.rows first w.is;
@@ -267,7 +267,7 @@ module _ (g : Geometry) (p : Placement) (most : ℕ) (some : 1 ≤ most) (start 
       let r = listing_from g p most (most - count) some h.given left.0 texts h.are have' (omega (arith, h.many, few)) in
       (r.0, subst (λ z. IsListing g p most z (texts ++ r.0)) (sym left.1) r.1)
 
-  pub rows_stop : (now : LineStack) (count : ℕ) (old new : Option (List ℕ)) → RowsSoFar g p start now count old new
+  pub rows_stop : (now : LineStack) (count : ℕ) (old new : List ℕ) → RowsSoFar g p start now count old new
       → count ≤ most → Writes (AreLinesOf (IsListing g p most lines)) old new
   rows_stop now count old new h few =
       let r = begun_by now count h.texts h.rows few in
@@ -284,7 +284,7 @@ module _ (g : Geometry) (p : Placement) (most : ℕ) (some : 1 ≤ most) (start 
       }
 
   -- a row was cut short
-  row_short : LinesInTurn → (a b : LineStack) (count : ℕ) (old mid new : Option (List ℕ)) → RowsSoFar g p start a count
+  row_short : LinesInTurn → (a b : LineStack) (count : ℕ) (old mid new : List ℕ) → RowsSoFar g p start a count
       old mid → GivesFirst g a b → count < most → WritesShort (IsRow g p (reverse b.line)) mid new
       → WritesShort (IsListing g p most lines) old new
   row_short turn a b count old mid new h first few w =
@@ -296,7 +296,7 @@ module _ (g : Geometry) (p : Placement) (most : ℕ) (some : 1 ≤ most) (start 
         stops = stops_within old mid new h.texts w.text r.0 ((h.texts ++ w.text) ++ r.0) refl h.wrote w.stops;
       }
 
-  nothing_more : (now : LineStack) (count : ℕ) (old mid new : Option (List ℕ)) → RowsSoFar g p start now count old mid
+  nothing_more : (now : LineStack) (count : ℕ) (old mid new : List ℕ) → RowsSoFar g p start now count old mid
       → count ≤ most → Writes IsNothing mid new → Writes (AreLinesOf (IsListing g p most lines)) old new
   nothing_more now count old mid new h few w =
       let same : h.texts ++ w.text ≡ h.texts = ap (λ z. h.texts ++ z) w.is ∙ append-nil h.texts in
@@ -307,7 +307,7 @@ module _ (g : Geometry) (p : Placement) (most : ℕ) (some : 1 ≤ most) (start 
       }) few
 
   -- a row was not written to its end
-  pub row_ends : {X Y : Type 0} → LinesInTurn → (a b : LineStack) (count : ℕ) (old mid new : Option (List ℕ)) (r :
+  pub row_ends : {X Y : Type 0} → LinesInTurn → (a b : LineStack) (count : ℕ) (old mid new : List ℕ) (r :
       Result X TextFault)
       (s : Result Y TextFault) (fault other : TextFault) → RowsSoFar g p start a count old mid → GivesFirst g a b
       → count < most
@@ -348,7 +348,7 @@ module _ (g : Geometry) (p : Placement) (most : ℕ) (some : 1 ≤ most) (start 
       (is_cut g p most last.0 left.0 (reverse a.line) texts (subst (λ z. AreLineTexts g p z texts) last.1 h.are)
       many enough)
 
-  end_written : (now : LineStack) (count : ℕ) (old mid new : Option (List ℕ)) (end : List ℕ)
+  end_written : (now : LineStack) (count : ℕ) (old mid new : List ℕ) (end : List ℕ)
       (h : RowsSoFar g p start now count old mid) → IsListing g p most lines (h.texts ++ end) → Appends mid new end
       → Writes (IsListing g p most lines) old new
   end_written now count old mid new end h is wrote = record {
@@ -357,7 +357,7 @@ module _ (g : Geometry) (p : Placement) (most : ℕ) (some : 1 ≤ most) (start 
     wrote = Appends-trans old mid new h.texts end h.wrote wrote;
   }
 
-  end_short : (now : LineStack) (count : ℕ) (old mid new : Option (List ℕ)) (end : List ℕ)
+  end_short : (now : LineStack) (count : ℕ) (old mid new : List ℕ) (end : List ℕ)
       (h : RowsSoFar g p start now count old mid) → IsListing g p most lines (h.texts ++ end) → StopsShort mid new end
       → WritesShort (IsListing g p most lines) old new
   end_short now count old mid new end h is stops = record {
@@ -366,26 +366,26 @@ module _ (g : Geometry) (p : Placement) (most : ℕ) (some : 1 ≤ most) (start 
     stops = stops_within old mid new h.texts end [] (h.texts ++ end) (sym (append-nil (h.texts ++ end))) h.wrote stops;
   }
 
-  pub complete_written : (a b : LineStack) (count : ℕ) (old mid new : Option (List ℕ))
+  pub complete_written : (a b : LineStack) (count : ℕ) (old mid new : List ℕ)
       → RowsSoFar g p start a count old mid → GivesNone g a b → count ≤ most → Appends mid new (complete_line count)
       → Writes (IsListing g p most lines) old new
   complete_written a b count old mid new h none few wrote = end_written a count old mid new (complete_line count) h
       (all_given a b count h.texts h.rows none few) wrote
 
-  pub complete_short : (a b : LineStack) (count : ℕ) (old mid new : Option (List ℕ))
+  pub complete_short : (a b : LineStack) (count : ℕ) (old mid new : List ℕ)
       → RowsSoFar g p start a count old mid → GivesNone g a b → count ≤ most → StopsShort mid new (complete_line count)
       → WritesShort (IsListing g p most lines) old new
   complete_short a b count old mid new h none few stops = end_short a count old mid new (complete_line count) h
       (all_given a b count h.texts h.rows none few) stops
 
-  pub more_written : (a b : LineStack) (count : ℕ) (old mid new : Option (List ℕ)) → RowsSoFar g p start a count old mid
+  pub more_written : (a b : LineStack) (count : ℕ) (old mid new : List ℕ) → RowsSoFar g p start a count old mid
       → GivesFirst g a b → count ≡ most → Appends mid new (more_after g (reverse a.line))
       → Writes (IsListing g p most lines) old new
   more_written a b count old mid new h first full wrote =
       end_written a count old mid new (more_after g (reverse a.line)) h
       (more_left a b count h.texts h.rows first full) wrote
 
-  pub more_short : (a b : LineStack) (count : ℕ) (old mid new : Option (List ℕ)) → RowsSoFar g p start a count old mid
+  pub more_short : (a b : LineStack) (count : ℕ) (old mid new : List ℕ) → RowsSoFar g p start a count old mid
       → GivesFirst g a b → count ≡ most → StopsShort mid new (more_after g (reverse a.line))
       → WritesShort (IsListing g p most lines) old new
   more_short a b count old mid new h first full stops =
@@ -394,20 +394,20 @@ module _ (g : Geometry) (p : Placement) (most : ℕ) (some : 1 ≤ most) (start 
 
 -- THREE PIECES
 
-pub first_short : (old new : Option (List ℕ)) (x y z : List ℕ) → StopsShort old new x → StopsShort old new (x ++ y ++ z)
+pub first_short : (old new : List ℕ) (x y z : List ℕ) → StopsShort old new x → StopsShort old new (x ++ y ++ z)
 first_short old new x y z h = stops_within old old new [] x (y ++ z) (x ++ y ++ z) (append_assoc x y z)
     (Appends-nil old) h
 
-pub second_short : (old a new : Option (List ℕ)) (x y z : List ℕ) → Appends old a x → StopsShort a new y
+pub second_short : (old a new : List ℕ) (x y z : List ℕ) → Appends old a x → StopsShort a new y
     → StopsShort old new (x ++ y ++ z)
 second_short old a new x y z h k = stops_within old a new x y z (x ++ y ++ z) refl h k
 
-pub last_written : {X E : Type 0} (old a b new : Option (List ℕ)) (x y z : List ℕ) (r : Result X E) → Appends old a x
+pub last_written : {X E : Type 0} (old a b new : List ℕ) (x y z : List ℕ) (r : Result X E) → Appends old a x
     → Appends a b y → OnOk r (Appends b new z) → OnOk r (Appends old new (x ++ y ++ z))
 last_written old a b new x y z (Ok _) h k l = Appends-trans old b new (x ++ y) z (Appends-trans old a b x y h k) l
 last_written old a b new x y z (Err _) h k l = tt
 
-pub last_short : {X E : Type 0} (old a b new : Option (List ℕ)) (x y z : List ℕ) (r : Result X E) → Appends old a x
+pub last_short : {X E : Type 0} (old a b new : List ℕ) (x y z : List ℕ) (r : Result X E) → Appends old a x
     → Appends a b y → OnErr r (StopsShort b new z) → OnErr r (StopsShort old new (x ++ y ++ z))
 last_short old a b new x y z (Ok _) h k l = tt
 last_short old a b new x y z (Err _) h k l = stops_within old b new (x ++ y) z [] (x ++ y ++ z)
@@ -415,15 +415,15 @@ last_short old a b new x y z (Err _) h k l = stops_within old b new (x ++ y) z [
 
 -- THE LINES THAT ARE ASKED FOR
 
-abbrev pub EndsListed : {X : Type 0} → Geometry → Placement → ℕ → ℕ → Option (List Move) → Option (List ℕ)
-    → Option (List ℕ) → Result X TextFault → Type 0
+abbrev pub EndsListed : {X : Type 0} → Geometry → Placement → ℕ → ℕ → Option (List Move) → List ℕ
+    → List ℕ → Result X TextFault → Type 0
 EndsListed g p n most after old new r = TextEnds (IsListedText g p n most after)
     (AreLinesOf (IsListedText g p n most after)) old new r
 
 -- a listing that is part of what is asked for
 module _ (g : Geometry) (p : Placement) (n most : ℕ) (after : Option (List Move)) (lines : List (List Move))
     (to : (text : List ℕ) → IsListing g p most lines text → IsListedText g p n most after text)
-    (old new : Option (List ℕ)) where
+    (old new : List ℕ) where
   pub listed_written : Writes (IsListing g p most lines) old new → Writes (IsListedText g p n most after) old new
   listed_written h = record { text = h.text; is = to h.text h.is; wrote = h.wrote }
 

@@ -1,10 +1,10 @@
 -- Lemmas on the lines of moves.
 use Rattle.std.proofs.Common.{◌≡◌, ℕ, zero, suc, ◌<◌, ◌≤◌, ◌+◌, List, [], ◌∷◌, ◌++◌, length, get_or, take, drop, map}
-use Rattle.std.proofs.Common.{refl, sym, ap, ◌∙◌, subst, inl, inr, arith, append_assoc, append-nil, Option}
+use Rattle.std.proofs.Common.{refl, sym, ap, ◌∙◌, subst, inl, inr, arith, append_assoc, append-nil}
 use Rattle.std.specs.FinSet as set
 use Rattle.std.specs.List.{flat_map}
-use Rattle.std.specs.Io.KnownBytes.{Appends}
-use Rattle.std.proofs.KnownBytes.{Appends-trans}
+use Rattle.dw_notation.specs.Streams.{Appends}
+use Rattle.dw_notation.specs.inner.StreamLemmas.{Appends-trans}
 use Rattle.std.proofs.lemmas.List.{map_push, take_more, take_all, take-append-drop}
 use Rattle.std.proofs.lemmas.Grind.{flat_map-append}
 use Rattle.dw_board.specs.Geometry.{Geometry}
@@ -36,11 +36,11 @@ pub item_is_legal : (g : Geometry) (p : Placement) (list : List Listed) (i : ℕ
 item_is_legal g p list i l all low is = (all.in_order.exactly l.step).0 (step_at list i l low is)
 
 -- the lines written so far
-abbrev pub LinesTo : Geometry → Placement → List Listed → ℕ → Option (List ℕ) → Option (List ℕ) → Type 0
+abbrev pub LinesTo : Geometry → Placement → List Listed → ℕ → List ℕ → List ℕ → Type 0
 LinesTo g p list i old new = Appends old new (flat_map (move_line g p list) (take i list))
 
 pub lines_more : (g : Geometry) (p : Placement) (list : List Listed) (i : ℕ) (d : Listed)
-    (old mid new : Option (List ℕ)) (line : List ℕ) → LinesTo g p list i old mid → i < length list
+    (old mid new : List ℕ) (line : List ℕ) → LinesTo g p list i old mid → i < length list
     → Appends mid new line → line ≡ move_line g p list (get_or list i d) → LinesTo g p list (i + 1) old new
 lines_more g p list i d old mid new line h low wrote same =
     let f = flat_map (move_line g p list) in
@@ -51,7 +51,7 @@ lines_more g p list i d old mid new line h low wrote same =
     (Appends-trans old mid new (f (take i list)) line h wrote)
 
 -- all of them, and the count
-pub lines_all : (g : Geometry) (p : Placement) (list : List Listed) (i k : ℕ) (old mid new : Option (List ℕ))
+pub lines_all : (g : Geometry) (p : Placement) (list : List Listed) (i k : ℕ) (old mid new : List ℕ)
     (line : List ℕ) → AreListed g p list → IsBest g p k → LinesTo g p list i old mid → length list ≤ i
     → Appends mid new line → line ≡ count_line (length list) k → Writes (IsMovesText g p) old new
 lines_all g p list i k old mid new line all best h end wrote same = record {
@@ -81,7 +81,7 @@ moves_some g p k all best = (
 
 -- the line of a move was cut short
 pub line_short : (g : Geometry) (p : Placement) (list : List Listed) (i k : ℕ) (d : Listed)
-    (old mid new : Option (List ℕ)) (line : List ℕ) → AreListed g p list → IsBest g p k → LinesTo g p list i old mid
+    (old mid new : List ℕ) (line : List ℕ) → AreListed g p list → IsBest g p k → LinesTo g p list i old mid
     → i < length list
     → StopsShort mid new line → line ≡ move_line g p list (get_or list i d) → WritesShort (IsMovesText g p) old new
 line_short g p list i k d old mid new line all best h low stop same =
@@ -103,7 +103,7 @@ line_short g p list i k d old mid new line all best h low stop same =
     }
 
 -- the last line was cut short
-pub count_short : (g : Geometry) (p : Placement) (list : List Listed) (i k : ℕ) (old mid new : Option (List ℕ))
+pub count_short : (g : Geometry) (p : Placement) (list : List Listed) (i k : ℕ) (old mid new : List ℕ)
     (line : List ℕ) → AreListed g p list → IsBest g p k → LinesTo g p list i old mid → length list ≤ i
     → StopsShort mid new line → line ≡ count_line (length list) k → WritesShort (IsMovesText g p) old new
 count_short g p list i k old mid new line all best h end stop same =

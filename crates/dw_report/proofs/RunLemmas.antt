@@ -4,18 +4,18 @@ use Rattle.std.proofs.Common.{None, Ok, Err, refl, sym, ap, ◌∙◌, append_as
 use Rattle.std.proofs.Common.{length-append, Result, is_err, ◌||◌, cond, ◌↔◌, IsTrue, if◌then◌else◌, add-zero}
 use Rattle.std.specs.List.{list_any}
 use Rattle.std.proofs.lemmas.Bool.{cases_Bool, true≢false, eqb-true}
-use Rattle.std.proofs.KnownBytes.{Consumes-trans, Appends-trans, Appends-nil}
-use Rattle.std.specs.Io.KnownBytes.{Consumes}
 use Rattle.dw_board.specs.Geometry.{Geometry}
 use Rattle.dw_notation.specs.Problems.{Numbered, AreProblems}
 use Rattle.dw_notation.specs.Reading.{Reader, ReadsAtNeed}
+use Rattle.dw_notation.specs.Streams.{Supply, Reads, IsOver}
+use Rattle.dw_notation.specs.inner.StreamLemmas.{Reads-trans, Appends-trans, Appends-nil}
 use Rattle.dw_notation.specs.declared.problems.Form.{Form}
 use Rattle.dw_notation.specs.declared.problems.TheConstants.{MAX_PROBLEMS}
 use Rattle.dw_notation.specs.Writes.{Writes}
 use Rattle.dw_notation.specs.inner.Writes.{WritesShort}
 use Rattle.dw_report.specs.Request.{number_is_chosen, number_is_asked, Request}
 use Rattle.dw_report.specs.Report.{AreTexts, IsReportOn, chosen}
-use Rattle.dw_report.specs.Running.{RunEnds, IsPart, IsPartOn, BeginsReport, IsRefused, AreRefused, ReadsUpTo}
+use Rattle.dw_report.specs.Running.{Runs, IsWhole, IsPart, IsPartOn, BeginsReport, IsRefused, AreRefused, ReadsUpTo}
 use Rattle.dw_report.specs.inner.Running.{TextEnds, CountsOne, ended_by}
 use Rattle.dw_report.specs.declared.problem.TextFault.{TextFault}
 use Rattle.dw_solve.specs.declared.stop.Stop.{Stop}
@@ -25,15 +25,15 @@ use Rattle.dw_report.proofs.ChosenLemmas.{is_asked, AreNumbered, problems-AreNum
 use Rattle.dw_report.proofs.ChosenLemmas.{up_to_asked-here, chosen-through, any-push, report_on-append, part_on-behind}
 use Rattle.dw_report.proofs.ChosenLemmas.{refused-push, length-chosen-push}
 use Rattle.dw_report.proofs.HandedLemmas.{HasHanded, GivesOne, GivesNone, HasHanded-start, HasHanded-next}
-use Rattle.dw_report.proofs.HandedLemmas.{number_at-some, number_at, EndsThere, HasHanded-ahead, HasHanded-all}
+use Rattle.dw_report.proofs.HandedLemmas.{number_at-some, number_at, HasHanded-ahead, HasHanded-all}
 use Rattle.dw_report.proofs.HandedLemmas.{HasHanded-end, ahead-unmet, need-last}
 use Rattle.dw_report.proofs.WritingLemmas.{begins_within, chosen_one}
 
 -- ---- a run so far
-pub record RunsSoFar (g : Geometry) (request : Request) (bytes : List ℕ) (left taken after : Option (List ℕ))
-    (reader : Reader) (summary : Summary) : Type 0 where
+pub record SoFar (g : Geometry) (request : Request) (before now : Supply) (taken after : List ℕ) (reader : Reader)
+    (summary : Summary) : Type 0 where
   pub handed : List Numbered
-  pub has : HasHanded g request.form bytes left reader handed
+  pub has : HasHanded g request.form before now reader handed
   pub wrote : Writes (IsReportOn g request handed) taken after
   pub count : length handed ≡ reader.handed
   pub read : summary.problems ≡ length handed
@@ -41,21 +41,14 @@ pub record RunsSoFar (g : Geometry) (request : Request) (bytes : List ℕ) (left
   pub refusals : AreRefused g request (chosen request.only handed) summary.refused
   pub unasked : list_any (is_asked request.only) handed ≡ false
 
--- a run of a source that may tell its bytes
-abbrev pub SoFar : Geometry → Request → Option (List ℕ) → Option (List ℕ) → Option (List ℕ) → Option (List ℕ) → Reader
-    → Summary → Type 0
-SoFar g request None left taken after reader summary = Unit {0}
-SoFar g request (Some bytes) left taken after reader summary = RunsSoFar g request bytes left taken after reader summary
-
-pub SoFar-start : (g : Geometry) (request : Request) (coming taken : Option (List ℕ)) (reader : Reader)
+pub SoFar-start : (g : Geometry) (request : Request) (supply : Supply) (taken : List ℕ) (reader : Reader)
     (summary : Summary) → (reader.met_end ≡ false)
     → ((over : Bool) (more : List ℕ) → AreProblems g request.form over more (reader.ahead g over more))
     → reader.handed ≡ 0 → summary.problems ≡ 0 → summary.shown ≡ 0 → summary.refused ≡ 0
-    → SoFar g request coming coming taken taken reader summary
-SoFar-start g request None taken reader summary unmet all none read shown refused = tt
-SoFar-start g request (Some bytes) taken reader summary unmet all none read shown refused = record {
+    → SoFar g request supply supply taken taken reader summary
+SoFar-start g request supply taken reader summary unmet all none read shown refused = record {
   handed = [];
-  has = HasHanded-start g request.form bytes reader unmet all;
+  has = HasHanded-start g request.form supply reader unmet all;
   wrote = record { text = []; is = refl; wrote = Appends-nil taken };
   count = sym none;
   read = read;
@@ -69,37 +62,29 @@ asked-is None number e = cc
 asked-is (Some only) number e = ap Some (sym (eqb-true number only e))
 
 -- a problem more, asked for or not
-pub record OneMore (g : Geometry) (request : Request) (bytes : List ℕ) (left taken after : Option (List ℕ))
-    (reader : Reader) (summary : Summary) (problem : Numbered) : Type 0 where
-  pub before : List Numbered
-  pub has : HasHanded g request.form bytes left reader (before ++ problem ∷ [])
-  pub wrote : Writes (IsReportOn g request (before ++ problem ∷ [])) taken after
-  pub count : length (before ++ problem ∷ []) ≡ reader.handed
-  pub read : summary.problems ≡ length (before ++ problem ∷ [])
-  pub shown : summary.shown ≡ length (chosen request.only (before ++ problem ∷ []))
-  pub refusals : AreRefused g request (chosen request.only (before ++ problem ∷ [])) summary.refused
-  pub unasked : list_any (is_asked request.only) before ≡ false
+pub record More (g : Geometry) (request : Request) (before now : Supply) (taken after : List ℕ) (reader : Reader)
+    (summary : Summary) (problem : Numbered) : Type 0 where
+  pub front : List Numbered
+  pub has : HasHanded g request.form before now reader (front ++ problem ∷ [])
+  pub wrote : Writes (IsReportOn g request (front ++ problem ∷ [])) taken after
+  pub count : length (front ++ problem ∷ []) ≡ reader.handed
+  pub read : summary.problems ≡ length (front ++ problem ∷ [])
+  pub shown : summary.shown ≡ length (chosen request.only (front ++ problem ∷ []))
+  pub refusals : AreRefused g request (chosen request.only (front ++ problem ∷ [])) summary.refused
+  pub unasked : list_any (is_asked request.only) front ≡ false
 
-abbrev pub More : Geometry → Request → Option (List ℕ) → Option (List ℕ) → Option (List ℕ) → Option (List ℕ) → Reader
-    → Summary → Numbered → Type 0
-More g request None left taken after reader summary problem = Unit {0}
-More g request (Some bytes) left taken after reader summary problem = OneMore g request bytes left taken after reader
-    summary problem
-
-pub SoFar-more : (g : Geometry) (request : Request) (coming left after taken mid written : Option (List ℕ))
+pub SoFar-more : (g : Geometry) (request : Request) (before now after : Supply) (taken mid written : List ℕ)
     (old new : Reader) (summary counted : Summary) (problem : Numbered) (next : List ℕ)
-    → SoFar g request coming left taken mid old summary → Consumes left after next
-    → ReadsAtNeed g old next → GivesOne g old new next problem new.met_end → EndsThere after new
+    → SoFar g request before now taken mid old summary → Reads now after next → (old.met_end ≡ true → next ≡ [])
+    → ReadsAtNeed g old next → GivesOne g old new next problem new.met_end
     → (old.met_end ≡ true → new.met_end ≡ true) → new.handed ≡ old.handed + 1
     → Writes (IsReportOn g request (problem ∷ [])) mid written → CountsOne g request summary counted problem
-    → More g request coming after taken written new counted problem
-SoFar-more g request None left after taken mid written old new summary counted problem next so_far took need gives end
-    stays one wrote counts = tt
-SoFar-more g request (Some bytes) left after taken mid written old new summary counted problem next so_far took need
-    gives end stays one wrote counts = record {
-      before = so_far.handed;
-      has = HasHanded-next g request.form bytes left after old new so_far.handed problem next so_far.has took need
-          gives end stays;
+    → More g request before after taken written new counted problem
+SoFar-more g request before now after taken mid written old new summary counted problem next so_far took still need
+    gives stays one wrote counts = record {
+      front = so_far.handed;
+      has = HasHanded-next g request.form before now after old new so_far.handed problem next so_far.has took still
+          need gives stays;
       wrote = record {
         text = so_far.wrote.text ++ wrote.text;
         is = report_on-append g request so_far.handed (problem ∷ []) so_far.wrote.text wrote.text so_far.wrote.is
@@ -118,62 +103,67 @@ SoFar-more g request (Some bytes) left after taken mid written old new summary c
     }
 
 -- it was not asked for: the run goes on
-pub SoFar-next : (g : Geometry) (request : Request) (coming left taken after : Option (List ℕ)) (reader : Reader)
+pub SoFar-next : (g : Geometry) (request : Request) (before now : Supply) (taken after : List ℕ) (reader : Reader)
     (summary : Summary) (problem : Numbered)
-    → More g request coming left taken after reader summary problem → is_asked request.only problem ≡ false
-    → SoFar g request coming left taken after reader summary
-SoFar-next g request None left taken after reader summary problem more other = tt
-SoFar-next g request (Some bytes) left taken after reader summary problem more other = record {
-  handed = more.before ++ problem ∷ [];
+    → More g request before now taken after reader summary problem → is_asked request.only problem ≡ false
+    → SoFar g request before now taken after reader summary
+SoFar-next g request before now taken after reader summary problem more other = record {
+  handed = more.front ++ problem ∷ [];
   has = more.has;
   wrote = more.wrote;
   count = more.count;
   read = more.read;
   shown = more.shown;
   refusals = more.refusals;
-  unasked = any-push request.only more.before problem more.unasked other;
+  unasked = any-push request.only more.front problem more.unasked other;
 }
 
--- it was asked for: the run ends
-pub SoFar-asked : (g : Geometry) (request : Request) (coming left : Option (List ℕ)) (has_ended : Bool)
-    (taken after : Option (List ℕ)) (reader : Reader) (summary : Summary) (problem : Numbered)
-    → More g request coming left taken after reader summary problem → is_asked request.only problem ≡ true
-    → RunEnds g request coming left has_ended taken after (Ok summary)
-SoFar-asked g request None left has_ended taken after reader summary problem more asked = tt
-SoFar-asked g request (Some bytes) left has_ended taken after reader summary problem more asked =
-    let rest = HasHanded-all g request.form bytes left reader (more.before ++ problem ∷ []) more.has in
-    let split = append_assoc more.before (problem ∷ []) rest.0 in
-    let problems = more.before ++ problem ∷ rest.0 in
-    let all : AreProblems g request.form true bytes problems = subst (AreProblems g request.form true bytes) split
-    rest.1 in
-    let are : AreNumbered 0 problems = problems-AreNumbered g request.form true bytes problems all in
-    let here = number_here more.before rest.0 problem are in
-    let through : chosen request.only problems ≡ chosen request.only (more.before ++ problem ∷ []) =
-    chosen-through request.only more.before rest.0 problem are asked in
+-- it was asked for, and these problems follow it: the report on all of them is written
+asked_whole : (g : Geometry) (request : Request) (before now : Supply) (taken after : List ℕ) (reader : Reader)
+    (summary : Summary) (problem : Numbered) (more : More g request before now taken after reader summary problem)
+    (text : List ℕ) (rest : List Numbered) → is_asked request.only problem ≡ true
+    → AreProblems g request.form true text ((more.front ++ problem ∷ []) ++ rest)
+    → IsWhole g request now.has_ended more.has.read text more.wrote.text summary
+asked_whole g request before now taken after reader summary problem more text rest asked are =
+    let problems = more.front ++ problem ∷ rest in
+    let all : AreProblems g request.form true text problems = subst (AreProblems g request.form true text)
+    (append_assoc more.front (problem ∷ []) rest) are in
+    let numbers : AreNumbered 0 problems = problems-AreNumbered g request.form true text problems all in
+    let here = number_here more.front rest problem numbers in
+    let through : chosen request.only problems ≡ chosen request.only (more.front ++ problem ∷ []) =
+    chosen-through request.only more.front rest problem numbers asked in
     record {
       problems = problems;
       are = all;
-      wrote = record {
-        text = more.wrote.text;
-        is = subst (λ l. AreTexts g request l more.wrote.text) (sym through) more.wrote.is;
-        wrote = more.wrote.wrote;
-      };
+      report = subst (λ l. AreTexts g request l more.wrote.text) (sym through) more.wrote.is;
       counts = record {
-        read = more.read ∙ sym (ap length (up_to_asked-here request.only more.before rest.0 problem more.unasked
-            asked));
+        read = more.read ∙ sym (ap length (up_to_asked-here request.only more.front rest problem more.unasked asked));
         shown = more.shown ∙ sym (ap length through);
         refusals = subst (λ z. AreRefused g request z summary.refused) (sym through) more.refusals;
       };
-      read = more.has.read;
-      took = more.has.took;
       through = inr (
         problem.number,
         inl (asked-is request.only problem.number asked),
-        let size = length-append more.before (problem ∷ rest.0) in omega (arith, here, size),
+        let size = length-append more.front (problem ∷ rest) in omega (arith, here, size),
         subst (λ n. ReadsUpTo g request.form n more.has.read) (sym here)
-            (need-last g request.form bytes left reader more.before problem more.has),
+            (need-last g request.form before now reader more.front problem more.has),
       );
     }
+
+-- so the run ends
+pub SoFar-asked : (g : Geometry) (request : Request) (before now : Supply) (taken after : List ℕ) (reader : Reader)
+    (summary : Summary) (problem : Numbered) → More g request before now taken after reader summary problem
+    → is_asked request.only problem ≡ true → (reader.met_end ≡ true → IsOver now)
+    → Runs g request before now taken after (Ok summary)
+SoFar-asked g request before now taken after reader summary problem more asked over = record {
+  read = more.has.read;
+  took = more.has.took;
+  out = more.wrote.text;
+  wrote = more.wrote.wrote;
+  ends = HasHanded-ahead (λ bytes. IsWhole g request now.has_ended more.has.read bytes more.wrote.text summary) g
+      request.form before now reader (more.front ++ problem ∷ []) more.has over
+      (λ text rest are. asked_whole g request before now taken after reader summary problem more text rest asked are);
+}
 
 -- nothing more was read
 need-still : (g : Geometry) (form : Form) (handed : List Numbered) (read next : List ℕ) (number : ℕ)
@@ -182,60 +172,68 @@ need-still : (g : Geometry) (form : Form) (handed : List Numbered) (read next : 
 need-still g form handed read next number e none need = subst (λ l. ReadsUpTo g form number l)
     (sym (ap (λ l. read ++ l) none ∙ append-nil read)) (subst (λ n. ReadsUpTo g form n read) e need)
 
-pub SoFar-end : (g : Geometry) (request : Request) (coming left after : Option (List ℕ)) (has_ended : Bool)
-    (taken mid : Option (List ℕ)) (old new : Reader) (summary : Summary) (next : List ℕ)
-    → SoFar g request coming left taken mid old summary → Consumes left after next → ReadsAtNeed g old next
-    → GivesNone g old new next → EndsThere after new → new.handed ≡ old.handed → old.handed ≤ MAX_PROBLEMS + 1
-    → RunEnds g request coming after has_ended taken mid (Ok summary)
-SoFar-end g request None left after has_ended taken mid old new summary next so_far took need gives end same bound = tt
-SoFar-end g request (Some bytes) left after has_ended taken mid old new summary next so_far took need gives end same
-    bound =
+pub SoFar-end : (g : Geometry) (request : Request) (before now after : Supply) (taken mid : List ℕ)
+    (old new : Reader) (summary : Summary) (next : List ℕ)
+    → SoFar g request before now taken mid old summary → Reads now after next → (old.met_end ≡ true → next ≡ [])
+    → ReadsAtNeed g old next → GivesNone g old new next → (old.met_end ≡ true → new.met_end ≡ true)
+    → (new.met_end ≡ true → IsOver after) → new.handed ≡ old.handed → old.handed ≤ MAX_PROBLEMS + 1
+    → Runs g request before after taken mid (Ok summary)
+SoFar-end g request before now after taken mid old new summary next so_far took still need gives stays over same bound =
     let handed = so_far.handed in
+    let read = so_far.has.read ++ next in
     record {
-      problems = handed;
-      are = HasHanded-end g request.form bytes left after old new handed next so_far.has took gives end;
-      wrote = so_far.wrote;
-      counts = record {
-        read = so_far.read ∙ sym (ap length (up_to_asked-none request.only handed so_far.unasked));
-        shown = so_far.shown;
-        refusals = so_far.refusals;
-      };
-      read = so_far.has.read ++ next;
-      took = Consumes-trans (Some bytes) left after so_far.has.read next so_far.has.took took;
-      through = elim gives.why [
-        | inl met ↦ inl (end met)
-        | inr over ↦
-            let count = so_far.count in
-            let last : length handed ≡ MAX_PROBLEMS + 1 = omega (arith, same, count, over.0, bound) in
-            inr (
-              MAX_PROBLEMS + 1,
-              inr refl,
-              omega (arith, last),
-              elim need [
-                | inl none ↦ need-still g request.form handed so_far.has.read next (MAX_PROBLEMS + 1)
-                    (number_at-some handed (omega (arith, last)) ∙ last) none so_far.has.need
-                | inr more ↦ absurd (omega (arith, same, over.0, more.0))
-              ],
-            )
-      ];
+      read = read;
+      took = Reads-trans before now after so_far.has.read next so_far.has.took took;
+      out = so_far.wrote.text;
+      wrote = so_far.wrote.wrote;
+      ends = HasHanded-end (λ bytes. IsWhole g request after.has_ended read bytes so_far.wrote.text summary) g
+          request.form before now after old new handed next so_far.has still stays gives over (λ text are. record {
+            problems = handed;
+            are = are;
+            report = so_far.wrote.is;
+            counts = record {
+              read = so_far.read ∙ sym (ap length (up_to_asked-none request.only handed so_far.unasked));
+              shown = so_far.shown;
+              refusals = so_far.refusals;
+            };
+            through = elim gives.why [
+              | inl met ↦ inl (over met).has_ended
+              | inr full ↦
+                  let count = so_far.count in
+                  let last : length handed ≡ MAX_PROBLEMS + 1 = omega (arith, same, count, full.0, bound) in
+                  inr (
+                    MAX_PROBLEMS + 1,
+                    inr refl,
+                    omega (arith, last),
+                    elim need [
+                      | inl none ↦ need-still g request.form handed so_far.has.read next (MAX_PROBLEMS + 1)
+                          (number_at-some handed (omega (arith, last)) ∙ last) none so_far.has.need
+                      | inr more ↦ absurd (omega (arith, same, full.0, more.0))
+                    ],
+                  )
+            ];
+          });
     }
 
-pub SoFar-read : (g : Geometry) (request : Request) (coming left after : Option (List ℕ)) (has_ended : Bool)
-    (taken mid : Option (List ℕ)) (old new : Reader) (summary : Summary) (next : List ℕ)
-    → SoFar g request coming left taken mid old summary → Consumes left after next → old.ahead g false next ≡ []
-    → (old.met_end ≡ false)
-    → RunEnds g request coming after has_ended taken mid (Err Read)
-SoFar-read g request None left after has_ended taken mid old new summary next so_far took none unmet = tt
-SoFar-read g request (Some bytes) left after has_ended taken mid old new summary next so_far took none unmet =
+pub SoFar-read : (g : Geometry) (request : Request) (before now after : Supply) (taken mid : List ℕ) (old : Reader)
+    (summary : Summary) (next : List ℕ)
+    → SoFar g request before now taken mid old summary → Reads now after next → old.ahead g false next ≡ []
+    → (old.met_end ≡ false) → Runs g request before after taken mid (Err Read)
+SoFar-read g request before now after taken mid old summary next so_far took none unmet =
     let has = so_far.has in
     record {
       read = has.read ++ next;
-      took = Consumes-trans (Some bytes) left after has.read next has.took took;
-      ended = so_far.handed;
-      are = subst (AreProblems g request.form false (has.read ++ next)) (ap (λ l. so_far.handed ++ l) none
-          ∙ append-nil so_far.handed) (ahead-unmet g request.form bytes left old so_far.handed has unmet false next);
-      wrote = so_far.wrote;
-      unasked = so_far.unasked;
+      took = Reads-trans before now after has.read next has.took took;
+      out = so_far.wrote.text;
+      wrote = so_far.wrote.wrote;
+      ends = record {
+        ended = so_far.handed;
+        are = subst (AreProblems g request.form false (has.read ++ next)) (ap (λ l. so_far.handed ++ l) none
+            ∙ append-nil so_far.handed)
+            (ahead-unmet g request.form before now old so_far.handed has unmet false next);
+        report = so_far.wrote.is;
+        unasked = so_far.unasked;
+      };
     }
 
 -- the end was not met before a call if it is not met after it
@@ -248,70 +246,65 @@ unmet_before old new stays unmet = elim (cases_Bool (old.met_end))
 abbrev pub HaveTexts : Geometry → Request → Type 0
 HaveTexts g request = (problems : List Numbered) → (text : List ℕ) × AreTexts g request problems text
 
-pub SoFar-write : (g : Geometry) (request : Request) (coming left after : Option (List ℕ)) (has_ended : Bool)
-    (taken mid written : Option (List ℕ)) (old new : Reader) (summary : Summary) (problem : Numbered) (next : List ℕ)
-    → SoFar g request coming left taken mid old summary → Consumes left after next → ReadsAtNeed g old next
-    → GivesOne g old new next problem new.met_end → EndsThere after new
-    → (old.met_end ≡ true → new.met_end ≡ true) → (new.met_end ≡ true → has_ended ≡ true) → HaveTexts g request
+pub SoFar-write : (g : Geometry) (request : Request) (before now after : Supply) (taken mid written : List ℕ)
+    (old new : Reader) (summary : Summary) (problem : Numbered) (next : List ℕ)
+    → SoFar g request before now taken mid old summary → Reads now after next → (old.met_end ≡ true → next ≡ [])
+    → ReadsAtNeed g old next → GivesOne g old new next problem new.met_end
+    → (old.met_end ≡ true → new.met_end ≡ true) → (new.met_end ≡ true → IsOver after) → HaveTexts g request
     → WritesShort (IsReportOn g request (problem ∷ [])) mid written
-    → RunEnds g request coming after has_ended taken written (Err Write)
-SoFar-write g request None left after has_ended taken mid written old new summary problem next so_far took need gives
-    end stays over exist short = tt
-SoFar-write g request (Some bytes) left after has_ended taken mid written old new summary problem next so_far took need
-    gives end stays over exist short =
+    → Runs g request before after taken written (Err Write)
+SoFar-write g request before now after taken mid written old new summary problem next so_far took still need gives stays
+    over exist short =
     let handed = so_far.handed in
-    let has = HasHanded-next g request.form bytes left after old new handed problem next so_far.has took need gives
-    end stays in
-    let before = so_far.wrote.text in
+    let has = HasHanded-next g request.form before now after old new handed problem next so_far.has took still need
+    gives stays in
+    let front = so_far.wrote.text in
     record {
       read = has.read;
       took = has.took;
-      out = before ++ short.stops.out;
-      wrote = Appends-trans taken mid written before short.stops.out so_far.wrote.wrote short.stops.taken;
-      front = HasHanded-ahead (λ text. BeginsReport g request text (before ++ short.stops.out)) g request.form bytes
-          after new (handed ++ problem ∷ []) has_ended has over (λ text rest are.
+      out = front ++ short.stops.out;
+      wrote = Appends-trans taken mid written front short.stops.out so_far.wrote.wrote short.stops.taken;
+      ends = HasHanded-ahead (λ text. BeginsReport g request text (front ++ short.stops.out)) g request.form before
+          after new (handed ++ problem ∷ []) has over (λ text rest are.
           let behind = exist (chosen request.only rest) in
           record {
-            whole = (before ++ short.text) ++ behind.0;
+            whole = (front ++ short.text) ++ behind.0;
             is = (
               (handed ++ problem ∷ []) ++ rest,
               are,
-              report_on-append g request (handed ++ problem ∷ []) rest (before ++ short.text) behind.0
-                  (report_on-append g request handed (problem ∷ []) before short.text so_far.wrote.is short.is)
+              report_on-append g request (handed ++ problem ∷ []) rest (front ++ short.text) behind.0
+                  (report_on-append g request handed (problem ∷ []) front short.text so_far.wrote.is short.is)
                   behind.1,
             );
-            front = begins_within before short.stops.out short.text behind.0 short.stops.front;
+            front = begins_within front short.stops.out short.text behind.0 short.stops.front;
           });
     }
 
-pub SoFar-stopped : (g : Geometry) (request : Request) (coming left after : Option (List ℕ)) (has_ended : Bool)
-    (taken mid written : Option (List ℕ)) (old new : Reader) (summary : Summary) (problem : Numbered) (next : List ℕ)
-    (why : Stop) (expanded : ℕ)
-    → SoFar g request coming left taken mid old summary → Consumes left after next → ReadsAtNeed g old next
-    → GivesOne g old new next problem new.met_end → EndsThere after new
-    → (old.met_end ≡ true → new.met_end ≡ true) → (new.met_end ≡ true → has_ended ≡ true)
+pub SoFar-stopped : (g : Geometry) (request : Request) (before now after : Supply) (taken mid written : List ℕ)
+    (old new : Reader) (summary : Summary) (problem : Numbered) (next : List ℕ) (why : Stop) (expanded : ℕ)
+    → SoFar g request before now taken mid old summary → Reads now after next → (old.met_end ≡ true → next ≡ [])
+    → ReadsAtNeed g old next → GivesOne g old new next problem new.met_end
+    → (old.met_end ≡ true → new.met_end ≡ true) → (new.met_end ≡ true → IsOver after)
     → Writes (IsPartOn g request problem.number (problem ∷ [])) mid written
-    → RunEnds g request coming after has_ended taken written (Err (Stopped why expanded))
-SoFar-stopped g request None left after has_ended taken mid written old new summary problem next why expanded so_far
-    took need gives end stays over part = tt
-SoFar-stopped g request (Some bytes) left after has_ended taken mid written old new summary problem next why expanded
-    so_far took need gives end stays over part =
+    → Runs g request before after taken written (Err (Stopped why expanded))
+SoFar-stopped g request before now after taken mid written old new summary problem next why expanded so_far took still
+    need gives stays over part =
     let handed = so_far.handed in
-    let has = HasHanded-next g request.form bytes left after old new handed problem next so_far.has took need gives
-    end stays in
+    let has = HasHanded-next g request.form before now after old new handed problem next so_far.has took still need
+    gives stays in
     let out = so_far.wrote.text ++ part.text in
-    let all = HasHanded-all g request.form bytes after new (handed ++ problem ∷ []) has in
+    let all = HasHanded-all g request.form before after new (handed ++ problem ∷ []) has in
     let here = number_here handed all.0 problem (subst (AreNumbered 0) (append_assoc handed (problem ∷ []) all.0)
-    (problems-AreNumbered g request.form true bytes ((handed ++ problem ∷ []) ++ all.0) all.1)) in
+    (problems-AreNumbered g request.form true has.read ((handed ++ problem ∷ []) ++ all.0) all.1)) in
     let need-here : ReadsUpTo g request.form problem.number has.read = subst (λ n. ReadsUpTo g request.form n has.read)
-    (sym here) (need-last g request.form bytes after new handed problem has) in
+    (sym here) (need-last g request.form before after new handed problem has) in
     record {
       read = has.read;
       took = has.took;
       out = out;
       wrote = Appends-trans taken mid written so_far.wrote.text part.text so_far.wrote.wrote part.wrote;
-      front = HasHanded-ahead (λ text. IsPart g request has.read text out) g request.form bytes after new
-          (handed ++ problem ∷ []) has_ended has over (λ text rest are. record {
+      ends = HasHanded-ahead (λ text. IsPart g request has.read text out) g request.form before after new
+          (handed ++ problem ∷ []) has over (λ text rest are. record {
             problems = (handed ++ problem ∷ []) ++ rest;
             are = are;
             number = problem.number;
@@ -322,21 +315,20 @@ SoFar-stopped g request (Some bytes) left after has_ended taken mid written old 
     }
 
 -- a problem's text was not written to its end, and so the run ends
-pub SoFar-fault : (g : Geometry) (request : Request) (coming left after : Option (List ℕ)) (has_ended : Bool)
-    (taken mid written : Option (List ℕ)) (old new : Reader) (summary : Summary) (problem : Numbered) (next : List ℕ)
-    (expanded : ℕ) (fault : TextFault)
-    → SoFar g request coming left taken mid old summary → Consumes left after next → ReadsAtNeed g old next
-    → GivesOne g old new next problem new.met_end → EndsThere after new
-    → (old.met_end ≡ true → new.met_end ≡ true) → (new.met_end ≡ true → has_ended ≡ true) → HaveTexts g request
+pub SoFar-fault : (g : Geometry) (request : Request) (before now after : Supply) (taken mid written : List ℕ)
+    (old new : Reader) (summary : Summary) (problem : Numbered) (next : List ℕ) (expanded : ℕ) (fault : TextFault)
+    → SoFar g request before now taken mid old summary → Reads now after next → (old.met_end ≡ true → next ≡ [])
+    → ReadsAtNeed g old next → GivesOne g old new next problem new.met_end
+    → (old.met_end ≡ true → new.met_end ≡ true) → (new.met_end ≡ true → IsOver after) → HaveTexts g request
     → TextEnds {X = Summary} (IsReportOn g request (problem ∷ [])) (IsPartOn g request problem.number (problem ∷ []))
     mid written (Err fault)
-    → RunEnds g request coming after has_ended taken written (Err (ended_by fault expanded))
-SoFar-fault g request coming left after has_ended taken mid written old new summary problem next expanded
-    (TextFault.Stopped why) so_far took need gives end stays over exist h = SoFar-stopped g request coming left after
-    has_ended taken mid written old new summary problem next why expanded so_far took need gives end stays over h
-SoFar-fault g request coming left after has_ended taken mid written old new summary problem next expanded TextFault.Sink
-    so_far took need gives end stays over exist h = SoFar-write g request coming left after has_ended taken mid written
-    old new summary problem next so_far took need gives end stays over exist h
+    → Runs g request before after taken written (Err (ended_by fault expanded))
+SoFar-fault g request before now after taken mid written old new summary problem next expanded (TextFault.Stopped why)
+    so_far took still need gives stays over exist h = SoFar-stopped g request before now after taken mid written old
+    new summary problem next why expanded so_far took still need gives stays over h
+SoFar-fault g request before now after taken mid written old new summary problem next expanded TextFault.Sink so_far
+    took still need gives stays over exist h = SoFar-write g request before now after taken mid written old new summary
+    problem next so_far took still need gives stays over exist h
 
 -- a call that answered did not fail
 pub failed-at_ok : {A E : Type 0} (now was : Bool) (r : Result A E) (x : A) → now ≡ (was || is_err r) → r ≡ Ok x

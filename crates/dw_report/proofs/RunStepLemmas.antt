@@ -5,47 +5,45 @@ use Rattle.std.specs.Result.{IsErr}
 use Rattle.dw_board.specs.Geometry.{Geometry}
 use Rattle.dw_notation.specs.Problems.{Numbered, numbered}
 use Rattle.dw_notation.specs.Reading.{Reader, NextGives, IsCounted, HasStopped}
+use Rattle.dw_notation.specs.Streams.{Supply, IsOver}
 use Rattle.dw_notation.specs.declared.problems.Problem.{Problem}
 use Rattle.dw_notation.specs.declared.problems.ReadFault.{ReadFault}
 use Rattle.dw_notation.specs.declared.problems.TheConstants.{MAX_PROBLEMS}
 use Rattle.dw_notation.specs.Writes.{Writes}
 use Rattle.dw_report.specs.Request.{number_is_chosen, Request}
 use Rattle.dw_report.specs.Report.{IsReportOn}
-use Rattle.dw_report.specs.Running.{RunEnds, IsPartOn, AreRefused}
+use Rattle.dw_report.specs.Running.{Runs, IsPartOn, AreRefused}
 use Rattle.dw_report.specs.inner.Running.{TextEnds, CountsOne, ended_by}
 use Rattle.dw_report.specs.declared.problem.TextFault.{TextFault}
 use Rattle.dw_report.specs.declared.settings.Summary.{Summary}
 use Rattle.dw_report.specs.declared.settings.RunFault.TheVariants.{Read}
-use Rattle.dw_report.proofs.HandedLemmas.{EndsThere}
 use Rattle.dw_report.proofs.RunLemmas.{SoFar, SoFar-more, SoFar-end, SoFar-read, SoFar-fault, More, HaveTexts}
 use Rattle.dw_report.proofs.RunLemmas.{unmet_before}
 use Rattle.dw_report.proofs.WritingLemmas.{chosen_none}
 
 -- no problem is left
-pub next_none : {B : Type 0} (g : Geometry) (request : Request) (coming left after : Option (List ℕ))
-    (has_ended : Bool) (taken mid : Option (List ℕ)) (old new : Reader) (summary : Summary) (o : Option (Problem B)) → o
-    ≡ None → NextGives g left after old new (Ok o) → IsCounted old new (Ok o)
-    → SoFar g request coming left taken mid old summary → EndsThere after new → old.handed ≤ MAX_PROBLEMS + 1
-    → RunEnds g request coming after has_ended taken mid (Ok summary)
-next_none {B} g request coming left after has_ended taken mid old new summary o e given counted so_far end bound =
-    let now = subst (λ (z : Option (Problem B)). NextGives {B = B} g left after old new (Ok z)) e given in
+pub next_none : {B : Type 0} (g : Geometry) (request : Request) (before now after : Supply) (taken mid : List ℕ)
+    (old new : Reader) (summary : Summary) (o : Option (Problem B)) → o ≡ None → NextGives g now after old new (Ok o)
+    → IsCounted old new (Ok o) → SoFar g request before now taken mid old summary
+    → (old.met_end ≡ true → new.met_end ≡ true) → (new.met_end ≡ true → IsOver after) → old.handed ≤ MAX_PROBLEMS + 1
+    → Runs g request before after taken mid (Ok summary)
+next_none {B} g request before now after taken mid old new summary o e given counted so_far stays over bound =
+    let next = subst (λ (z : Option (Problem B)). NextGives {B = B} g now after old new (Ok z)) e given in
     let same = subst (λ (z : Option (Problem B)). IsCounted {B = B} old new (Ok z)) e counted in
-    SoFar-end g request coming left after has_ended taken mid old new summary now.read so_far now.took now.need
-    (record { none = now.gives.0; why = now.gives.2 }) end (same.0 ∙ add-zero old.handed) bound
+    SoFar-end g request before now after taken mid old new summary next.read so_far next.took next.still next.need
+    (record { none = next.gives.0; why = next.gives.2 }) stays over (same.0 ∙ add-zero old.handed) bound
 
 -- the source failed
-pub next_failed : {B : Type 0} (g : Geometry) (request : Request) (coming left after : Option (List ℕ))
-    (has_ended : Bool) (taken mid : Option (List ℕ)) (old new : Reader) (summary : Summary) (r : Result (Option (Problem
-    B)) ReadFault) (fault : ReadFault)
-    (is_failed : Bool) → r ≡ Err fault → NextGives g left after old new r → (IsErr r → HasStopped is_failed new)
-    → (old.met_end ≡ true → new.met_end ≡ true) → SoFar g request coming left taken mid old summary
-    → RunEnds g request coming after has_ended taken mid (Err Read)
-next_failed {B} g request coming left after has_ended taken mid old new summary r fault is_failed e given stopped stays
-    so_far =
-    let now = subst (NextGives {B = B} g left after old new) e given in
+pub next_failed : {B : Type 0} (g : Geometry) (request : Request) (before now after : Supply) (taken mid : List ℕ)
+    (old new : Reader) (summary : Summary) (r : Result (Option (Problem B)) ReadFault) (fault : ReadFault)
+    (is_failed : Bool) → r ≡ Err fault → NextGives g now after old new r → (IsErr r → HasStopped is_failed new)
+    → (old.met_end ≡ true → new.met_end ≡ true) → SoFar g request before now taken mid old summary
+    → Runs g request before after taken mid (Err Read)
+next_failed {B} g request before now after taken mid old new summary r fault is_failed e given stopped stays so_far =
+    let next = subst (NextGives {B = B} g now after old new) e given in
     let stop = subst (λ (z : Result (Option (Problem B)) ReadFault). IsErr z → HasStopped is_failed new) e stopped
     refl in
-    SoFar-read g request coming left after has_ended taken mid old new summary now.read so_far now.took now.gives.0
+    SoFar-read g request before now after taken mid old summary next.read so_far next.took next.gives.0
     (unmet_before old new stays stop.unmet)
 
 -- a problem was handed out
@@ -55,35 +53,32 @@ counted_one {B} old new o p e counted =
     let one = subst (λ (z : Option (Problem B)). IsCounted {B = B} old new (Ok z)) e counted in (one.0, one.1.1)
 
 -- and its text was written
-pub next_more : {B : Type 0} (g : Geometry) (request : Request)
-    (coming left after taken mid written : Option (List ℕ))
-    (old new : Reader) (summary counted : Summary) (o : Option (Problem B)) (p : Problem B) → o ≡ Some p
-    → NextGives g left after old new (Ok o) → IsCounted old new (Ok o)
-    → SoFar g request coming left taken mid old summary → EndsThere after new
-    → (old.met_end ≡ true → new.met_end ≡ true)
+pub next_more : {B : Type 0} (g : Geometry) (request : Request) (before now after : Supply)
+    (taken mid written : List ℕ) (old new : Reader) (summary counted : Summary) (o : Option (Problem B)) (p : Problem B)
+    → o ≡ Some p → NextGives g now after old new (Ok o) → IsCounted old new (Ok o)
+    → SoFar g request before now taken mid old summary → (old.met_end ≡ true → new.met_end ≡ true)
     → Writes (IsReportOn g request (numbered p ∷ [])) mid written → CountsOne g request summary counted (numbered p)
-    → More g request coming after taken written new counted (numbered p)
-next_more {B} g request coming left after taken mid written old new summary counted o p e given count so_far end stays
-    wrote counts =
-    let now = subst (λ (z : Option (Problem B)). NextGives {B = B} g left after old new (Ok z)) e given in
-    SoFar-more g request coming left after taken mid written old new summary counted (numbered p) now.read so_far
-    now.took now.need now.gives end stays (counted_one old new o p e count).0 wrote counts
+    → More g request before after taken written new counted (numbered p)
+next_more {B} g request before now after taken mid written old new summary counted o p e given count so_far stays wrote
+    counts =
+    let next = subst (λ (z : Option (Problem B)). NextGives {B = B} g now after old new (Ok z)) e given in
+    SoFar-more g request before now after taken mid written old new summary counted (numbered p) next.read so_far
+    next.took next.still next.need next.gives stays (counted_one old new o p e count).0 wrote counts
 
 -- or not to its end
-pub next_fault : {B : Type 0} (g : Geometry) (request : Request) (coming left after : Option (List ℕ))
-    (has_ended : Bool) (taken mid written : Option (List ℕ)) (old new : Reader) (summary : Summary) (o : Option (Problem
-    B)) (p : Problem B) (expanded : ℕ) (r : Result Summary TextFault) (fault : TextFault) → o ≡ Some p → r ≡ Err fault
-    → NextGives g left after old new (Ok o) → SoFar g request coming left taken mid old summary
-    → EndsThere after new → (old.met_end ≡ true → new.met_end ≡ true) → (new.met_end ≡ true → has_ended ≡ true)
-    → HaveTexts g request
+pub next_fault : {B : Type 0} (g : Geometry) (request : Request) (before now after : Supply)
+    (taken mid written : List ℕ) (old new : Reader) (summary : Summary) (o : Option (Problem B)) (p : Problem B)
+    (expanded : ℕ) (r : Result Summary TextFault) (fault : TextFault) → o ≡ Some p → r ≡ Err fault
+    → NextGives g now after old new (Ok o) → SoFar g request before now taken mid old summary
+    → (old.met_end ≡ true → new.met_end ≡ true) → (new.met_end ≡ true → IsOver after) → HaveTexts g request
     → TextEnds (IsReportOn g request (numbered p ∷ [])) (IsPartOn g request p.number (numbered p ∷ [])) mid written r
-    → RunEnds g request coming after has_ended taken written (Err (ended_by fault expanded))
-next_fault {B} g request coming left after has_ended taken mid written old new summary o p expanded r fault e is given
-    so_far end stays over exist text =
-    let now = subst (λ (z : Option (Problem B)). NextGives {B = B} g left after old new (Ok z)) e given in
-    SoFar-fault g request coming left after has_ended taken mid written old new summary (numbered p) now.read expanded
-    fault so_far now.took now.need now.gives end stays over exist (subst (TextEnds (IsReportOn g request (numbered p ∷
-    [])) (IsPartOn g request p.number (numbered p ∷ [])) mid written) is text)
+    → Runs g request before after taken written (Err (ended_by fault expanded))
+next_fault {B} g request before now after taken mid written old new summary o p expanded r fault e is given so_far stays
+    over exist text =
+    let next = subst (λ (z : Option (Problem B)). NextGives {B = B} g now after old new (Ok z)) e given in
+    SoFar-fault g request before now after taken mid written old new summary (numbered p) next.read expanded fault
+    so_far next.took next.still next.need next.gives stays over exist (subst (TextEnds (IsReportOn g request
+    (numbered p ∷ [])) (IsPartOn g request p.number (numbered p ∷ [])) mid written) is text)
 
 -- a problem more that is not chosen
 pub counts_passed : (g : Geometry) (request : Request) (old new : Summary) (p : Numbered)

@@ -2,8 +2,8 @@
 use Rattle.std.proofs.Common.{◌≡◌, ℕ, ◌+◌, ◌-◌, ◌<◌, ◌≤◌, suc, List, [], ◌∷◌, ◌++◌, length, map, take, drop, get_or}
 use Rattle.std.proofs.Common.{refl, sym, ap, ◌∙◌, subst, inl, inr, arith, append_assoc, append-nil, codes, Option, Some}
 use Rattle.std.proofs.Common.{None, Result, Err}
-use Rattle.std.specs.Io.KnownBytes.{Appends}
-use Rattle.std.proofs.KnownBytes.{Appends-trans, Appends-nil}
+use Rattle.dw_notation.specs.Streams.{Appends}
+use Rattle.dw_notation.specs.inner.StreamLemmas.{Appends-trans, Appends-nil}
 use Rattle.std.proofs.lemmas.List.{take_all, take_more}
 use Rattle.dw_board.specs.Geometry.{Geometry, IsBoard}
 use Rattle.dw_board.specs.Placement.{Placement}
@@ -30,24 +30,24 @@ use Rattle.dw_verdict.specs.inner.WinningLemmas.{refutation_some, tries_listed}
 use Rattle.dw_report.proofs.WritingLemmas.{stops_within}
 
 -- a stop before anything was written
-pub nothing_written : {X : Type 0} (P : List ℕ → Type 0) (old : Option (List ℕ)) (r : Result X TextFault)
+pub nothing_written : {X : Type 0} (P : List ℕ → Type 0) (old : List ℕ) (r : Result X TextFault)
     (fault : TextFault) (why : Stop) → r ≡ Err fault → fault ≡ Stopped why → TextEnds P (λ out. out ≡ []) old old r
 nothing_written {X} P old r fault why is same = subst (TextEnds {X = X} P (λ out. out ≡ []) old old)
     (sym (is ∙ ap Err same)) (record { text = []; is = refl; wrote = Appends-nil old })
 
 -- ONE MOVE
 
-pub try_written : (g : Geometry) (p : Placement) (n : ℕ) (m r : Move) (line : List ℕ) (old new : Option (List ℕ))
+pub try_written : (g : Geometry) (p : Placement) (n : ℕ) (m r : Move) (line : List ℕ) (old new : List ℕ)
     → IsRefutation g (play g p m) (n - 1) r → IsTryLine g p (m, r) line → Appends old new line
     → Writes (IsTryText g p n m) old new
 try_written g p n m r line old new found is wrote = record { text = line; is = inl (r, found, is); wrote = wrote }
 
-pub try_short : (g : Geometry) (p : Placement) (n : ℕ) (m r : Move) (line : List ℕ) (old new : Option (List ℕ))
+pub try_short : (g : Geometry) (p : Placement) (n : ℕ) (m r : Move) (line : List ℕ) (old new : List ℕ)
     → IsRefutation g (play g p m) (n - 1) r → IsTryLine g p (m, r) line → StopsShort old new line
     → WritesShort (IsTryText g p n m) old new
 try_short g p n m r line old new found is stops = record { text = line; is = inl (r, found, is); stops = stops }
 
-pub no_try_written : (g : Geometry) (p : Placement) (n : ℕ) (m : Move) (old : Option (List ℕ))
+pub no_try_written : (g : Geometry) (p : Placement) (n : ℕ) (m : Move) (old : List ℕ)
     → ((r : Move) → IsRefutation g (play g p m) (n - 1) r → ⊥) → Writes (IsTryText g p n m) old old
 no_try_written g p n m old none = record { text = []; is = inr (none, refl); wrote = Appends-nil old }
 
@@ -208,13 +208,13 @@ try_lines_whole g p (t ∷ tries) text (line, rest, is, are, e) = subst AreWhole
 -- WRITING
 
 -- the lines of the tries among some moves were written
-pub record WroteTo (g : Geometry) (p : Placement) (n : ℕ) (moves : List Move) (old new : Option (List ℕ)) : Type 0 where
+pub record WroteTo (g : Geometry) (p : Placement) (n : ℕ) (moves : List Move) (old new : List ℕ) : Type 0 where
   pub text : List ℕ
   pub tried : TriedTo g p n moves text
   pub wrote : Appends old new text
 
 wrote_more : (g : Geometry) (p : Placement) (n : ℕ) (before after : List Move) (m : Move)
-    (old mid new : Option (List ℕ)) → IsAscending (Precedes g p) (before ++ m ∷ after) → WroteTo g p n before old mid
+    (old mid new : List ℕ) → IsAscending (Precedes g p) (before ++ m ∷ after) → WroteTo g p n before old mid
     → Writes (IsTryText g p n m) mid new → WroteTo g p n (before ++ m ∷ []) old new
 wrote_more g p n before after m old mid new order h one = record {
   text = h.text ++ one.text;
@@ -225,7 +225,7 @@ wrote_more g p n before after m old mid new order h one = record {
 module _ (decided : WinsAreDecided) (order : MovesInOrder) (keys : MovesHaveKeys) (texts : MovesHaveTexts)
     (g : Geometry) (board : IsBoard g) (p : Placement) (n : ℕ) where
   -- a stop: the lines that were written are whole lines of all
-  wrote_lines : (before after : List Move) (old new : Option (List ℕ))
+  wrote_lines : (before after : List Move) (old new : List ℕ)
       → IsListOf (Precedes g p) (Legal g p) (before ++ after) → WroteTo g p n before old new
       → Writes (AreLinesOf (AreTriesListed g p n)) old new
   wrote_lines before after old new all h =
@@ -242,7 +242,7 @@ module _ (decided : WinsAreDecided) (order : MovesInOrder) (keys : MovesHaveKeys
         wrote = h.wrote;
       }
 
-  still_wrote : (before after : List Move) (old mid new : Option (List ℕ))
+  still_wrote : (before after : List Move) (old mid new : List ℕ)
       → IsListOf (Precedes g p) (Legal g p) (before ++ after) → WroteTo g p n before old mid
       → Writes (λ out. out ≡ []) mid new → Writes (AreLinesOf (AreTriesListed g p n)) old new
   still_wrote before after old mid new all h none =
@@ -251,7 +251,7 @@ module _ (decided : WinsAreDecided) (order : MovesInOrder) (keys : MovesHaveKeys
       wrote_lines before after old new all (record { text = h.text; tried = h.tried; wrote = whole })
 
   -- a fault of the sink: some beginning of all
-  cut_short : (before after : List Move) (m : Move) (old mid new : Option (List ℕ))
+  cut_short : (before after : List Move) (m : Move) (old mid new : List ℕ)
       → IsListOf (Precedes g p) (Legal g p) (before ++ m ∷ after) → WroteTo g p n before old mid
       → WritesShort (IsTryText g p n m) mid new → WritesShort (AreTriesListed g p n) old new
   cut_short before after m old mid new all h one =
@@ -265,7 +265,7 @@ module _ (decided : WinsAreDecided) (order : MovesInOrder) (keys : MovesHaveKeys
         stops = stops_within old mid new h.text one.text rest.0 ((h.text ++ one.text) ++ rest.0) refl h.wrote one.stops;
       }
 
-  fault_at : (X Y : Type 0) (before after : List Move) (m : Move) (old mid new : Option (List ℕ)) (fault : TextFault)
+  fault_at : (X Y : Type 0) (before after : List Move) (m : Move) (old mid new : List ℕ) (fault : TextFault)
       → IsListOf (Precedes g p) (Legal g p) (before ++ m ∷ after) → WroteTo g p n before old mid
       → TextEnds {X = X} (IsTryText g p n m) (λ out. out ≡ []) mid new (Err fault)
       → TextEnds {X = Y} (AreTriesListed g p n) (AreLinesOf (AreTriesListed g p n)) old new (Err fault)
@@ -273,7 +273,7 @@ module _ (decided : WinsAreDecided) (order : MovesInOrder) (keys : MovesHaveKeys
   fault_at X Y before after m old mid new Sink all h one = cut_short before after m old mid new all h one
 
   -- a stop before anything was written
-  pub none_written : {X : Type 0} (old : Option (List ℕ)) (r : Result X TextFault) (fault : TextFault) (why : Stop)
+  pub none_written : {X : Type 0} (old : List ℕ) (r : Result X TextFault) (fault : TextFault) (why : Stop)
       → r ≡ Err fault → fault ≡ Stopped why → TextEnds (AreTriesListed g p n) (AreLinesOf (AreTriesListed g p n)) old
       old r
   none_written {X} old r fault why is same =
@@ -284,11 +284,11 @@ module _ (decided : WinsAreDecided) (order : MovesInOrder) (keys : MovesHaveKeys
 
   -- BY PLACES IN THE LIST
 
-  pub at_first : {V : Type 0} (step : V → Move) (xs : List V) (old : Option (List ℕ))
+  pub at_first : {V : Type 0} (step : V → Move) (xs : List V) (old : List ℕ)
       → WroteTo g p n (map step (take 0 xs)) old old
   at_first step xs old = record { text = []; tried = tried_none g p n; wrote = Appends-nil old }
 
-  pub at_next : {V : Type 0} (step : V → Move) (xs : List V) (i : ℕ) (x : V) (old mid new : Option (List ℕ))
+  pub at_next : {V : Type 0} (step : V → Move) (xs : List V) (i : ℕ) (x : V) (old mid new : List ℕ)
       → IsListOf (Precedes g p) (Legal g p) (map step xs) → i < length xs → x ≡ get_or xs i x
       → WroteTo g p n (map step (take i xs)) old mid
       → Writes (IsTryText g p n (step x)) mid new → WroteTo g p n (map step (take (i + 1) xs)) old new
@@ -300,7 +300,7 @@ module _ (decided : WinsAreDecided) (order : MovesInOrder) (keys : MovesHaveKeys
       (wrote_more g p n (map step (take i xs)) (map step (drop (suc i) xs)) (step x) old mid new
       (subst (IsAscending (Precedes g p)) parts.0 all.ascending) h one))
 
-  pub at_fault : {X Y V : Type 0} (step : V → Move) (xs : List V) (i : ℕ) (x : V) (old mid new : Option (List ℕ))
+  pub at_fault : {X Y V : Type 0} (step : V → Move) (xs : List V) (i : ℕ) (x : V) (old mid new : List ℕ)
       (r : Result X TextFault) (s : Result Y TextFault) (fault other : TextFault)
       → IsListOf (Precedes g p) (Legal g p) (map step xs) → i < length xs → x ≡ get_or xs i x
       → WroteTo g p n (map step (take i xs)) old mid → r ≡ Err fault → s ≡ Err other → fault ≡ other
@@ -315,7 +315,7 @@ module _ (decided : WinsAreDecided) (order : MovesInOrder) (keys : MovesHaveKeys
       (fault_at X Y (map step (take i xs)) (map step (drop (suc i) xs)) (step x) old mid new fault
       (subst (IsListOf (Precedes g p) (Legal g p)) parts.0 all) h ended)
 
-  pub at_end : {V : Type 0} (step : V → Move) (xs : List V) (i : ℕ) (old new : Option (List ℕ))
+  pub at_end : {V : Type 0} (step : V → Move) (xs : List V) (i : ℕ) (old new : List ℕ)
       → IsListOf (Precedes g p) (Legal g p) (map step xs) → length xs ≤ i → WroteTo g p n (map step (take i xs)) old new
       → Writes (AreTriesListed g p n) old new
   at_end step xs i old new all end h = record {

@@ -1,8 +1,8 @@
 -- Lemmas on texts that are written piece by piece.
 use Rattle.std.proofs.Common.{◌≡◌, ℕ, List, [], ◌∷◌, ◌++◌, refl, sym, ap, ◌∙◌, subst, inl, append_assoc, append-nil}
 use Rattle.std.proofs.Common.{Option, Result, Ok, Err, true, false, IfOk, IsOkAnd, if◌then◌else◌}
-use Rattle.std.specs.Io.KnownBytes.{Appends}
-use Rattle.std.proofs.KnownBytes.{Appends-trans, Appends-nil}
+use Rattle.dw_notation.specs.Streams.{Appends}
+use Rattle.dw_notation.specs.inner.StreamLemmas.{Appends-trans, Appends-nil}
 use Rattle.dw_board.specs.Geometry.{Geometry}
 use Rattle.dw_board.specs.Placement.{Placement}
 use Rattle.dw_board.specs.Diagram.{diagram_text}
@@ -24,16 +24,16 @@ use Rattle.dw_solve.specs.declared.stop.Stop.{Stop}
 use Rattle.dw_report.specs.declared.problem.TextFault.{TextFault}
 use Rattle.dw_report.specs.declared.problem.TextFault.TheVariants.{Stopped, Sink}
 
-pub at_stop : {X : Type 0} (P Part : List ℕ → Type 0) (old new : Option (List ℕ)) (result : Result X TextFault)
+pub at_stop : {X : Type 0} (P Part : List ℕ → Type 0) (old new : List ℕ) (result : Result X TextFault)
     (why : Stop) → result ≡ Err (Stopped why) → Writes Part old new → TextEnds P Part old new result
 at_stop P Part old new result why e h = subst (TextEnds P Part old new) (sym e) h
 
-pub at_sink : {X : Type 0} (P Part : List ℕ → Type 0) (old new : Option (List ℕ)) (result : Result X TextFault)
+pub at_sink : {X : Type 0} (P Part : List ℕ → Type 0) (old new : List ℕ) (result : Result X TextFault)
     → result ≡ Err Sink → WritesShort P old new → TextEnds P Part old new result
 at_sink P Part old new result e h = subst (TextEnds P Part old new) (sym e) h
 
 -- nothing is whole lines at the front of any text
-pub no_lines : (P : List ℕ → Type 0) → (text : List ℕ) × P text → (old : Option (List ℕ))
+pub no_lines : (P : List ℕ → Type 0) → (text : List ℕ) × P text → (old : List ℕ)
     → Writes (AreLinesOf P) old old
 no_lines P some old = record {
   text = [];
@@ -47,7 +47,7 @@ nothing_lines P some out e = subst (AreLinesOf P) (sym e)
     (record { text = some.0; is = some.1; front = record { back = some.0; joined = refl }; whole = inl refl })
 
 -- a text that is of one kind is of another
-pub text_as : {X : Type 0} (P Q Part Piece : List ℕ → Type 0) (old new : Option (List ℕ)) (r : Result X TextFault)
+pub text_as : {X : Type 0} (P Q Part Piece : List ℕ → Type 0) (old new : List ℕ) (r : Result X TextFault)
     → ((text : List ℕ) → P text → Q text) → ((text : List ℕ) → Part text → Piece text) → TextEnds P Part old new r
     → TextEnds Q Piece old new r
 text_as P Q Part Piece old new (Ok x) to part h = record { text = h.text; is = to h.text h.is; wrote = h.wrote }
@@ -73,7 +73,7 @@ begins_within before out piece after h = record {
 }
 
 -- a piece inside a text was cut short
-pub stops_within : (old mid new : Option (List ℕ)) (before piece after whole : List ℕ)
+pub stops_within : (old mid new : List ℕ) (before piece after whole : List ℕ)
     → whole ≡ (before ++ piece) ++ after → Appends old mid before → StopsShort mid new piece → StopsShort old new whole
 stops_within old mid new before piece after whole split wrote stop = record {
   out = before ++ stop.out;
@@ -97,7 +97,7 @@ known_front g request number (Ok p) Judge text e h = (text, refl)
 known_front g request number (Ok p) Lists text e h = (text, refl)
 
 -- what is known at once was cut short
-pub known_short : (g : Geometry) (request : Request) (problem : Numbered) (old new : Option (List ℕ)) → (text : List ℕ)
+pub known_short : (g : Geometry) (request : Request) (problem : Numbered) (old new : List ℕ) → (text : List ℕ)
     × AreTexts g request (problem ∷ []) text
     → StopsShort old new (heading g request.command problem ++ at_once g problem.found request.command)
     → WritesShort (IsProblemText g request problem) old new
@@ -138,7 +138,7 @@ part_all g request number p Lists lines other h = h
 
 -- behind what is known at once the rest is written
 rest_behind : {X : Type 0} (g : Geometry) (request : Request) (problem : Numbered) (p : Placement)
-    (old mid new : Option (List ℕ)) (result : Result X TextFault) → problem.found ≡ Ok p
+    (old mid new : List ℕ) (result : Result X TextFault) → problem.found ≡ Ok p
     → Appends old mid (heading g request.command problem ++ at_once g (Ok p) request.command)
     → (request.command ≡ Show → (why : Stop) → result ≡ Err (Stopped why) → ⊥)
     → TextEnds (IsRest g request problem.number p) (AreLinesOf (IsRest g request problem.number p)) mid new result
@@ -186,7 +186,7 @@ rest_behind g request problem p old mid new (Err Sink) found first goes h =
 
 -- the same of the command that is asked for, which does not stop where positions are shown
 pub problem_ends : {M X : Type 0} (g : Geometry) (request : Request) (problem : Numbered) (p : Placement)
-    (old mid new : Option (List ℕ)) (was now : Solving M) (result : Result X TextFault) → problem.found ≡ Ok p
+    (old mid new : List ℕ) (was now : Solving M) (result : Result X TextFault) → problem.found ≡ Ok p
     → Appends old mid (heading g request.command problem ++ at_once g problem.found request.command)
     → SearchesFor request.command was now result
     → TextEnds (IsRest g request problem.number p) (AreLinesOf (IsRest g request problem.number p)) mid new result
@@ -198,7 +198,7 @@ problem_ends {M = M} {X = X} g request problem p old mid new was now result foun
 
 -- behind the heading of a refused problem its row is written, or nothing
 pub refusal_behind : {X : Type 0} (g : Geometry) (request : Request) (problem : Numbered) (fault : ProblemFault)
-    (old mid new : Option (List ℕ)) (result : Result X TextFault) → problem.found ≡ Err fault
+    (old mid new : List ℕ) (result : Result X TextFault) → problem.found ≡ Err fault
     → Appends old mid (heading g request.command problem ++ at_once g problem.found request.command)
     → TextEnds (λ text. text ≡ refused_text request.command problem.number fault) (λ out. out ≡ []) mid new result
     → TextEnds (IsProblemText g request problem) (IsProblemPart g request problem) old new result
@@ -248,7 +248,7 @@ refusal_behind {X} g request problem fault old mid new result found first h = at
     }
 
 -- a fault handed on says the same of a text that this one makes up
-pub fault_stays : {X Y : Type 0} (P Q Part Piece : List ℕ → Type 0) (old new : Option (List ℕ)) (r : Result X TextFault)
+pub fault_stays : {X Y : Type 0} (P Q Part Piece : List ℕ → Type 0) (old new : List ℕ) (r : Result X TextFault)
     (s : Result Y TextFault) (fault other : TextFault) → r ≡ Err fault → s ≡ Err other → fault ≡ other
     → ((text : List ℕ) → P text → Q text) → ((text : List ℕ) → Part text → Piece text) → TextEnds P Part old new r
     → TextEnds Q Piece old new s
@@ -296,7 +296,7 @@ one_part_on g request problem e text h = record {
   is = h.is;
 }
 
-pub no_report_on : (g : Geometry) (request : Request) (problem : Numbered) (old : Option (List ℕ))
+pub no_report_on : (g : Geometry) (request : Request) (problem : Numbered) (old : List ℕ)
     → number_is_chosen request.only problem.number ≡ false → Writes (IsReportOn g request (problem ∷ [])) old old
 no_report_on g request problem old e = record {
   text = [];
@@ -304,7 +304,7 @@ no_report_on g request problem old e = record {
   wrote = Appends-nil old;
 }
 
-pub chosen_report_on : (g : Geometry) (request : Request) (problem : Numbered) (old new : Option (List ℕ))
+pub chosen_report_on : (g : Geometry) (request : Request) (problem : Numbered) (old new : List ℕ)
     → number_is_chosen request.only problem.number ≡ true → Writes (IsProblemText g request problem) old new
     → Writes (IsReportOn g request (problem ∷ [])) old new
 chosen_report_on g request problem old new e h = record {
@@ -315,7 +315,7 @@ chosen_report_on g request problem old new e h = record {
 
 -- a row that was made is the rest of the text of a problem
 pub row_ends : {S E X : Type 0} (bytes : S → List ℕ) (g : Geometry) (request : Request) (number : ℕ) (p : Placement)
-    (command : Command) (old new : Option (List ℕ)) (row : Result S E) (result : Result X TextFault)
+    (command : Command) (old new : List ℕ) (row : Result S E) (result : Result X TextFault)
     → request.command ≡ command
     → ((problems : List Numbered) → (text : List ℕ) × AreTexts g request problems text)
     → IfOk row (λ line. IsSaid g command request number p (bytes line))
@@ -335,7 +335,7 @@ row_ends {X = X} bytes g request number p command old new row result e texts mad
 
 -- behind the heading of a refused problem its row is written
 pub refused_row_behind : {S E X : Type 0} (bytes : S → List ℕ) (g : Geometry) (request : Request) (problem : Numbered)
-    (fault : ProblemFault) (old mid new : Option (List ℕ)) (row : Result S E) (result : Result X TextFault)
+    (fault : ProblemFault) (old mid new : List ℕ) (row : Result S E) (result : Result X TextFault)
     → problem.found ≡ Err fault → writes_rows request.command ≡ true
     → IfOk row (λ line. bytes line ≡ refused_row problem.number fault)
     → Appends old mid (heading g request.command problem ++ at_once g problem.found request.command)

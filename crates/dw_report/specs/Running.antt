@@ -2,13 +2,13 @@
 use Rattle.std.specs.Prelude.{◌≡◌, ℕ, ◌+◌, ◌≤◌, ◌<◌, ◌⊎◌, if◌then◌else◌, List, [], ◌∷◌, ◌++◌, length, Bool, true, false}
 use Rattle.std.specs.Prelude.{Option, Some, None, Result, Ok, Err}
 use Rattle.std.specs.List.{list_any}
-use Rattle.std.specs.Io.KnownBytes.{Consumes, Appends, IsAtEnd}
 use Rattle.dw_board.specs.Geometry.{Geometry}
 use Rattle.dw_board.specs.Placement.{Placement}
 use Rattle.dw_moves.specs.Moves.{Move}
 use Rattle.dw_notation.specs.TextLines.{line_feed, Found}
 use Rattle.dw_notation.specs.Problems.{Numbered, AreProblems}
-use Rattle.dw_notation.specs.Writes.{IsBeginning, Writes}
+use Rattle.dw_notation.specs.Streams.{Supply, Reads, IsOver, Appends}
+use Rattle.dw_notation.specs.Writes.{IsBeginning}
 use Rattle.dw_notation.specs.declared.problems.TheConstants.{MAX_PROBLEMS, MAX_READ}
 use Rattle.dw_notation.specs.declared.problems.Form.{Form}
 use Rattle.dw_solve.specs.declared.stop.Stop.{Stop}
@@ -62,30 +62,25 @@ pub record ReadsUpTo (g : Geometry) (form : Form) (number : ℕ) (read : List �
   pub fewer : length ended < number
 
 -- the source was read to its end, or up to the problem with which the run ends: the one requested, or the 1,000,001st
-abbrev pub IsReadThrough : Geometry → Request → List Numbered → Option (List ℕ) → List ℕ → Type 0
-IsReadThrough g request problems left read =
-    IsAtEnd left ⊎ ((number : ℕ) × ((request.only ≡ Some number) ⊎ (number ≡ MAX_PROBLEMS + 1))
+abbrev pub IsReadThrough : Geometry → Request → List Numbered → (ended : Bool) → (read : List ℕ) → Type 0
+IsReadThrough g request problems ended read =
+    (ended ≡ true) ⊎ ((number : ℕ) × ((request.only ≡ Some number) ⊎ (number ≡ MAX_PROBLEMS + 1))
     × (number ≤ length problems) × ReadsUpTo g request.form number read)
 
--- the whole report on these bytes was written and nothing else; the counts are right, and no more was read than needed
-pub record Finishes (g : Geometry) (request : Request) (bytes : List ℕ) (left taken after : Option (List ℕ))
-    (summary : Summary) : Type 0 where
+-- the output is the whole report on these bytes; the counts are right, and no more was read than needed
+pub record IsWhole (g : Geometry) (request : Request) (ended : Bool) (read bytes out : List ℕ) (summary : Summary) :
+    Type 0 where
   pub problems : List Numbered
   pub are : AreProblems g request.form true bytes problems
-  pub wrote : Writes (IsReportOn g request problems) taken after
+  pub report : IsReportOn g request problems out
   pub counts : Counts g request summary problems
-  pub read : List ℕ
-  pub took : Consumes (Some bytes) left read
-  pub through : IsReadThrough g request problems left read
+  pub through : IsReadThrough g request problems ended read
 
 -- after a failed read: the chosen problems that had ended were written, and the requested one had not ended
-pub record StopsReading (g : Geometry) (request : Request) (bytes : List ℕ)
-    (left taken after : Option (List ℕ)) : Type 0 where
-  pub read : List ℕ
-  pub took : Consumes (Some bytes) left read
+pub record StopsReading (g : Geometry) (request : Request) (read out : List ℕ) : Type 0 where
   pub ended : List Numbered
   pub are : AreProblems g request.form false read ended
-  pub wrote : Writes (IsReportOn g request ended) taken after
+  pub report : IsReportOn g request ended out
   pub unasked : list_any (λ problem. number_is_asked request.only problem.number) ended ≡ false
 
 -- some beginning of the report, byte for byte
@@ -128,25 +123,28 @@ pub record IsPart (g : Geometry) (request : Request) (read bytes out : List ℕ)
   pub need : ReadsUpTo g request.form number read
   pub part : IsPartOn g request number problems out
 
--- P holds of the bytes read and the output, whatever bytes follow; or the source's end was met, and P holds if none do
-pub record StopsAhead (P : (read text out : List ℕ) → Type 0) (bytes : List ℕ) (left : Option (List ℕ)) (ended : Bool)
-    (taken after : Option (List ℕ)) : Type 0 where
-  pub read : List ℕ
-  pub took : Consumes (Some bytes) left read
-  pub out : List ℕ
-  pub wrote : Appends taken after out
-  pub front : ((more : List ℕ) → P read (read ++ more) out) ⊎ ((ended ≡ true) × P read read out)
+-- P holds of the bytes read, whatever bytes follow them; or it holds of these alone, and the source's end was met
+abbrev pub HoldsAhead : (P : List ℕ → Type 0) → (after : Supply) → (read : List ℕ) → Type 0
+HoldsAhead P after read = ((more : List ℕ) → P (read ++ more)) ⊎ (IsOver after × P read)
 
--- the output of a run, if the source tells its bytes: the whole report, or a stated beginning of it
-abbrev pub RunEnds : Geometry → Request → Option (List ℕ) → Option (List ℕ) → Bool → Option (List ℕ)
-    → Option (List ℕ) → Result Summary RunFault → Type 0
-RunEnds g request None left ended taken after result = Unit {0}
-RunEnds g request (Some bytes) left ended taken after (Ok summary) = Finishes g request bytes left taken after summary
-RunEnds g request (Some bytes) left ended taken after (Err (ends.Stopped why expanded)) =
-    StopsAhead (IsPart g request) bytes left ended taken after
-RunEnds g request (Some bytes) left ended taken after (Err ends.Read) = StopsReading g request bytes left taken after
-RunEnds g request (Some bytes) left ended taken after (Err ends.Write) =
-    StopsAhead (λ read text out. BeginsReport g request text out) bytes left ended taken after
+-- the output of a run that read these bytes: the whole report, or a stated beginning of it
+abbrev pub RunEnds : Geometry → Request → (after : Supply) → (read out : List ℕ) → Result Summary RunFault → Type 0
+RunEnds g request after read out (Ok summary) =
+    HoldsAhead (λ bytes. IsWhole g request after.has_ended read bytes out summary) after read
+RunEnds g request after read out (Err (ends.Stopped why expanded)) =
+    HoldsAhead (λ bytes. IsPart g request read bytes out) after read
+RunEnds g request after read out (Err ends.Read) = StopsReading g request read out
+RunEnds g request after read out (Err ends.Write) =
+    HoldsAhead (λ bytes. BeginsReport g request bytes out) after read
+
+-- the effect of a run on its source and its sink: it read some bytes, and wrote its output for them
+pub record Runs (g : Geometry) (request : Request) (before after : Supply) (accepted new : List ℕ)
+    (result : Result Summary RunFault) : Type 0 where
+  pub read : List ℕ
+  pub took : Reads before after read
+  pub out : List ℕ
+  pub wrote : Appends accepted new out
+  pub ends : RunEnds g request after read out result
 
 -- how a run may be stopped: `show` never; `moves` and rows only for lack of memory; a search also at its limit, never
 -- above it

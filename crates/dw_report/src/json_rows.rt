@@ -105,7 +105,7 @@ pub(crate) fn write_row<K: Sink>(
     is_refused: bool,
 ) -> Result<bool, TextFault>
     ensures text { TextEnds (λ text. IsOkAnd row (λ line. text ≡ string_bytes line)) (λ out. out ≡ [])
-        (K.taken sink.old) (K.taken sink.new) result }
+        (K.accepted sink.old) (K.accepted sink.new) result }
     ensures sink { SinkEnds (K.is_failed sink.old) (K.is_failed sink.new) result }
     ensures memory { (why : Stop) → result ≡ Err (because.Stopped why) → why ≡ stops.Memory }
     ensures refused { IfOk result (λ refused. refused ≡ is_refused) }

@@ -42,7 +42,7 @@ pub(crate) fn write_judged<B: Board, K: Sink, M: Memo<B>, G: Guide<B>>(
     requires some { 1 ≤ moves }
     requires few { moves ≤ 20 }
     ensures text { TextEnds (IsJudgedText B.geometry position.now moves)
-        (AreLinesOf (IsJudgedText B.geometry position.now moves)) (K.taken sink.old) (K.taken sink.new) result }
+        (AreLinesOf (IsJudgedText B.geometry position.now moves)) (K.accepted sink.old) (K.accepted sink.new) result }
     ensures sink { SinkEnds (K.is_failed sink.old) (K.is_failed sink.new) result }
     ensures spends { Spends solver.old solver.new result }
 {
@@ -84,8 +84,8 @@ fn write_verdict<B: Board, K: Sink, M: Memo<B>, G: Guide<B>>(
 ) -> Result<(), TextFault>
     requires some { 1 ≤ moves }
     requires few { moves ≤ 20 }
-    ensures text { TextEnds (IsVerdictLine B.geometry position.now moves) (λ out. out ≡ []) (K.taken sink.old)
-        (K.taken sink.new) result }
+    ensures text { TextEnds (IsVerdictLine B.geometry position.now moves) (λ out. out ≡ []) (K.accepted sink.old)
+        (K.accepted sink.new) result }
     ensures sink { SinkEnds (K.is_failed sink.old) (K.is_failed sink.new) result }
     ensures spends { Spends solver.old solver.new result }
 {
@@ -106,7 +106,7 @@ fn write_tries<B: Board, K: Sink, M: Memo<B>, G: Guide<B>>(
     requires some { 1 ≤ moves }
     requires few { moves ≤ 20 }
     ensures text { TextEnds (AreTriesListed B.geometry position.now moves)
-        (AreLinesOf (AreTriesListed B.geometry position.now moves)) (K.taken sink.old) (K.taken sink.new) result }
+        (AreLinesOf (AreTriesListed B.geometry position.now moves)) (K.accepted sink.old) (K.accepted sink.new) result }
     ensures sink { SinkEnds (K.is_failed sink.old) (K.is_failed sink.new) result }
     ensures spends { Spends solver.old solver.new result }
 {
@@ -144,8 +144,8 @@ fn write_try<B: Board, K: Sink, M: Memo<B>, G: Guide<B>>(
     requires some { 1 ≤ moves }
     requires few { moves ≤ 20 }
     requires legal { Legal B.geometry position.now mv.now }
-    ensures text { TextEnds (IsTryText B.geometry position.now moves mv.now) (λ out. out ≡ []) (K.taken sink.old)
-        (K.taken sink.new) result }
+    ensures text { TextEnds (IsTryText B.geometry position.now moves mv.now) (λ out. out ≡ []) (K.accepted sink.old)
+        (K.accepted sink.new) result }
     ensures sink { SinkEnds (K.is_failed sink.old) (K.is_failed sink.new) result }
     ensures spends { Spends solver.old solver.new result }
 {

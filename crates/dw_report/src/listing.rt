@@ -1,7 +1,7 @@
 //! The text of a list of lines.
 ghost use Rattle.std.specs.Prelude.{◌≡◌, ◌≤◌, ◌<◌, ◌%◌, ◌↔◌, ◌++◌, true, false, Err, List, length, codes};
 ghost use Rattle.std.specs.Prelude.{decimal, reverse, IfOk, IsErr, IsErrOf, IsTrue, OnOk, OnErr, Some};
-ghost use Rattle.std.specs.Io.KnownBytes.{Appends};
+ghost use Rattle.dw_notation.specs.Streams.{Appends};
 ghost use Rattle.dw_moves.specs.Moves.{Move as AnyMove};
 ghost use Rattle.dw_notation.specs.Text.{ArePlayable};
 ghost use Rattle.dw_notation.specs.Writes.{StopsShort};
@@ -52,7 +52,7 @@ pub(crate) fn write_lines<B: Board, K: Sink, M: Memo<B>, G: Guide<B>>(
     ensures text { TextEnds (IsListedText B.geometry position.now settings.now.n settings.now.lines
         (request_of settings.now).after) (AreLinesOf
         (IsListedText B.geometry position.now settings.now.n settings.now.lines (request_of settings.now).after))
-        (K.taken sink.old) (K.taken sink.new) result }
+        (K.accepted sink.old) (K.accepted sink.new) result }
     ensures sink { SinkEnds (K.is_failed sink.old) (K.is_failed sink.new) result }
     ensures spends { Spends solver.old solver.new result }
     ensures refused { IfOk result (λ refused. IsTrue refused
@@ -80,7 +80,7 @@ fn write_requested<B: Board, K: Sink, M: Memo<B>, G: Guide<B>>(
     ensures text { TextEnds (IsListedText B.geometry position.now settings.now.n settings.now.lines
         (request_of settings.now).after) (AreLinesOf
         (IsListedText B.geometry position.now settings.now.n settings.now.lines (request_of settings.now).after))
-        (K.taken sink.old) (K.taken sink.new) result }
+        (K.accepted sink.old) (K.accepted sink.new) result }
     ensures sink { SinkEnds (K.is_failed sink.old) (K.is_failed sink.new) result }
     ensures spends { Spends (solver_of lister.old) (solver_of lister.new) result }
     ensures refused { IfOk result (λ refused. IsTrue refused
@@ -119,7 +119,7 @@ fn write_after<B: Board, K: Sink, M: Memo<B>, G: Guide<B>>(
     ensures lender { lender lister.new ≡ lender lister.old }
     ensures text { TextEnds (IsListedText B.geometry position.now (stack_of lister.old).moves most (Some line.now))
         (AreLinesOf (IsListedText B.geometry position.now (stack_of lister.old).moves most (Some line.now)))
-        (K.taken sink.old) (K.taken sink.new) result }
+        (K.accepted sink.old) (K.accepted sink.new) result }
     ensures sink { SinkEnds (K.is_failed sink.old) (K.is_failed sink.new) result }
     ensures spends { Spends (solver_of lister.old) (solver_of lister.new) result }
     ensures refused { IfOk result (λ refused. IsTrue refused
@@ -155,7 +155,7 @@ fn write_listing<B: Board, K: Sink, M: Memo<B>, G: Guide<B>>(
     ensures lender { lender lister.new ≡ lender lister.old }
     ensures text { (lines : List (List AnyMove)) → AreToCome B.geometry (stack_of lister.old) lines
         → TextEnds (IsListing B.geometry position.now most lines)
-        (AreLinesOf (IsListing B.geometry position.now most lines)) (K.taken sink.old) (K.taken sink.new) result }
+        (AreLinesOf (IsListing B.geometry position.now most lines)) (K.accepted sink.old) (K.accepted sink.new) result }
     ensures sink { SinkEnds (K.is_failed sink.old) (K.is_failed sink.new) result }
     ensures spends { Spends (solver_of lister.old) (solver_of lister.new) result }
 {
@@ -230,8 +230,8 @@ fn write_row<B: Board, K: Sink>(
     requires few { length line.now ≤ 39 }
     requires legal { ArePlayable B.geometry text.old.start line.now }
     ensures start { text.new.start ≡ text.old.start }
-    ensures text { TextEnds (IsRow B.geometry text.old.start line.now) IsNothing (K.taken sink.old)
-        (K.taken sink.new) result }
+    ensures text { TextEnds (IsRow B.geometry text.old.start line.now) IsNothing (K.accepted sink.old)
+        (K.accepted sink.new) result }
     ensures sink { SinkEnds (K.is_failed sink.old) (K.is_failed sink.new) result }
     ensures memory { (why : Stop) → result ≡ Err (because.Stopped why) → why ≡ Stop.Memory }
 {
@@ -267,8 +267,8 @@ fn write_more<B: Board, K: Sink>(sink: &mut K, last: &[Move<B>]) -> Result<(), W
     requires odd { length last.now % 2 ≡ 1 }
     requires most { length last.now ≤ 39 }
     requires works { K.is_failed sink.old ≡ false }
-    ensures ok { OnOk result (Appends (K.taken sink.old) (K.taken sink.new) (more_after B.geometry last.now)) }
-    ensures err { OnErr result (StopsShort (K.taken sink.old) (K.taken sink.new) (more_after B.geometry last.now)) }
+    ensures ok { OnOk result (Appends (K.accepted sink.old) (K.accepted sink.new) (more_after B.geometry last.now)) }
+    ensures err { OnErr result (StopsShort (K.accepted sink.old) (K.accepted sink.new) (more_after B.geometry last.now)) }
     ensures failed { IsErr result → K.is_failed sink.new ≡ true }
     ensures kept { OnOk result (K.is_failed sink.new ≡ K.is_failed sink.old) }
 {
@@ -292,9 +292,9 @@ fn write_more_after<B: Board, K: Sink>(sink: &mut K, last: &[Move<B>]) -> Result
     requires most { length last.now ≤ 39 }
     requires tokens { has_tokens B.geometry ≡ true }
     requires works { K.is_failed sink.old ≡ false }
-    ensures ok { OnOk result (Appends (K.taken sink.old) (K.taken sink.new)
+    ensures ok { OnOk result (Appends (K.accepted sink.old) (K.accepted sink.new)
         (codes "more after " ++ tokens.token_of B.geometry last.now ++ codes "\n")) }
-    ensures err { OnErr result (StopsShort (K.taken sink.old) (K.taken sink.new)
+    ensures err { OnErr result (StopsShort (K.accepted sink.old) (K.accepted sink.new)
         (codes "more after " ++ tokens.token_of B.geometry last.now ++ codes "\n")) }
     ensures failed { IsErr result → K.is_failed sink.new ≡ true }
     ensures kept { OnOk result (K.is_failed sink.new ≡ K.is_failed sink.old) }

@@ -74,8 +74,8 @@ pub(crate) fn write_problem<B: Board, K: Sink, M: Memo<B>, G: Guide<B>>(
     requires works { K.is_failed sink.old ≡ false }
     requires sound { IsSound B.geometry (request_of settings.now) }
     ensures text { TextEnds (IsProblemText B.geometry (request_of settings.now) (numbered problem.now))
-        (IsProblemPart B.geometry (request_of settings.now) (numbered problem.now)) (K.taken sink.old)
-        (K.taken sink.new) result }
+        (IsProblemPart B.geometry (request_of settings.now) (numbered problem.now)) (K.accepted sink.old)
+        (K.accepted sink.new) result }
     ensures sink { SinkEnds (K.is_failed sink.old) (K.is_failed sink.new) result }
     ensures searches { SearchesFor settings.now.command solver.old solver.new result }
     ensures refused { IfOk result (λ refused. IsTrue refused
@@ -110,8 +110,8 @@ fn write_rest<B: Board, K: Sink, M: Memo<B>, G: Guide<B>>(
     requires works { K.is_failed sink.old ≡ false }
     requires sound { IsSound B.geometry (request_of settings.now) }
     ensures text { TextEnds (IsRest B.geometry (request_of settings.now) number position.now)
-        (AreLinesOf (IsRest B.geometry (request_of settings.now) number position.now)) (K.taken sink.old)
-        (K.taken sink.new) result }
+        (AreLinesOf (IsRest B.geometry (request_of settings.now) number position.now)) (K.accepted sink.old)
+        (K.accepted sink.new) result }
     ensures sink { SinkEnds (K.is_failed sink.old) (K.is_failed sink.new) result }
     ensures searches { SearchesFor settings.now.command solver.old solver.new result }
     ensures refused { IfOk result (λ refused. IsTrue refused
@@ -147,7 +147,7 @@ fn write_moves<B: Board, K: Sink>(
     position: &Position<B>,
 ) -> Result<(), TextFault>
     ensures text { TextEnds (IsMovesText B.geometry position.now) (AreLinesOf (IsMovesText B.geometry position.now))
-        (K.taken sink.old) (K.taken sink.new) result }
+        (K.accepted sink.old) (K.accepted sink.new) result }
     ensures sink { SinkEnds (K.is_failed sink.old) (K.is_failed sink.new) result }
     ensures memory { (why : Stop) → result ≡ Err (because.Stopped why) → why ≡ stops.Memory }
 {

@@ -4,7 +4,7 @@ ghost use Rattle.dw_notation.specs.Problems.{numbered};
 ghost use Rattle.dw_solve.specs.Facts.{AreTrue};
 ghost use Rattle.dw_report.specs.Request.{request_of};
 ghost use Rattle.dw_report.specs.Report.{chosen, IsReportOn};
-ghost use Rattle.dw_report.specs.Running.{RunEnds, StopsRightly, IsPartOn};
+ghost use Rattle.dw_report.specs.Running.{Runs, StopsRightly, IsPartOn};
 ghost use Rattle.dw_report.specs.inner.Running.{TextEnds, SinkEnds, SearchesFor, CountsOne, IsSound, HasRoom};
 ghost use Rattle.dw_report.specs.inner.Running.{ended_by};
 
@@ -41,8 +41,8 @@ pub fn run<B: Board, S: Source, K: Sink, M: Memo<B> + Drop, G: Guide<B> + Drop>(
     requires few { settings.now.n ≤ 20 }
     requires lines { 1 ≤ settings.now.lines }
     requires limit { 1 ≤ settings.now.limit }
-    ensures report { RunEnds B.geometry (request_of settings.now) (S.coming source.old) (S.coming source.new)
-        (S.has_ended source.new) (K.taken sink.old) (K.taken sink.new) result }
+    ensures report { Runs B.geometry (request_of settings.now) (S.supply source.old) (S.supply source.new)
+        (K.accepted sink.old) (K.accepted sink.new) result }
     ensures read { result ≡ Err RunFault.Read → S.is_failed source.new ≡ true }
     ensures write { result ≡ Err RunFault.Write → K.is_failed sink.new ≡ true }
     ensures stopped { StopsRightly settings.now.command settings.now.limit result }
@@ -63,8 +63,8 @@ fn write_report<B: Board, S: Source, K: Sink, M: Memo<B>, G: Guide<B>>(
     requires sink { K.is_failed sink.old ≡ false }
     requires sound { IsSound B.geometry (request_of settings.now) }
     requires fresh { solver.old.expanded ≡ 0 }
-    ensures report { RunEnds B.geometry (request_of settings.now) (S.coming source.old) (S.coming source.new)
-        (S.has_ended source.new) (K.taken sink.old) (K.taken sink.new) result }
+    ensures report { Runs B.geometry (request_of settings.now) (S.supply source.old) (S.supply source.new)
+        (K.accepted sink.old) (K.accepted sink.new) result }
     ensures read { result ≡ Err RunFault.Read → S.is_failed source.new ≡ true }
     ensures write { result ≡ Err RunFault.Write → K.is_failed sink.new ≡ true }
     ensures stopped { StopsRightly settings.now.command solver.old.limit result }
@@ -113,7 +113,7 @@ fn report_problem<B: Board, K: Sink, M: Memo<B>, G: Guide<B>>(
     requires room { HasRoom summary }
     ensures text { TextEnds (IsReportOn B.geometry (request_of settings.now) (numbered problem.now ∷ []))
         (IsPartOn B.geometry (request_of settings.now) problem.now.number (numbered problem.now ∷ []))
-        (K.taken sink.old) (K.taken sink.new) result }
+        (K.accepted sink.old) (K.accepted sink.new) result }
     ensures sink { SinkEnds (K.is_failed sink.old) (K.is_failed sink.new) result }
     ensures searches { SearchesFor settings.now.command solver.old solver.new result }
     ensures counts { IfOk result (λ counted.

@@ -35,7 +35,7 @@ fn arguments_of(rt: &HostRuntime) -> io::Result<Vec<String>> {
 /// Returns the exit status of a program whose arguments make no request. Writes the help to standard output if that was
 /// asked for, and else the reason to standard error.
 pub fn end_refused(rt: &HostRuntime, program: &str, error: &CliError) -> ExitCode
-    ensures { (ending : AnyEnding (Bor (List ℕ))) × (before : Option (List ℕ)) × (after : Option (List ℕ))
+    ensures { (ending : AnyEnding (Bor (List ℕ))) × (before : List ℕ) × (after : List ℕ)
         × (is_failed : Bool) × EndsUnread before after is_failed error.now ending
         × (exit_status result ≡ (outcome_of ending).status) }
 {

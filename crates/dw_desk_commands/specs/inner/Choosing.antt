@@ -3,7 +3,7 @@ use Rattle.std.specs.Prelude.{◌≡◌, ◌⊎◌, ◌++◌, ◌∷◌, if◌th
 use Rattle.std.specs.Prelude.{map, take, nat_le, ⊤}
 use Rattle.std.specs.Borrow.{GName}
 use Rattle.dw_board.specs.Geometry.{Geometry}
-use Rattle.dw_desk_commands.specs.Chosen.{AreChosenOf, as_game, is_in}
+use Rattle.dw_desk_commands.specs.Chosen.{AreChosen, as_game, is_in}
 use Rattle.dw_desk_commands.specs.declared.chosen.Chosen.{Chosen}
 use Rattle.dw_desk_commands.specs.declared.chosen.Text.{Text}
 use Rattle.dw_desk_commands.specs.declared.chosen.Text.TheVariants.{Fens, Pdn}
@@ -14,6 +14,7 @@ use Rattle.dw_games.specs.Games.{NumberedGame}
 use Rattle.dw_games.specs.declared.games.Game.{Game}
 use Rattle.dw_games.specs.inner.GameReaders.{reading_of}
 use Rattle.dw_notation.specs.Reading as problems
+use Rattle.dw_notation.specs.Streams.{Supply, Reads}
 use Rattle.dw_notation.specs.declared.problems.Form.{Form}
 use Rattle.dw_notation.specs.inner.Readers.{reader_of}
 
@@ -37,14 +38,21 @@ abbrev pub AreAhead : {B S : Type 0} → Geometry → Text B S → (bytes : List
 AreAhead g (Fens lines) bytes all = all ≡ map as_game ((reader_of lines).ahead g true bytes)
 AreAhead g (Pdn sections) bytes all = (reading_of sections).ahead g bytes all
 
--- the end that was met is the source's, which has nothing left
-abbrev pub EndIsTrue : {B S : Type 0} → Option (List ℕ) → (has_ended : Bool) → Text B S → Type 0
-EndIsTrue coming has_ended (Fens lines) = problems.EndIsTrue coming has_ended (reader_of lines)
-EndIsTrue coming has_ended (Pdn sections) = games.EndIsTrue coming has_ended (reading_of sections)
+-- whether the end of a text was met
+abbrev pub met_end : {B S : Type 0} → Text B S → Bool
+met_end (Fens lines) = (reader_of lines).met_end
+met_end (Pdn sections) = (reading_of sections).met_end
 
--- for the source of a text: the end that was met is the source's
-abbrev pub EndIsKnown : {B S : Type 0} → (S → Option (List ℕ)) → (S → Bool) → Text B S → Type 0
-EndIsKnown coming has_ended text = EndIsTrue (coming (source_of text)) (has_ended (source_of text)) text
+-- the end that was met is the source's
+abbrev pub EndIsKnown : {B S : Type 0} → (S → Supply) → Text B S → Type 0
+EndIsKnown supply (Fens lines) = problems.EndIsTrue (supply (problems.source_of lines)) (reader_of lines)
+EndIsKnown supply (Pdn sections) = games.EndIsTrue (supply (games.source_of sections)) (reading_of sections)
+
+-- reading went on
+pub record GoesOn {B S : Type 0} (supply : S → Supply) (old new : Text B S) : Type 0 where
+  pub read : List ℕ
+  pub took : Reads (supply (source_of old)) (supply (source_of new)) read
+  pub end : EndIsKnown supply old → EndIsKnown supply new
 
 -- the next game comes with games after it, or none comes
 abbrev pub Comes : {B : Type 0} → (Old New : List NumberedGame → Type 0) → Option (Game B) → Type 0
@@ -52,13 +60,14 @@ Comes Old New None = Old []
 Comes Old New (Some game) =
     ((all : List NumberedGame) → New all → Old (numbered_game game ∷ all)) × ((all : List NumberedGame) × New all)
 
--- the next game of a text, and what is still to be read after it
-abbrev pub ComesNext : {B S : Type 0} → Geometry → (S → Option (List ℕ)) → (S → Bool) → (old new : Text B S)
-    → Option (Game B) → Type 0
-ComesNext g coming has_ended old new found =
-    (bytes : List ℕ) → coming (source_of old) ≡ Some bytes → EndIsKnown coming has_ended old
-    → (rest : List ℕ) × (coming (source_of new) ≡ Some rest)
-    × Comes (AreAhead g old bytes) (AreAhead g new rest) found
+-- The next game of a text, whatever bytes may follow those read. After the end nothing is read.
+pub record ComesNext {B S : Type 0} (g : Geometry) (supply : S → Supply) (old new : Text B S)
+    (found : Option (Game B)) : Type 0 where
+  pub read : List ℕ
+  pub took : Reads (supply (source_of old)) (supply (source_of new)) read
+  pub still : met_end old ≡ true → (read ≡ []) × (met_end new ≡ true)
+  pub comes : (rest : List ℕ) → (met_end new ≡ true → rest ≡ [])
+      → Comes (AreAhead g old (read ++ rest)) (AreAhead g new rest) found
 
 -- the last number is met, or passed
 abbrev pub is_met : Option ℕ → ℕ → Bool
@@ -77,40 +86,41 @@ abbrev pub AreLeft : Portion → (left : ℕ) → (Ahead : List NumberedGame →
 AreLeft portion left Ahead found =
     ((left ≡ 0) × (found ≡ [])) ⊎ ((all : List NumberedGame) × Ahead all × (found ≡ up_to portion (take left all)))
 
--- the games of a portion that are still to come, if what the source still gives is known
-abbrev pub AreComing : {B S : Type 0} → Geometry → (S → Option (List ℕ)) → (S → Bool) → Portion → (left : ℕ) → Text B S
+-- the whole text is what was read of a source and these bytes, which may still come
+pub record IsRest {B S : Type 0} (supply : S → Supply) (whole : List ℕ) (text : Text B S) (rest : List ℕ) : Type 0 where
+  pub joined : whole ≡ (supply (source_of text)).told ++ rest
+  pub may : met_end text ≡ true → rest ≡ []
+
+-- the games of a portion that are still to come, if this is the whole text
+abbrev pub AreComing : {B S : Type 0} → Geometry → (S → Supply) → Portion → (left : ℕ) → Text B S → (whole : List ℕ)
     → List NumberedGame → Type 0
-AreComing g coming has_ended portion left text found =
-    (bytes : List ℕ) → coming (source_of text) ≡ Some bytes → EndIsKnown coming has_ended text
-    → AreLeft portion left (AreAhead g text bytes) found
+AreComing g supply portion left text whole found =
+    (rest : List ℕ) × IsRest supply whole text rest × AreLeft portion left (AreAhead g text rest) found
 
--- the chosen games that are still to come
+-- the chosen games that are still to come, if this is the whole text
 -- Sealed: the clauses of commands name it, and say all that is to be known of it.
-unfoldable pub AreToCome : {B S : Type 0} → Geometry → (S → Option (List ℕ)) → (S → Bool) → Chosen B S
+unfoldable pub AreToCome : {B S : Type 0} → Geometry → (S → Supply) → Chosen B S → (whole : List ℕ)
     → List NumberedGame → Type 0
-AreToCome g coming has_ended chosen found = AreComing g coming has_ended chosen.portion chosen.left chosen.text found
+AreToCome g supply chosen whole found = AreComing g supply chosen.portion chosen.left chosen.text whole found
 
--- the bytes that a text still gives are known, and its end too if that was met
-abbrev pub IsTextKnown : {B S : Type 0} → (S → Option (List ℕ)) → (S → Bool) → Text B S → Type 0
-IsTextKnown coming has_ended text =
-    ((bytes : List ℕ) × (coming (source_of text) ≡ Some bytes)) × EndIsKnown coming has_ended text
-
--- the same of the text of which games are chosen
+-- this may be the whole text, by what was read of it
 -- Sealed: the clauses of commands name it, and say all that is to be known of it.
-unfoldable pub IsKnown : {B S : Type 0} → (S → Option (List ℕ)) → (S → Bool) → Chosen B S → Type 0
-IsKnown coming has_ended chosen = IsTextKnown coming has_ended chosen.text
+unfoldable pub MayBe : {B S : Type 0} → (S → Supply) → Chosen B S → (whole : List ℕ) → Type 0
+MayBe supply chosen whole = (rest : List ℕ) × IsRest supply whole chosen.text rest
 
--- Nothing was read yet: the chosen games are all that are to come, and if it is known what the source gives, it is
--- known of the text.
-pub record IsFresh {B S : Type 0} (g : Geometry) (coming : S → Option (List ℕ)) (has_ended : S → Bool) (form : Form)
-    (query : Portion) (chosen : Chosen B S) : Type 0 where
-  pub all : (games : List NumberedGame) → AreToCome g coming has_ended chosen games
-      → AreChosenOf g form query (coming (source_of chosen.text)) games
-  pub known : (bytes : List ℕ) → coming (source_of chosen.text) ≡ Some bytes → IsKnown coming has_ended chosen
+-- nothing was read yet: the chosen games of a text are those of what follows the bytes read before
+pub record IsFresh {B S : Type 0} (g : Geometry) (supply : S → Supply) (form : Form) (query : Portion)
+    (chosen : Chosen B S) : Type 0 where
+  pub all : (whole : List ℕ) (games : List NumberedGame) → AreToCome g supply chosen whole games
+      → (bytes : List ℕ) × (whole ≡ (supply (source_of chosen.text)).told ++ bytes)
+      × AreChosen g form query bytes games
+  pub end : EndIsKnown supply chosen.text
   pub portion : chosen.portion ≡ query
   pub runs : Runs chosen.text
 
 -- of the games that are to come the first is handed out, and those after it stay to come; or none comes
-abbrev pub HandsOut : (Old New : List NumberedGame → Type 0) → Option NumberedGame → Type 0
-HandsOut Old New None = Old []
-HandsOut Old New (Some game) = (more : List NumberedGame) → New more → Old (game ∷ more)
+abbrev pub HandsOut : (Old New : (whole : List ℕ) → List NumberedGame → Type 0) → (MayBe : (whole : List ℕ) → Type 0)
+    → Option NumberedGame → Type 0
+HandsOut Old New MayBe None = (whole : List ℕ) → MayBe whole → Old whole []
+HandsOut Old New MayBe (Some game) =
+    (whole : List ℕ) (more : List NumberedGame) → New whole more → Old whole (game ∷ more)

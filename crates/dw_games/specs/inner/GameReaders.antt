@@ -9,6 +9,7 @@ use Rattle.dw_games.specs.GameReading.{Reader, numbered_game, is_failure}
 use Rattle.dw_notation.specs.Numbering.{handed_out}
 use Rattle.dw_notation.specs.TextLines.{Found}
 use Rattle.dw_notation.specs.Buffering.{Input, input_of, Passes}
+use Rattle.dw_notation.specs.Streams.{Supply}
 use Rattle.dw_games.specs.inner.Playing.{unclosed}
 use Rattle.dw_games.specs.declared.games.Game.{Game}
 use Rattle.dw_games.specs.declared.games.Games.{Games}
@@ -69,11 +70,11 @@ abbrev pub counted_found : ℕ → Found → Found
 counted_found handed found = if nat_lt handed MAX_PROBLEMS then found else Err TooManyProblems
 
 -- a game was read from a text, or the text has none; more may come of both
-pub record ReadsGame {B S : Type 0} (g : Geometry) (coming : S → Option (List ℕ)) (has_ended is_failed : S → Bool)
+pub record ReadsGame {B S : Type 0} (g : Geometry) (supply : S → Supply) (is_failed : S → Bool)
     (pulls : S → ℕ) (old new : Games B S) (result : Result (Option (Game B)) GameFault) :
     Type 0 where
   pub passed : List ℕ
-  pub passes : Passes coming has_ended is_failed pulls (input_in old) (input_in new) passed (is_failure result)
+  pub passes : Passes supply is_failed pulls (input_in old) (input_in new) passed (is_failure result)
   pub gives : IfOk result (λ given. MatchOption given ((new.stage ≡ Over)
       × ((bytes : List ℕ) → ((input_in new).met_end ≡ true → bytes ≡ [])
       → IsAhead g (input_in old) Reading (handed_out old.numbers) (passes.read ++ bytes) []))

@@ -10,6 +10,7 @@ use Rattle.dw_notation.specs.declared.problems.ProblemFault.TheVariants.{Unclose
 use Rattle.dw_games.specs.Games.{Said, said_with, HasGames}
 use Rattle.dw_games.specs.GameReading.{is_failure}
 use Rattle.dw_notation.specs.Buffering.{Input, Passes}
+use Rattle.dw_notation.specs.Streams.{Supply}
 use Rattle.dw_games.specs.inner.Keeping.{IsKept}
 use Rattle.dw_games.specs.declared.games.GameFault.{GameFault}
 use Rattle.dw_games.specs.declared.bounded_buf.BoundedBuf.{BoundedBuf}
@@ -48,20 +49,20 @@ EndsAt Text input = (input.unread ≡ []) × (input.met_end ≡ true)
 EndsAt Open input = (input.unread ≡ []) × (input.met_end ≡ true)
 
 -- bytes without a section are passed and kept
-pub record ReadsPlay {S : Type 0} (coming : S → Option (List ℕ)) (has_ended is_failed : S → Bool) (pulls : S → ℕ)
+pub record ReadsPlay {S : Type 0} (supply : S → Supply) (is_failed : S → Bool) (pulls : S → ℕ)
     (old new : Input S) (before after : BoundedBuf) (result : Result PlayEnd GameFault) : Type 0 where
   pub passed : List ℕ
-  pub passes : Passes coming has_ended is_failed pulls old new passed (is_failure result)
+  pub passes : Passes supply is_failed pulls old new passed (is_failure result)
   pub kept : OnOk result ((limit : ℕ) (text : List ℕ) → IsKept limit text before → IsKept limit (text ++ passed) after)
   pub said : IfOk result (λ end. (g : Geometry) (bytes : List ℕ) (games : List Said)
       → Follows g end (new.unread ++ bytes) games → HasGames g (passed ++ (new.unread ++ bytes)) passed games)
   pub ends : IfOk result (λ end. EndsAt end new)
 
 -- so far bytes without a section were passed and kept
-pub record PlaysOn {S : Type 0} (coming : S → Option (List ℕ)) (has_ended is_failed : S → Bool) (pulls : S → ℕ)
+pub record PlaysOn {S : Type 0} (supply : S → Supply) (is_failed : S → Bool) (pulls : S → ℕ)
     (old now : Input S) (before kept : BoundedBuf) (is_comment : Bool) : Type 0 where
   pub passed : List ℕ
-  pub passes : Passes coming has_ended is_failed pulls old now passed false
+  pub passes : Passes supply is_failed pulls old now passed false
   pub keeps : (limit : ℕ) (text : List ℕ) → IsKept limit text before → IsKept limit (text ++ passed) kept
   pub said : (g : Geometry) (more front : List ℕ) (games : List Said) → HasGamesFrom is_comment g more front games
       → HasGames g (passed ++ more) (passed ++ front) games

@@ -12,6 +12,7 @@ use Rattle.dw_notation.specs.declared.problems.section_reader.SectionReader.{Sec
 use Rattle.dw_games.specs.Games.{Said, said_with, HasGames}
 use Rattle.dw_games.specs.GameReading.{is_failure}
 use Rattle.dw_notation.specs.Buffering.{Input, Passes}
+use Rattle.dw_notation.specs.Streams.{Supply}
 use Rattle.dw_games.specs.inner.Keeping.{IsKept, spaces_on, row_of}
 use Rattle.dw_games.specs.declared.games.GameFault.{GameFault}
 use Rattle.dw_games.specs.declared.bounded_buf.BoundedBuf.{BoundedBuf}
@@ -55,21 +56,21 @@ EndsWell (Ok position) seen = IsRow seen
 EndsWell (Err fault) seen = Unit {0}
 
 -- so far the bytes of a section were passed, and they and the spaces at their end are kept
-pub record ReadsOn {B S : Type 0} (g : Geometry) (coming : S → Option (List ℕ)) (has_ended is_failed : S → Bool)
+pub record ReadsOn {B S : Type 0} (g : Geometry) (supply : S → Supply) (is_failed : S → Bool)
     (pulls : S → ℕ) (old now : Input S) (begun row before kept : BoundedBuf) (reader : SectionReader B) : Type 0 where
   pub passed : List ℕ
-  pub passes : Passes coming has_ended is_failed pulls old now passed false
+  pub passes : Passes supply is_failed pulls old now passed false
   pub rows : (limit : ℕ) → IsKept limit [] begun → IsKept limit passed row
   pub keeps : (limit : ℕ) → IsKept limit [] before → IsKept limit (spaces_on [] passed) kept
   pub said : (over : Bool) (more : List ℕ) → SectionsSay g over (passed ++ more) (ahead_of reader g over more)
   pub unsaid : ahead_of reader g false [] ≡ []
 
 -- a section is passed, with the games of a text that goes on after it
-pub record ReadsSection {S : Type 0} (g : Geometry) (coming : S → Option (List ℕ)) (has_ended is_failed : S → Bool)
+pub record ReadsSection {S : Type 0} (g : Geometry) (supply : S → Supply) (is_failed : S → Bool)
     (pulls : S → ℕ) (old new : Input S) (begun row before after : BoundedBuf)
     (result : Result (Option Found) GameFault) : Type 0 where
   pub passed : List ℕ
-  pub passes : Passes coming has_ended is_failed pulls old new passed (is_failure result)
+  pub passes : Passes supply is_failed pulls old new passed (is_failure result)
   pub rows : OnOk result ((limit : ℕ) → IsKept limit [] begun → IsKept limit passed row)
   pub kept : OnOk result ((limit : ℕ) → IsKept limit [] before → IsKept limit (spaces_on [] passed) after)
   pub ends : IfOk result (λ said. MatchOption said ⊥ (λ found. EndsWell found passed))

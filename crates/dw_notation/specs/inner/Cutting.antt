@@ -1,10 +1,10 @@
 -- The progress of a reader of problems, and how the pieces of a text are cut off and handed out.
-use Rattle.std.specs.Prelude.{◌≡◌, ℕ, ◌≤◌, ◌==◌, ◌&&◌, ◌⊎◌, List, [], ◌++◌, length, Bool, true, false, not, Option}
+use Rattle.std.specs.Prelude.{◌≡◌, ℕ, ◌≤◌, ◌==◌, ◌&&◌, ◌⊎◌, List, [], ◌++◌, length, Bool, true, false, not}
 use Rattle.std.specs.Prelude.{option_to_list, Result, Ok, Err, nat_le}
-use Rattle.std.specs.Io.KnownBytes.{Consumes}
 use Rattle.dw_board.specs.Geometry.{Geometry}
 use Rattle.dw_notation.specs.TextLines.{Found}
 use Rattle.dw_notation.specs.Buffering.{unread_in, met_end_in}
+use Rattle.dw_notation.specs.Streams.{Supply, Reads}
 use Rattle.dw_notation.specs.Numbering.{handed_out}
 use Rattle.dw_notation.specs.Problems.{Numbered, number_from}
 use Rattle.dw_notation.specs.Reading.{Reader, ReadsAtNeed}
@@ -79,42 +79,51 @@ ReadsOnAtNeed progress read =
     (read ≡ []) ⊎ ((before : List ℕ) × (last : List ℕ) × (read ≡ before ++ last) × (length last ≤ MAX_READ)
     × ((g : Geometry) → found_ahead false g progress before ≡ []))
 
+-- after the end nothing is read, and the end stays met
+abbrev pub StaysOver : Progress → Progress → List ℕ → Type 0
+StaysOver old new read = old.met_end ≡ true → (read ≡ []) × (new.met_end ≡ true)
+
 -- reading on, with nothing cut off
-pub record CarriesOn (coming left : Option (List ℕ)) (old new : Progress) : Type 0 where
+pub record CarriesOn (before after : Supply) (old new : Progress) : Type 0 where
   pub read : List ℕ
-  pub took : Consumes coming left read
+  pub took : Reads before after read
+  pub still : StaysOver old new read
   pub need : ReadsOnAtNeed old read
   pub same : (g : Geometry) (at_end : Bool) (more : List ℕ)
       → found_ahead at_end g old (read ++ more) ≡ found_ahead at_end g new more
 
 -- a piece is cut off
-pub record TakesPiece (coming left : Option (List ℕ)) (old new : Progress) : Type 0 where
+pub record TakesPiece (before after : Supply) (old new : Progress) : Type 0 where
   pub read : List ℕ
-  pub took : Consumes coming left read
+  pub took : Reads before after read
+  pub still : StaysOver old new read
   pub need : ReadsOnAtNeed old read
   pub same : (g : Geometry) (at_end : Bool) (more : List ℕ)
       → found_ahead at_end g old (read ++ more) ≡ found_cut g new ++ found_behind at_end g new more
 
 -- the last piece of the text is cut off, which its end ends
-pub record TakesLast (coming left : Option (List ℕ)) (old new : Progress) : Type 0 where
+pub record TakesLast (before after : Supply) (old new : Progress) : Type 0 where
   pub read : List ℕ
-  pub took : Consumes coming left read
+  pub took : Reads before after read
+  pub still : StaysOver old new read
   pub need : ReadsOnAtNeed old read
   pub same : (g : Geometry) → found_ahead true g old read ≡ found_cut g new
   pub none : new.rest ≡ []
   pub over : (g : Geometry) → pieces_behind true g new.pieces [] ≡ []
 
 -- the effect of reading up to the end of a piece
-abbrev pub ReadsPiece : Option (List ℕ) → Option (List ℕ) → Progress → Progress → Result Bool ReadFault → Type 0
-ReadsPiece coming left old new (Ok true) = TakesPiece coming left old new
-ReadsPiece coming left old new (Ok false) = TakesLast coming left old new × (new.met_end ≡ true)
-ReadsPiece coming left old new (Err fault) = CarriesOn coming left old new × (new.rest ≡ []) × (new.met_end ≡ false)
+abbrev pub ReadsPiece : Supply → Supply → Progress → Progress → Result Bool ReadFault → Type 0
+ReadsPiece before after old new (Ok true) = TakesPiece before after old new
+ReadsPiece before after old new (Ok false) = TakesLast before after old new × (new.met_end ≡ true)
+ReadsPiece before after old new (Err fault) =
+    CarriesOn before after old new × (new.rest ≡ []) × (new.met_end ≡ false)
 
 -- reading on, with these problems handed out
-pub record HandsOut (g : Geometry) (coming left : Option (List ℕ)) (old new : Progress)
-    (problems : List Numbered) : Type 0 where
+pub record HandsOut (g : Geometry) (before after : Supply) (old new : Progress) (problems : List Numbered) :
+    Type 0 where
   pub read : List ℕ
-  pub took : Consumes coming left read
+  pub took : Reads before after read
+  pub still : StaysOver old new read
   pub need : ReadsAtNeed g (reader_at old) read
   pub same : (at_end : Bool) (more : List ℕ)
       → problems_from at_end g old (read ++ more) ≡ problems ++ problems_from at_end g new more

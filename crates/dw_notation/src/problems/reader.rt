@@ -156,12 +156,10 @@ impl<'a, B: Board, S: Source> Problems<'a, B, S> {
     fn next_piece(&mut self) -> Result<bool, ReadFault>
         ensures lender { lender self.new ≡ lender self.old }
         ensures numbers { self.new.numbers ≡ self.old.numbers }
-        ensures piece { ReadsPiece (S.coming (source_of self.old)) (S.coming (source_of self.new))
+        ensures piece { ReadsPiece (S.supply (source_of self.old)) (S.supply (source_of self.new))
             (progress_of self.old) (progress_of self.new) result }
-        ensures end { EndIsKnown (S.coming (source_of self.old)) (S.has_ended (source_of self.old))
-            (met_end_in self.old.buffer)
-            → EndIsKnown (S.coming (source_of self.new)) (S.has_ended (source_of self.new))
-            (met_end_in self.new.buffer) }
+        ensures end { EndIsKnown (S.supply (source_of self.old)) (met_end_in self.old.buffer)
+            → EndIsKnown (S.supply (source_of self.new)) (met_end_in self.new.buffer) }
         ensures failed { S.is_failed (source_of self.new) ≡ (S.is_failed (source_of self.old) || is_err result) }
         ensures stays { met_end_in self.old.buffer ≡ true → met_end_in self.new.buffer ≡ true }
         ensures again { S.is_failed (source_of self.old) ≡ true → IsStarved (progress_of self.old) → IsErr result }
@@ -205,11 +203,10 @@ impl<'a, B: Board, S: Source> Problems<'a, B, S> {
     #[tactic(auto, unfolding(crate::specs::inner::Readers::reader_of))]
     pub fn next(&mut self) -> Result<Option<Problem<B>>, ReadFault>
         ensures lender { lender self.new ≡ lender self.old }
-        ensures given { NextGives B.geometry
-            (S.coming (source_of self.old)) (S.coming (source_of self.new))
+        ensures given { NextGives B.geometry (S.supply (source_of self.old)) (S.supply (source_of self.new))
             (reader_of self.old) (reader_of self.new) result }
-        ensures end { EndIsTrue (S.coming (source_of self.old)) (S.has_ended (source_of self.old)) (reader_of self.old)
-            → EndIsTrue (S.coming (source_of self.new)) (S.has_ended (source_of self.new)) (reader_of self.new) }
+        ensures end { EndIsTrue (S.supply (source_of self.old)) (reader_of self.old)
+            → EndIsTrue (S.supply (source_of self.new)) (reader_of self.new) }
         ensures failed { S.is_failed (source_of self.new) ≡ (S.is_failed (source_of self.old) || is_err result) }
         ensures stopped { IsErr result
             → HasStopped (S.is_failed (source_of self.new)) (reader_of self.new) }

@@ -44,7 +44,7 @@ impl Buffer {
     ///
     /// `Failed` if the source fails.
     pub fn fill<S: Source>(&mut self, source: &mut S) -> Result<(), ReadFault>
-        ensures passes { Passes S.coming S.has_ended S.is_failed S.pulls_left (input_of source.old self.old)
+        ensures passes { Passes S.supply S.is_failed S.pulls_left (input_of source.old self.old)
             (input_of source.new self.new) [] (is_err result) }
         ensures more { IfOk result (λ _. unread_in self.new ≡ [] → met_end_in self.new ≡ true) }
         ensures need { (unread_in self.old ≡ []) ⊎ (input_of source.new self.new ≡ input_of source.old self.old) }

@@ -1,27 +1,30 @@
 //! A reader of std as a source.
-ghost use Rattle.std.specs.Prelude.{◌≡◌, false};
+ghost use Rattle.std.specs.Prelude.{◌≡◌, [], false};
 
-use super::Source;
+use super::{History, Source};
 use std::io;
 
 /// The most reads that one `Reading` makes.
 pub const MAX_READS: u64 = 1_000_000_000_000;
 
-/// A reader of std as a source. It makes at most `MAX_READS` reads, and none after one that failed.
+/// A reader of std as a source, with the bytes that it returned. It makes at most `MAX_READS` reads, and none after one
+/// that failed.
 #[derive(Drop)]
 pub struct Reading<R> {
     reader: R,
     reads: u64,
     has_ended: bool,
     has_failed: bool,
+    told: History,
 }
 
 impl<R: io::Read> Reading<R> {
-    ghost use Rattle.dw_notation.specs.Endpoints.{read_from, has_read_all, has_read_failed, reads_left};
+    ghost use Rattle.dw_notation.specs.Endpoints.{read_from, told_by, has_read_all, has_read_failed, reads_left};
 
     /// Returns a source of the bytes that the reader has still to give.
     pub fn new(reader: R) -> Reading<R>
         ensures reader { read_from result ≡ reader }
+        ensures told { told_by result ≡ [] }
         ensures unended { has_read_all result ≡ false }
         ensures sound { has_read_failed result ≡ false }
         ensures reads { reads_left result ≡ MAX_READS }
@@ -31,16 +34,19 @@ impl<R: io::Read> Reading<R> {
             reads: 0,
             has_ended: false,
             has_failed: false,
+            told: History::new(),
         }
     }
 }
 
 impl<R: io::Read> Source for Reading<R> {
-    ghost use Rattle.dw_notation.specs.Endpoints.{read_from, has_read_all, has_read_failed, reads_left};
+    ghost use Rattle.dw_notation.specs.Endpoints.{read_from, told_by, has_read_all, has_read_failed, reads_left};
 
-    ghost coming = { λ s. R.remaining (read_from s) };
-
-    ghost has_ended = { λ s. has_read_all s };
+    ghost supply = { λ s. record {
+      told = told_by s;
+      coming = R.remaining (read_from s);
+      has_ended = has_read_all s;
+    } };
 
     ghost is_failed = { λ s. has_read_failed s };
 
@@ -55,6 +61,7 @@ impl<R: io::Read> Source for Reading<R> {
         match self.reader.read(buffer) {
             Ok(count) => {
                 self.has_ended = self.has_ended || count == 0;
+                self.told.add(&buffer[..count]);
                 Some(count)
             }
             Err(_) => {

@@ -1,5 +1,5 @@
 -- The effect of the parts of a run.
-use Rattle.std.specs.Prelude.{◌≡◌, ℕ, ◌+◌, ◌≤◌, ◌<◌, List, [], ◌∷◌, ◌++◌, length, Bool, true, false, Option, Result, Ok}
+use Rattle.std.specs.Prelude.{◌≡◌, ℕ, ◌+◌, ◌≤◌, ◌<◌, List, [], ◌∷◌, ◌++◌, length, Bool, true, false, Result, Ok}
 use Rattle.std.specs.Prelude.{Err}
 use Rattle.dw_board.specs.Geometry.{Geometry}
 use Rattle.dw_board.specs.Placement.{Placement}
@@ -65,7 +65,7 @@ abbrev pub IsRest : Geometry → Request → ℕ → Placement → List ℕ → 
 IsRest g request number p text = IsSaidThen g request.command request number p text
 
 -- the effect of writing a text: it was written; after a stop a part of it; after a fault of the sink some beginning
-abbrev pub TextEnds : {X : Type 0} → (List ℕ → Type 0) → (List ℕ → Type 0) → Option (List ℕ) → Option (List ℕ)
+abbrev pub TextEnds : {X : Type 0} → (List ℕ → Type 0) → (List ℕ → Type 0) → List ℕ → List ℕ
     → Result X TextFault → Type 0
 TextEnds P Part old new (Ok x) = Writes P old new
 TextEnds P Part old new (Err (Stopped why)) = Writes Part old new

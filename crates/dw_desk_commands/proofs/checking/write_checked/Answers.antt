@@ -1,6 +1,6 @@
 use Rattle.std.proofs.Common.{◌∙◌, sym, subst}
 use Rattle.std.specs.Prelude.{MatchBool}
-use Rattle.std.specs.Io.KnownBytes.{Appends}
+use Rattle.dw_notation.specs.Streams.{Appends}
 use Rattle.std.specs.String.{string_bytes}
 use Rattle.dw_json.specs.inner.Composing.{then_ok}
 use Rattle.dw_notation.specs.Problems.{numbered}
@@ -10,7 +10,7 @@ use Rattle.dw_desk_commands.proofs.checking.write_checked.Goals as goal
 pub returns-then-json-clause-text : goal.returns-then-json-clause-text
 returns-then-json-clause-text g c = λ said is are.
     let geo = g.B.Board.geometry in
-    let taken = g.K.Sink.taken in
+    let taken = g.K.Sink.accepted in
     let s = c.args.solution.now in
     let text = string_bytes c.in_ok-line.line in (
       text,

@@ -1,6 +1,6 @@
 use Rattle.std.proofs.Common.{◌∙◌, sym, subst}
-use Rattle.std.specs.Io.KnownBytes.{Appends}
-use Rattle.std.proofs.KnownBytes.{Appends-trans}
+use Rattle.dw_notation.specs.Streams.{Appends}
+use Rattle.dw_notation.specs.inner.StreamLemmas.{Appends-trans}
 use Rattle.dw_notation.specs.Problems.{numbered}
 use Rattle.dw_report.specs.Report.{first_line}
 use Rattle.dw_desk_commands.specs.Checking.{fault_text, refused_line}
@@ -9,7 +9,7 @@ use Rattle.dw_desk_commands.proofs.checking.write_fault.Goals as goal
 pub returns-clause-text : goal.returns-clause-text
 returns-clause-text g c =
     let geo = g.B.Board.geometry in
-    let taken = g.K.Sink.taken in
+    let taken = g.K.Sink.accepted in
     let problem = numbered c.args.problem.now in
     let start = taken c.args.sink.now in
     let middle = taken c.write_all-2.new.sink in

@@ -1,8 +1,8 @@
 use Rattle.std.proofs.Common.{◌≡◌, ◌∙◌, ◌++◌, inl, inr, map, refl, sym, ap, subst, Some}
 use Rattle.std.proofs.lemmas.Bool.{cases_Bool, true≢false}
-use Rattle.std.specs.Io.KnownBytes.{Appends}
+use Rattle.dw_notation.specs.Streams.{Appends}
 use Rattle.std.specs.String.{string_bytes}
-use Rattle.std.proofs.KnownBytes.{Appends-trans}
+use Rattle.dw_notation.specs.inner.StreamLemmas.{Appends-trans}
 use Rattle.dw_report.specs.Report.{first_line}
 use Rattle.dw_notation.specs.Problems.{numbered}
 use Rattle.dw_study.specs.Telling.{remark_in}
@@ -16,7 +16,7 @@ returns-clause-text g c = λ said is are.
     let p = s.tree.now.start in
     let n = s.n in
     let tree = s.tree.now.paths in
-    let taken = g.K.Sink.taken in
+    let taken = g.K.Sink.accepted in
     let start = taken c.args.sink.now in
     let named = taken c.write_all.new.sink in
     let first = taken c.write_all-2.new.sink in

@@ -1,5 +1,5 @@
 use Rattle.std.proofs.Common.{◌++◌, [], sym, subst}
-use Rattle.std.proofs.KnownBytes.{Appends-nil, Appends-trans}
+use Rattle.dw_notation.specs.inner.StreamLemmas.{Appends-nil, Appends-trans}
 use Rattle.dw_study.specs.RemarkText.{IsRemarkText}
 use Rattle.dw_study.specs.Telling.{remark_in}
 use Rattle.dw_desk_commands.specs.ProblemText.{AreTexts, nothing, one_more}
@@ -8,14 +8,14 @@ use Rattle.dw_desk_commands.proofs.checking.write_remarks.Goals as goal
 
 pub remarks-init : goal.remarks-init
 remarks-init g c = record {
-  texts = λ said e can. ([], nothing, Appends-nil (g.K.Sink.taken c.args.sink.now));
+  texts = λ said e can. ([], nothing, Appends-nil (g.K.Sink.accepted c.args.sink.now));
   works = c.requires;
 }
 
 pub remarks-preserved : goal.remarks-preserved
 remarks-preserved g c =
     let One = IsRemarkText g.B.Board.geometry c.args.tree.now.start in
-    let taken = g.K.Sink.taken in
+    let taken = g.K.Sink.accepted in
     record {
       texts = λ said e can.
           let at = says_at (remark_in c.args.tree.now.paths) c.args.remarks.now said c.remarks.remark-index

@@ -1,5 +1,5 @@
 use Rattle.std.proofs.Common.{◌≡◌, ℕ, List, Some, false, map, take}
-use Rattle.std.specs.Io.KnownBytes.{Appends}
+use Rattle.dw_notation.specs.Streams.{Appends}
 use Rattle.dw_board.specs.Lists.{Member}
 use Rattle.dw_study.specs.RemarkText.{HasTexts, IsRemarkText}
 use Rattle.dw_study.specs.Remarks.{Remark}
@@ -13,6 +13,6 @@ invariant-remarks g l = record {
       → ((r : Remark) → Member r said → HasTexts g.B.Board.geometry l.tree.start r)
       → (told : List ℕ)
       × AreTexts (IsRemarkText g.B.Board.geometry l.tree.start) (take l.remark-index said) told
-      × Appends (g.K.Sink.taken l.initial.sink) (g.K.Sink.taken l.sink) told;
+      × Appends (g.K.Sink.accepted l.initial.sink) (g.K.Sink.accepted l.sink) told;
   works : g.K.Sink.is_failed l.sink ≡ false;
 }

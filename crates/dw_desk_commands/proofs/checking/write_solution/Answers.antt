@@ -1,6 +1,6 @@
 use Rattle.std.proofs.Common.{◌≡◌, ◌∙◌, ℕ, List, [], map, not, refl, sym, ap, subst}
 use Rattle.std.specs.Prelude.{MatchBool}
-use Rattle.std.proofs.KnownBytes.{Appends-nil}
+use Rattle.dw_notation.specs.inner.StreamLemmas.{Appends-nil}
 use Rattle.dw_notation.specs.Problems.{numbered}
 use Rattle.dw_study.specs.Telling.{remark_in}
 use Rattle.dw_desk_commands.specs.Checking.{IsCheckedLine, IsCheckedText, holds}
@@ -29,7 +29,7 @@ returns-then-is_left_out-clause-text g c =
             (IsCheckedText geo (numbered s.problem.now) s.tree.now.start s.n said.0 nothing)))
             (sym c.if-is_left_out.true ∙ c.is_left_out.ensures said.0 said.1) refl,
       ),
-      Appends-nil (g.K.Sink.taken c.args.sink.now),
+      Appends-nil (g.K.Sink.accepted c.args.sink.now),
     )
 
 pub returns-clause-text : goal.returns-clause-text

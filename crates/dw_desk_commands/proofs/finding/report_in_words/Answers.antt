@@ -1,5 +1,5 @@
 use Rattle.std.proofs.Common.{◌∙◌, subst}
-use Rattle.std.specs.Io.KnownBytes.{Appends}
+use Rattle.dw_notation.specs.Streams.{Appends}
 use Rattle.std.specs.String.{string_bytes}
 use Rattle.dw_notation.specs.Problems.{numbered}
 use Rattle.dw_study.specs.Telling.{told_by}
@@ -10,7 +10,7 @@ use Rattle.dw_desk_commands.proofs.finding.report_in_words.Goals as goal
 pub returns-clause-text : goal.returns-clause-text
 returns-clause-text g c =
     let geo = g.B.Board.geometry in
-    let taken = g.K.Sink.taken in
+    let taken = g.K.Sink.accepted in
     line_and_more geo (SaysFound geo c.args.query.now) (numbered c.args.problem.now)
     c.in-Ok.position
     c.is_undecided.result (string_bytes c.in_ok-text.text) (taken c.args.sink.now) (taken c.write_all.new.sink)

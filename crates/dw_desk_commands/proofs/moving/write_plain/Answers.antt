@@ -1,5 +1,5 @@
 use Rattle.std.proofs.Common.{◌∙◌, refl, false, subst}
-use Rattle.std.specs.Io.KnownBytes.{Appends}
+use Rattle.dw_notation.specs.Streams.{Appends}
 use Rattle.std.specs.String.{string_bytes}
 use Rattle.dw_first_moves.specs.FirstMovesText.{IsFirstMovesText}
 use Rattle.dw_notation.specs.Problems.{numbered}
@@ -10,7 +10,7 @@ use Rattle.dw_desk_commands.proofs.moving.write_plain.Goals as goal
 pub returns-clause-text : goal.returns-clause-text
 returns-clause-text g c =
     let geo = g.B.Board.geometry in
-    let taken = g.K.Sink.taken in
+    let taken = g.K.Sink.accepted in
     let query = c.args.query.now in
     let p = c.in-Ok.position in
     let found = c.in_ok-found.found in

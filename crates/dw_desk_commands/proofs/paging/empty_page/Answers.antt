@@ -1,6 +1,6 @@
 use Rattle.std.proofs.Common.{◌++◌, [], arith, inl, inr, refl, subst}
-use Rattle.std.specs.Io.KnownBytes.{Appends}
-use Rattle.std.proofs.KnownBytes.{Appends-nil, Appends-trans}
+use Rattle.dw_notation.specs.Streams.{Appends}
+use Rattle.dw_notation.specs.inner.StreamLemmas.{Appends-nil, Appends-trans}
 use Rattle.dw_desk_commands.specs.Paging.{language_for, heading_of}
 use Rattle.dw_page.specs.Pages.{end, head}
 use Rattle.dw_desk_commands.proofs.paging.empty_page.Goals as goal
@@ -9,7 +9,7 @@ pub returns-then-must_exist-clause-page : goal.returns-then-must_exist-clause-pa
 returns-then-must_exist-clause-page g c = (
   [],
   inr (c.if-must_exist.true, c.default.ensures.0, c.default.ensures.1, refl),
-  Appends-nil (g.K.Sink.taken c.args.sink.now),
+  Appends-nil (g.K.Sink.accepted c.args.sink.now),
 )
 
 pub returns-clause-page : goal.returns-clause-page
@@ -17,7 +17,7 @@ returns-clause-page g c =
     let query = c.args.query.now in
     let front = head g.B.Board.geometry (language_for query.language) query.title.now in
     let heading = heading_of query.solutions (language_for query.language) in
-    let taken = g.K.Sink.taken in (
+    let taken = g.K.Sink.accepted in (
       front ++ (heading ++ end),
       inl (
         (record {

@@ -1,5 +1,5 @@
 use Rattle.std.proofs.Common.{◌≡◌, ◌≤◌, false}
-use Rattle.dw_desk_commands.specs.inner.Choosing.{AreToCome, Runs, lender}
+use Rattle.dw_desk_commands.specs.inner.Choosing.{AreToCome, GoesOn, Runs, lender}
 use Rattle.dw_desk_commands.proofs.PagingLemmas.{SoFar}
 use Rattle.dw_desk_commands.proofs.paging.page_problems.Given as goal
 
@@ -8,10 +8,11 @@ invariant-games g l =
     let geo = g.B.Board.geometry in
     let source = g.S.Source in
     record {
-      so_far : SoFar geo l.query (AreToCome geo source.coming source.has_ended l.fn.chosen)
-          (AreToCome geo source.coming source.has_ended l.chosen) l.counts (g.K.Sink.taken l.fn.sink)
-          (g.K.Sink.taken l.sink) l.later.items;
+      so_far : SoFar geo l.query (AreToCome geo source.supply l.fn.chosen)
+          (AreToCome geo source.supply l.chosen) l.counts (g.K.Sink.accepted l.fn.sink)
+          (g.K.Sink.accepted l.sink) l.later.items;
       some : 1 ≤ l.counts.shown;
+      on : GoesOn source.supply l.fn.chosen.text l.chosen.text;
       works : g.K.Sink.is_failed l.sink ≡ false;
       lender : lender l.chosen.text ≡ lender l.fn.chosen.text;
       runs : Runs l.chosen.text;

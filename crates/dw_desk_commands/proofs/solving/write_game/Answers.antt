@@ -1,13 +1,13 @@
 use Rattle.std.proofs.Common.{◌++◌, codes, false, refl, sym, subst}
-use Rattle.std.specs.Io.KnownBytes.{Appends}
-use Rattle.std.proofs.KnownBytes.{Appends-trans}
+use Rattle.dw_notation.specs.Streams.{Appends}
+use Rattle.dw_notation.specs.inner.StreamLemmas.{Appends-trans}
 use Rattle.dw_desk_commands.specs.Solving.{AreWrittenTags, IsGameFor}
 use Rattle.dw_desk_commands.proofs.solving.write_game.Goals as goal
 
 pub returns-in_ok-write_all-in-Ok-2-clause-text : goal.returns-in_ok-write_all-in-Ok-2-clause-text
 returns-in_ok-write_all-in-Ok-2-clause-text g c =
     let geo = g.B.Board.geometry in
-    let taken = g.K.Sink.taken in
+    let taken = g.K.Sink.accepted in
     let query = c.args.query.now in
     let game = c.args.game.now in
     let start = taken c.args.sink.now in

@@ -1,14 +1,14 @@
 use Rattle.std.proofs.Common.{◌∙◌, ◌++◌, map, refl, subst, ap}
-use Rattle.std.specs.Io.KnownBytes.{Appends}
+use Rattle.dw_notation.specs.Streams.{Appends}
 use Rattle.std.specs.List.{flat_map}
-use Rattle.std.proofs.KnownBytes.{Appends-trans}
+use Rattle.dw_notation.specs.inner.StreamLemmas.{Appends-trans}
 use Rattle.dw_games.specs.TagRows.{tag_text}
 use Rattle.dw_desk_commands.specs.Solving.{new_lines, own_line}
 use Rattle.dw_desk_commands.proofs.solving.write_tags.Goals as goal
 
 pub returns-clause-tags : goal.returns-clause-tags
 returns-clause-tags g c =
-    let taken = g.K.Sink.taken in
+    let taken = g.K.Sink.accepted in
     let start = taken c.args.sink.now in
     let middle = taken c.write_own_tags.new.sink in
     let end = taken c.write_all.new.sink in

@@ -1,6 +1,6 @@
 use Rattle.std.proofs.Common.{[], ◌++◌, codes, refl, sym, subst}
-use Rattle.std.specs.Io.KnownBytes.{Appends}
-use Rattle.std.proofs.KnownBytes.{Appends-nil, Appends-trans}
+use Rattle.dw_notation.specs.Streams.{Appends}
+use Rattle.dw_notation.specs.inner.StreamLemmas.{Appends-nil, Appends-trans}
 use Rattle.dw_games.specs.Lines.{IsFirstLineFault, IsWrittenLine}
 use Rattle.dw_list.specs.Tokens.{token_of}
 use Rattle.dw_desk_commands.specs.Writing.{IsTokenFor}
@@ -12,7 +12,7 @@ returns-in_ok-write_all-in-Ok-read_line-clause-report g c =
     let geo = g.B.Board.geometry in
     let p = c.in-Ok.position in
     let line = c.args.line.now in
-    let taken = g.K.Sink.taken in
+    let taken = g.K.Sink.accepted in
     let start = taken c.args.sink.now in
     let middle = taken c.write_token.new.sink in
     let end = taken c.write_all.new.sink in
@@ -46,5 +46,5 @@ returns-in-Err-Refused-clause-report g c =
         c.name.ensures,
         refl,
       ),
-      Appends-nil (g.K.Sink.taken c.args.sink.now),
+      Appends-nil (g.K.Sink.accepted c.args.sink.now),
     )

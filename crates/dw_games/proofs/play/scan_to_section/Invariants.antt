@@ -6,7 +6,7 @@ use Rattle.dw_games.proofs.play.scan_to_section.Given as goal
 abbrev pub invariant-pieces : goal.invariant-pieces
 invariant-pieces g l =
     let source = g.S.Source in
-    PlaysOn source.coming source.has_ended source.is_failed source.pulls_left (input_of l.initial.source
+    PlaysOn source.supply source.is_failed source.pulls_left (input_of l.initial.source
     l.initial.buffer) (input_of l.source l.buffer) l.initial.kept
     l.kept (in_comment l.finder)
 

@@ -15,7 +15,7 @@ pub returns-in_err-fill : goal.returns-in_err-fill
 returns-in_err-fill g c =
     let s = g.S.Source in
     let e = err_from_is_err_and c.from_residual.result c.from_residual.ensures.1 in
-    rw (e.1, e.2) (ReadsOn-fault g.B.Board.geometry s.coming s.has_ended s.is_failed s.pulls_left _
+    rw (e.1, e.2) (ReadsOn-fault g.B.Board.geometry s.supply s.is_failed s.pulls_left _
     (input_of c.pieces.source c.pieces.buffer) _ _ c.pieces.row _ _ c.pieces.spaces _ c.pieces.reader Failed
     c.pieces.invariant c.in_err-fill.ensures.passes)
 
@@ -25,9 +25,9 @@ returns-then-is_empty g c =
     let none : unread_in c.fill.new.self ≡ [] =
     sym c.unread-bytes.ensures ∙ nil_from_length c.unread-bytes.result.now
     (eqb-true _ 0 (sym c.is_empty.ensures ∙ c.if-is_empty.true)) in
-    ReadsOn-last g.B.Board.geometry s.coming s.has_ended s.is_failed s.pulls_left c.texts_of_tags_say.ensures _
+    ReadsOn-last g.B.Board.geometry s.supply s.is_failed s.pulls_left c.texts_of_tags_say.ensures _
     (input_of c.fill.new.source c.fill.new.self) _ c.pieces.row _ c.pieces.spaces c.pieces.reader c.finish.result
-    (ReadsOn-fill g.B.Board.geometry s.coming s.has_ended s.is_failed s.pulls_left _
+    (ReadsOn-fill g.B.Board.geometry s.supply s.is_failed s.pulls_left _
     (input_of c.pieces.source c.pieces.buffer) _ _ _ _ _ c.pieces.reader c.pieces.invariant c.in_ok-fill.ensures.passes)
     c.requires (none, c.in_ok-fill.ensures.more none) c.finish.ensures
 
@@ -35,21 +35,21 @@ pub returns-in_err-extend : goal.returns-in_err-extend
 returns-in_err-extend g c =
     let s = g.S.Source in
     let e = err_from_is_err_and c.from_residual-in_err-extend.result c.from_residual-in_err-extend.ensures.1 in
-    rw (e.1, e.2) (ReadsOn-fault g.B.Board.geometry s.coming s.has_ended s.is_failed s.pulls_left _
+    rw (e.1, e.2) (ReadsOn-fault g.B.Board.geometry s.supply s.is_failed s.pulls_left _
     (input_of c.fill.new.source c.fill.new.self) _ _ c.pieces.row _ _ c.pieces.spaces _ c.pieces.reader _
-    (ReadsOn-fill g.B.Board.geometry s.coming s.has_ended s.is_failed s.pulls_left _
+    (ReadsOn-fill g.B.Board.geometry s.supply s.is_failed s.pulls_left _
     (input_of c.pieces.source c.pieces.buffer) _ _ _ _ _ c.pieces.reader c.pieces.invariant c.in_ok-fill.ensures.passes)
-    (Passes-refl s.coming s.has_ended s.is_failed s.pulls_left (input_of c.fill.new.source c.fill.new.self)))
+    (Passes-refl s.supply s.is_failed s.pulls_left (input_of c.fill.new.source c.fill.new.self)))
 
 pub returns-in_err-keep_spaces : goal.returns-in_err-keep_spaces
 returns-in_err-keep_spaces g c =
     let s = g.S.Source in
     let e = err_from_is_err_and c.from_residual-in_err-keep_spaces.result c.from_residual-in_err-keep_spaces.ensures.1
-    in rw (e.1, e.2) (ReadsOn-fault g.B.Board.geometry s.coming s.has_ended s.is_failed s.pulls_left _
+    in rw (e.1, e.2) (ReadsOn-fault g.B.Board.geometry s.supply s.is_failed s.pulls_left _
     (input_of c.fill.new.source c.fill.new.self) _ _ c.pieces.row _ _ c.pieces.spaces _ c.pieces.reader _
-    (ReadsOn-fill g.B.Board.geometry s.coming s.has_ended s.is_failed s.pulls_left _
+    (ReadsOn-fill g.B.Board.geometry s.supply s.is_failed s.pulls_left _
     (input_of c.pieces.source c.pieces.buffer) _ _ _ _ _ c.pieces.reader c.pieces.invariant c.in_ok-fill.ensures.passes)
-    (Passes-refl s.coming s.has_ended s.is_failed s.pulls_left (input_of c.fill.new.source c.fill.new.self)))
+    (Passes-refl s.supply s.is_failed s.pulls_left (input_of c.fill.new.source c.fill.new.self)))
 
 pub returns-then-is_some : goal.returns-then-is_some
 returns-then-is_some g c =
@@ -70,16 +70,16 @@ returns-then-is_some g c =
     let byte = slice_index bytes count in
     let rest : drop count bytes ≡ new.unread =
     ap (drop count) c.unread-bytes.ensures ∙ sym c.consume.ensures.unread in
-    ReadsOn-cut board s.coming s.has_ended s.is_failed s.pulls_left c.texts_of_tags_say.ensures _ mid new _ c.pieces.row
+    ReadsOn-cut board s.supply s.is_failed s.pulls_left c.texts_of_tags_say.ensures _ mid new _ c.pieces.row
     c.extend.new.self _ c.pieces.spaces c.keep_spaces.new.spaces old next (take count bytes) byte c.found.result here.0
-    (ReadsOn-fill board s.coming s.has_ended s.is_failed s.pulls_left _
+    (ReadsOn-fill board s.supply s.is_failed s.pulls_left _
     (input_of c.pieces.source c.pieces.buffer) _ _ _ _ _ old c.pieces.invariant c.in_ok-fill.ensures.passes)
     c.requires (begins new.unread _ (sym rest ∙ drop_more bytes count 0 here.1)) here.3
     (λ over more. ap (λ l. ahead_of old board over (l ++ more)) (sym (take_more bytes count 0 here.1)) ∙ here.4 over
     more) c.in_ok-extend.ensures c.in_ok-keep_spaces.ensures
-    (subst (λ l. Passes s.coming s.has_ended s.is_failed s.pulls_left mid new (take count l) false) (sym
+    (subst (λ l. Passes s.supply s.is_failed s.pulls_left mid new (take count l) false) (sym
     c.unread-bytes.ensures)
-    (Passes-piece s.coming s.has_ended s.is_failed s.pulls_left mid new count refl c.consume.ensures.met_end
+    (Passes-piece s.supply s.is_failed s.pulls_left mid new count refl c.consume.ensures.met_end
     c.consume.ensures.unread))
     (c.found.ensures ∙ here.2)
 
@@ -96,13 +96,13 @@ pieces-preserved g c =
     let all = none_found c.cut-end.result count (length bytes) c.unwrap_or-count.ensures
     (sym c.is_some.ensures ∙ c.if-is_some.false) c.cut-end.ensures.none in
     let whole : take count bytes ≡ bytes = take_all count bytes (omega (arith, all.0)) in
-    ReadsOn-piece board s.coming s.has_ended s.is_failed s.pulls_left _ mid new _ c.pieces.row c.extend.new.self _
+    ReadsOn-piece board s.supply s.is_failed s.pulls_left _ mid new _ c.pieces.row c.extend.new.self _
     c.pieces.spaces c.keep_spaces.new.spaces old next (take count bytes)
-    (ReadsOn-fill board s.coming s.has_ended s.is_failed s.pulls_left _
+    (ReadsOn-fill board s.supply s.is_failed s.pulls_left _
     (input_of c.pieces.source c.pieces.buffer) _ _ _ _ _ old c.pieces.invariant c.in_ok-fill.ensures.passes)
     (λ over more. ap (λ l. ahead_of old board over (l ++ more)) whole ∙ all.1 over more) c.cut-end.ensures.begun
     c.in_ok-extend.ensures c.in_ok-keep_spaces.ensures
-    (subst (λ l. Passes s.coming s.has_ended s.is_failed s.pulls_left mid new (take count l) false) (sym
+    (subst (λ l. Passes s.supply s.is_failed s.pulls_left mid new (take count l) false) (sym
     c.unread-bytes.ensures)
-    (Passes-piece s.coming s.has_ended s.is_failed s.pulls_left mid new count refl c.consume.ensures.met_end
+    (Passes-piece s.supply s.is_failed s.pulls_left mid new count refl c.consume.ensures.met_end
     c.consume.ensures.unread))

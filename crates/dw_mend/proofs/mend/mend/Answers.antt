@@ -1,7 +1,7 @@
 use Rattle.std.proofs.Common.{◌∙◌, [], ◌++◌, Err, length, map, refl, sym, ap, subst}
 use Rattle.std.proofs.lemmas.List.{length-map}
-use Rattle.std.specs.Io.KnownBytes.{Appends}
-use Rattle.std.proofs.KnownBytes.{Appends-nil, Appends-trans}
+use Rattle.dw_notation.specs.Streams.{Appends}
+use Rattle.dw_notation.specs.inner.StreamLemmas.{Appends-nil, Appends-trans}
 use Rattle.dw_mend.specs.Mending.{AreMended, IsMendStop}
 use Rattle.dw_mend.specs.MendText.{last_line}
 use Rattle.dw_mend.specs.Telling.{told_by}
@@ -14,7 +14,7 @@ pub returns-in_err-all-clause-stopped : goal.returns-in_err-all-clause-stopped
 returns-in_err-all-clause-stopped g c = λ stop all are e. (
   [],
   stop_at_once c.args.bounds.wording g.B.Board.geometry c.args.bounds.moves.value _,
-  Appends-nil (g.K.Sink.taken
+  Appends-nil (g.K.Sink.accepted
       c.args.sink.now),
 )
 
@@ -22,7 +22,7 @@ pub returns-in_err-some-clause-stopped : goal.returns-in_err-some-clause-stopped
 returns-in_err-some-clause-stopped g c = λ stop all are e. (
   [],
   stop_at_once c.args.bounds.wording g.B.Board.geometry c.args.bounds.moves.value _,
-  Appends-nil (g.K.Sink.taken
+  Appends-nil (g.K.Sink.accepted
       c.args.sink.now),
 )
 
@@ -85,9 +85,9 @@ returns-clause-text g c =
         count = c.in_ok-mended.ensures.all ∙ (sym (length-map some told_by) ∙ ap length told);
         is = refl;
       },
-      Appends-trans (g.K.Sink.taken c.args.sink.now) (g.K.Sink.taken c.mend_these.new.sink)
-          (g.K.Sink.taken c.write_all.new.sink) t.0 line t.2
-          (subst (Appends (g.K.Sink.taken c.mend_these.new.sink) (g.K.Sink.taken c.write_all.new.sink))
+      Appends-trans (g.K.Sink.accepted c.args.sink.now) (g.K.Sink.accepted c.mend_these.new.sink)
+          (g.K.Sink.accepted c.write_all.new.sink) t.0 line t.2
+          (subst (Appends (g.K.Sink.accepted c.mend_these.new.sink) (g.K.Sink.accepted c.write_all.new.sink))
           (c.as_bytes.ensures.value ∙ (c.as_str.ensures.value ∙ c.in_ok-line.ensures))
           c.in_ok-write_all.ensures.ok),
     )

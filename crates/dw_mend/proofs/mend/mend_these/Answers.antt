@@ -1,6 +1,6 @@
 use Rattle.std.proofs.Common.{◌∙◌, ◌++◌, sym, ap, subst, add-zero, arith, Err}
-use Rattle.std.specs.Io.KnownBytes.{Appends}
-use Rattle.std.proofs.KnownBytes.{Appends-trans}
+use Rattle.dw_notation.specs.Streams.{Appends}
+use Rattle.dw_notation.specs.inner.StreamLemmas.{Appends-trans}
 use Rattle.dw_mend.specs.Telling.{told_by}
 use Rattle.dw_mend.specs.declared.mend.MendFault.TheVariants as because
 use Rattle.dw_mend.specs.inner.Mending.{IsUndecided}
@@ -16,7 +16,7 @@ returns-in_err-write_found-clause-stopped g c = λ stop e.
       stop_at told_by c.args.bounds.wording g.B.Board.geometry c.args.bounds.moves.value c.args.some.now
           c.neighbours.neighbour-index
           c.neighbours.mended.sound c.neighbours.mended.undecided t.0 t.1,
-      subst (λ z. Appends (g.K.Sink.taken c.args.sink.now) z t.0) (sym (c.in_err-write_found.ensures.stopped stop
+      subst (λ z. Appends (g.K.Sink.accepted c.args.sink.now) z t.0) (sym (c.in_err-write_found.ensures.stopped stop
           (ap (λ z. Err z) (same_fault c.from_residual.result c.in_err-write_found.field-0.0 (because.Stopped stop)
           c.from_residual.ensures.1 e)))) t.2,
     )
@@ -63,8 +63,8 @@ neighbours-preserved g c =
               (adds_undecided c.args.bounds.wording geo n (told_by x) found new.0 w.in-Undecided.is new.1)
               (ap (λ z. z.sound) w.mended-is ∙ sym (add-zero was.sound)) (ap (λ z. z.undecided) w.mended-is)
         ],
-        Appends-trans (g.K.Sink.taken c.args.sink.now) (g.K.Sink.taken c.neighbours.sink)
-            (g.K.Sink.taken c.write_found.new.sink) t.0 new.0 t.2 new.2,
+        Appends-trans (g.K.Sink.accepted c.args.sink.now) (g.K.Sink.accepted c.neighbours.sink)
+            (g.K.Sink.accepted c.write_found.new.sink) t.0 new.0 t.2 new.2,
       );
       all = elim c.match-branch-2.branch [
         | in-Sound w ↦ ap (λ z. z.all) w.mended-is ∙ c.neighbours.invariant.all

@@ -1,5 +1,5 @@
 use Rattle.std.proofs.Common.{◌≡◌, ℕ, ◌+◌, ◌≤◌, false, take, length, List, map}
-use Rattle.std.specs.Io.KnownBytes.{Appends}
+use Rattle.dw_notation.specs.Streams.{Appends}
 use Rattle.dw_memo.specs.Content.{IsMap}
 use Rattle.dw_solve.specs.Facts.{AreTrue}
 use Rattle.dw_solve.specs.Searching.{IsCounted}
@@ -11,7 +11,7 @@ abbrev pub invariant-neighbours : goal.invariant-neighbours
 invariant-neighbours g l = record {
   text : (text : List ℕ) × AreMended l.bounds.wording g.B.Board.geometry l.bounds.moves.value (map told_by (take
       l.neighbour-index l.some)) text (record { sound = l.mended.sound; undecided = l.mended.undecided })
-      × Appends (g.K.Sink.taken l.initial.sink) (g.K.Sink.taken l.sink) text;
+      × Appends (g.K.Sink.accepted l.initial.sink) (g.K.Sink.accepted l.sink) text;
   all : l.mended.all ≡ length l.some;
   few : l.mended.sound + l.mended.undecided ≤ l.neighbour-index;
   bounded : AreBounded l.bounds.each l.neighbour-index l.mended.undecided l.initial.solver.expanded l.solver.expanded;

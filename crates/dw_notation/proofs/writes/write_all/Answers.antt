@@ -1,8 +1,8 @@
 use Rattle.std.proofs.Common.{◌<◌, [], take, drop, arith, sym, ◌∙◌, subst, append-nil, length-drop}
 use Rattle.std.proofs.Math.Seq.{take-add}
 use Rattle.std.proofs.lemmas.List.{take_rest, take-append-drop}
-use Rattle.std.proofs.KnownBytes.{Appends-trans, Appends-kept}
-use Rattle.std.specs.Io.KnownBytes.{Appends}
+use Rattle.dw_notation.specs.Streams.{Appends}
+use Rattle.dw_notation.specs.inner.StreamLemmas.{Appends-trans, Appends-kept}
 use Rattle.dw_notation.proofs.writes.write_all.Goals as goal
 
 pub pieces-preserved : goal.pieces-preserved

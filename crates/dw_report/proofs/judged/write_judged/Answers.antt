@@ -15,7 +15,7 @@ returns-in_err-write_verdict-clause-text g c =
 
 pub returns-clause-text : goal.returns-clause-text
 returns-clause-text g c = judged_ends g.B.Board.geometry c.args.position.now c.args.moves _
-    (g.K.Sink.taken c.write_verdict.new.sink) _ c.write_tries.result c.in_ok-write_verdict.ensures.text
+    (g.K.Sink.accepted c.write_verdict.new.sink) _ c.write_tries.result c.in_ok-write_verdict.ensures.text
     c.write_tries.ensures.text
 
 pub returns-in_err-write_verdict-clause-sink : goal.returns-in_err-write_verdict-clause-sink

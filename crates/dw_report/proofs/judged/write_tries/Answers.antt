@@ -17,13 +17,13 @@ returns-in_err-list-clause-text g c =
     let why = err_from_is_err_and c.from_residual.result c.from_residual.ensures.1 in
     none_written c.wins_are_decided.ensures c.moves_in_order.ensures c.moves_have_keys.ensures
     c.moves_have_texts.ensures g.B.Board.geometry g.met.B.Board.numbers c.args.position.now c.args.moves
-    (g.K.Sink.taken c.args.sink.now) c.from_residual.result _ _ why.1 why.2
+    (g.K.Sink.accepted c.args.sink.now) c.from_residual.result _ _ why.1 why.2
 
 pub moves-init : goal.moves-init
 moves-init g c = record {
   wrote = at_first c.wins_are_decided.ensures c.moves_in_order.ensures c.moves_have_keys.ensures
       c.moves_have_texts.ensures g.B.Board.geometry g.met.B.Board.numbers c.args.position.now c.args.moves
-      (λ item. item.step) c.as_slice-item-items.result.now (g.K.Sink.taken c.args.sink.now);
+      (λ item. item.step) c.as_slice-item-items.result.now (g.K.Sink.accepted c.args.sink.now);
   sink = refl;
   counted = counted_none c.args.solver.now c.keeps_its_limit.ensures;
 }
@@ -44,9 +44,9 @@ returns-in_err-write_try-clause-text g c =
     let p = c.args.position.now in
     let n = c.args.moves in
     let items = c.as_slice-item-items.result.now in
-    let old = g.K.Sink.taken c.args.sink.now in
-    let mid = g.K.Sink.taken c.moves.sink in
-    let new = g.K.Sink.taken c.write_try.new.sink in
+    let old = g.K.Sink.accepted c.args.sink.now in
+    let mid = g.K.Sink.accepted c.moves.sink in
+    let new = g.K.Sink.accepted c.write_try.new.sink in
     let all = subst (λ z. IsListOf (Precedes geo p) (Legal geo p) (map (λ item. item.step) z))
     (sym c.as_slice-item-items.ensures.value) c.in_ok-list.ensures.in_order in
     let one = subst (λ m. TextEnds (IsTryText geo p n m) (λ out. out ≡ []) mid new c.write_try.result)
@@ -63,9 +63,9 @@ moves-preserved g c =
     let p = c.args.position.now in
     let n = c.args.moves in
     let items = c.as_slice-item-items.result.now in
-    let old = g.K.Sink.taken c.args.sink.now in
-    let mid = g.K.Sink.taken c.moves.sink in
-    let new = g.K.Sink.taken c.write_try.new.sink in
+    let old = g.K.Sink.accepted c.args.sink.now in
+    let mid = g.K.Sink.accepted c.moves.sink in
+    let new = g.K.Sink.accepted c.write_try.new.sink in
     let all = subst (λ z. IsListOf (Precedes geo p) (Legal geo p) (map (λ item. item.step) z))
     (sym c.as_slice-item-items.ensures.value) c.in_ok-list.ensures.in_order in
     let one = subst (λ m. Writes (IsTryText geo p n m) mid new) (ap (λ l. l.step) c.item.view_is)
@@ -88,8 +88,8 @@ returns-clause-text g c =
     let all = subst (λ z. IsListOf (Precedes geo p) (Legal geo p) (map (λ item. item.step) z))
     (sym c.as_slice-item-items.ensures.value) c.in_ok-list.ensures.in_order in
     at_end c.wins_are_decided.ensures c.moves_in_order.ensures c.moves_have_keys.ensures c.moves_have_texts.ensures geo
-    g.met.B.Board.numbers p n (λ item. item.step) items c.moves.item-index (g.K.Sink.taken c.args.sink.now)
-    (g.K.Sink.taken c.moves.sink) all c.moves-test.false c.moves.invariant.wrote
+    g.met.B.Board.numbers p n (λ item. item.step) items c.moves.item-index (g.K.Sink.accepted c.args.sink.now)
+    (g.K.Sink.accepted c.moves.sink) all c.moves-test.false c.moves.invariant.wrote
 
 pub returns-in_err-list-clause-sink : goal.returns-in_err-list-clause-sink
 returns-in_err-list-clause-sink g c =

@@ -6,7 +6,7 @@ use Rattle.dw_report.proofs.judged.write_tries.Given as goal
 abbrev pub invariant-moves : goal.invariant-moves
 invariant-moves g l = record {
   wrote : WroteTo g.B.Board.geometry l.position l.moves (map (λ item. item.step) (take l.item-index l.item-items))
-      (g.K.Sink.taken l.initial.sink) (g.K.Sink.taken l.sink);
+      (g.K.Sink.accepted l.initial.sink) (g.K.Sink.accepted l.sink);
   sink : g.K.Sink.is_failed l.sink ≡ g.K.Sink.is_failed l.initial.sink;
   counted : Counted l.initial.solver l.solver;
 }

@@ -1,5 +1,5 @@
 use Rattle.std.proofs.Common.{◌-◌, refl, sym, ap, ◌∙◌, subst, Err}
-use Rattle.std.specs.Io.KnownBytes.{Appends}
+use Rattle.dw_notation.specs.Streams.{Appends}
 use Rattle.std.specs.String.{string_bytes}
 use Rattle.std.proofs.lemmas.Result.{err_from_is_err_and}
 use Rattle.dw_notation.specs.Writes.{StopsShort}
@@ -15,13 +15,13 @@ pub returns-in_err-reply-clause-text : goal.returns-in_err-reply-clause-text
 returns-in_err-reply-clause-text g c =
     let why = err_from_is_err_and c.from_residual.result c.from_residual.ensures.1 in
     nothing_written (IsTryText g.B.Board.geometry c.args.position.now c.args.moves c.args.mv.now)
-    (g.K.Sink.taken c.args.sink.now) c.from_residual.result _ _ why.1 why.2
+    (g.K.Sink.accepted c.args.sink.now) c.from_residual.result _ _ why.1 why.2
 
 pub returns-in_err-line-clause-text : goal.returns-in_err-line-clause-text
 returns-in_err-line-clause-text g c =
     let why = err_from_is_err_and c.from_residual-in_err-line.result c.from_residual-in_err-line.ensures.1 in
     nothing_written (IsTryText g.B.Board.geometry c.args.position.now c.args.moves c.args.mv.now)
-    (g.K.Sink.taken c.args.sink.now) c.from_residual-in_err-line.result _ _ why.1 why.2
+    (g.K.Sink.accepted c.args.sink.now) c.from_residual-in_err-line.result _ _ why.1 why.2
 
 pub returns-in_err-write_all-clause-text : goal.returns-in_err-write_all-clause-text
 returns-in_err-write_all-clause-text g c =

@@ -46,7 +46,7 @@ returns-in-Err-Stopped-clause-text g c =
     let old = stack_of c.args.lister.now in
     no_lines (IsListedText geo p old.moves c.args.most (Some c.args.line.now))
     (listed_some c.lines_exist.ensures c.line_or_place.ensures c.lines_have_texts.ensures geo g.met.B.Board.numbers p
-    old.moves c.args.most (Some c.args.line.now) c.requires.some) (g.K.Sink.taken c.args.sink.now)
+    old.moves c.args.most (Some c.args.line.now) c.requires.some) (g.K.Sink.accepted c.args.sink.now)
 
 pub returns-in_ok-write_listing-in-Ok-clause-text : goal.returns-in_ok-write_listing-in-Ok-clause-text
 returns-in_ok-write_listing-in-Ok-clause-text g c =

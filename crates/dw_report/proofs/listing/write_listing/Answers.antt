@@ -1,5 +1,5 @@
 use Rattle.std.proofs.Common.{◌≡◌, ◌∙◌, refl, sym, ap, subst, length, reverse, ◌%◌, ◌≤◌, arith, Err, List}
-use Rattle.std.specs.Io.KnownBytes.{Appends}
+use Rattle.dw_notation.specs.Streams.{Appends}
 use Rattle.std.proofs.lemmas.Result.{err_from_is_err_and}
 use Rattle.dw_moves.specs.Moves.{Move}
 use Rattle.dw_notation.specs.LineTexts.{LineFrom}
@@ -26,7 +26,7 @@ pub lines-init : goal.lines-init
 lines-init g c = record {
   lender = refl;
   rows = no_rows c.lines_in_turn.ensures g.B.Board.geometry c.args.position.now (stack_of c.args.lister.now)
-      (g.K.Sink.taken c.args.sink.now);
+      (g.K.Sink.accepted c.args.sink.now);
   start = ap (λ (v : LineFrom). v.start) c.new-text.ensures;
   last = λ some. absurd (omega (arith, some));
   few = omega arith;
@@ -112,10 +112,10 @@ returns-in_err-write_row-clause-text g c =
     (stack_of c.take_line.new.lister) c.lines.written _ _ _ c.write_row.result c.from_residual-in_err-write_row.result
     c.in_err-write_row.field-0.0 why.0
     c.lines.invariant.rows first c.lines-test.true c.in_err-write_row.was why.1 (sym why.2)
-    (subst (λ z. TextEnds (IsRow geo p z) IsNothing (g.K.Sink.taken c.lines.sink) (g.K.Sink.taken c.write_row.new.sink)
+    (subst (λ z. TextEnds (IsRow geo p z) IsNothing (g.K.Sink.accepted c.lines.sink) (g.K.Sink.accepted c.write_row.new.sink)
     c.write_row.result) copy
-    (subst (λ z. TextEnds (IsRow geo z c.as_slice.result.now) IsNothing (g.K.Sink.taken c.lines.sink)
-    (g.K.Sink.taken c.write_row.new.sink) c.write_row.result) c.lines.invariant.start c.write_row.ensures.text))
+    (subst (λ z. TextEnds (IsRow geo z c.as_slice.result.now) IsNothing (g.K.Sink.accepted c.lines.sink)
+    (g.K.Sink.accepted c.write_row.new.sink) c.write_row.result) c.lines.invariant.start c.write_row.ensures.text))
 
 pub lines-preserved : goal.lines-preserved
 lines-preserved g c =
@@ -126,9 +126,9 @@ lines-preserved g c =
     let first = line_next geo c.in_ok-take_line.field-0 (stack_of c.lines.lister) (stack_of c.take_line.new.lister)
     c.in_ok-take_line.ensures.next c.if-not-branch.false in
     let copy = c.as_slice.ensures.value ∙ c.in_ok-take_line.ensures.line c.if-not-branch.false in
-    let here = subst (λ z. Writes (IsRow geo z c.as_slice.result.now) (g.K.Sink.taken c.lines.sink)
-    (g.K.Sink.taken c.write_row.new.sink)) c.lines.invariant.start c.in_ok-write_row.ensures.text in
-    let row = subst (λ z. Writes (IsRow geo p z) (g.K.Sink.taken c.lines.sink) (g.K.Sink.taken c.write_row.new.sink))
+    let here = subst (λ z. Writes (IsRow geo z c.as_slice.result.now) (g.K.Sink.accepted c.lines.sink)
+    (g.K.Sink.accepted c.write_row.new.sink)) c.lines.invariant.start c.in_ok-write_row.ensures.text in
+    let row = subst (λ z. Writes (IsRow geo p z) (g.K.Sink.accepted c.lines.sink) (g.K.Sink.accepted c.write_row.new.sink))
     copy here in
     record {
       lender = c.take_line.ensures.lender ∙ c.lines.invariant.lender;
@@ -186,7 +186,7 @@ returns-in_err-write_more-clause-text g c =
     (more_short geo p most c.requires.some start lines all (lines_text c.lines_have_texts.ensures geo
     g.met.B.Board.numbers start p lines c.requires.ahead.position all) (stack_of c.lines.lister)
     (stack_of c.has_more.new.lister) c.lines.written _ _ _ c.lines.invariant.rows first full
-    (subst (λ z. StopsShort (g.K.Sink.taken c.lines.sink) (g.K.Sink.taken c.write_more.new.sink) (more_after geo z))
+    (subst (λ z. StopsShort (g.K.Sink.accepted c.lines.sink) (g.K.Sink.accepted c.write_more.new.sink) (more_after geo z))
     last c.in_err-write_more.ensures.err))
 
 pub returns-in_err-write_all-2-clause-text : goal.returns-in_err-write_all-2-clause-text
@@ -222,7 +222,7 @@ returns-in_ok-write_more-clause-text g c =
     λ lines all. more_written geo p most c.requires.some start lines all (lines_text c.lines_have_texts.ensures geo
     g.met.B.Board.numbers start p lines c.requires.ahead.position all) (stack_of c.lines.lister)
     (stack_of c.has_more.new.lister) c.lines.written _ _ _ c.lines.invariant.rows first full
-    (subst (λ z. Appends (g.K.Sink.taken c.lines.sink) (g.K.Sink.taken c.write_more.new.sink) (more_after geo z))
+    (subst (λ z. Appends (g.K.Sink.accepted c.lines.sink) (g.K.Sink.accepted c.write_more.new.sink) (more_after geo z))
     last c.in_ok-write_more.ensures.ok)
 
 pub returns-in_ok-write_all-2-clause-text : goal.returns-in_ok-write_all-2-clause-text

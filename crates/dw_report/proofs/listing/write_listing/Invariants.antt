@@ -7,7 +7,7 @@ abbrev pub invariant-lines : goal.invariant-lines
 invariant-lines g l = record {
   lender : lender l.lister ≡ lender l.initial.lister;
   rows : RowsSoFar g.B.Board.geometry l.position (stack_of l.initial.lister) (stack_of l.lister) l.written
-      (g.K.Sink.taken l.initial.sink) (g.K.Sink.taken l.sink);
+      (g.K.Sink.accepted l.initial.sink) (g.K.Sink.accepted l.sink);
   start : l.text.start ≡ l.position;
   last : 1 ≤ l.written → l.last.items ≡ reverse (stack_of l.lister).line;
   few : l.written ≤ l.most;

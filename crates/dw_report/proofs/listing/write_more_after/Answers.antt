@@ -1,5 +1,5 @@
 use Rattle.std.proofs.Common.{codes, subst, OnOk, OnErr}
-use Rattle.std.specs.Io.KnownBytes.{Appends}
+use Rattle.dw_notation.specs.Streams.{Appends}
 use Rattle.std.proofs.lemmas.Result.{err_from_is_err_and}
 use Rattle.dw_list.specs.Tokens.{token_of}
 use Rattle.dw_notation.specs.Writes.{StopsShort}
@@ -24,13 +24,13 @@ returns-clause-ok g c =
     last_written _ _ _ _ (codes "more after ") (token_of g.B.Board.geometry c.args.last.now) (codes "\n")
     c.write_all-2.result (subst (Appends _ _) c.as_bytes.ensures.value c.in_ok-write_all.ensures.ok)
     c.in_ok-write_token.ensures.ok
-    (subst (λ z. OnOk c.write_all-2.result (Appends (g.K.Sink.taken c.write_token.new.sink)
-    (g.K.Sink.taken c.write_all-2.new.sink) z)) c.as_bytes-2.ensures.value c.write_all-2.ensures.ok)
+    (subst (λ z. OnOk c.write_all-2.result (Appends (g.K.Sink.accepted c.write_token.new.sink)
+    (g.K.Sink.accepted c.write_all-2.new.sink) z)) c.as_bytes-2.ensures.value c.write_all-2.ensures.ok)
 
 pub returns-clause-err : goal.returns-clause-err
 returns-clause-err g c =
     last_short _ _ _ _ (codes "more after ") (token_of g.B.Board.geometry c.args.last.now) (codes "\n")
     c.write_all-2.result (subst (Appends _ _) c.as_bytes.ensures.value c.in_ok-write_all.ensures.ok)
     c.in_ok-write_token.ensures.ok
-    (subst (λ z. OnErr c.write_all-2.result (StopsShort (g.K.Sink.taken c.write_token.new.sink)
-    (g.K.Sink.taken c.write_all-2.new.sink) z)) c.as_bytes-2.ensures.value c.write_all-2.ensures.err)
+    (subst (λ z. OnErr c.write_all-2.result (StopsShort (g.K.Sink.accepted c.write_token.new.sink)
+    (g.K.Sink.accepted c.write_all-2.new.sink) z)) c.as_bytes-2.ensures.value c.write_all-2.ensures.err)

@@ -32,7 +32,7 @@ returns-in_err-write_listing-in-None-clause-text g c =
     let all = c.lines_exist.ensures.some geo g.met.B.Board.numbers p n in
     let none : (request_of c.args.settings.now).after ≡ None = ap (option_map (λ line. line.items)) c.in-None.is in
     let why = err_from_is_err_and c.from_residual.result c.from_residual.ensures.1 in
-    subst (λ o. EndsListed geo p n most o (g.K.Sink.taken c.args.sink.now) (g.K.Sink.taken c.write_listing.new.sink)
+    subst (λ o. EndsListed geo p n most o (g.K.Sink.accepted c.args.sink.now) (g.K.Sink.accepted c.write_listing.new.sink)
     c.from_residual.result) (sym none)
     (listed_fault geo p n most None all.0 (listed_all geo p n most all.0 all.1) _ _ c.write_listing.result
     c.from_residual.result c.in_err-write_listing-in-None.field-0.0 why.0 c.in_err-write_listing-in-None.was why.1
@@ -47,8 +47,8 @@ returns-in_ok-write_listing-in-None-clause-text g c =
     let most = c.args.settings.now.lines in
     let all = c.lines_exist.ensures.some geo g.met.B.Board.numbers p n in
     let none : (request_of c.args.settings.now).after ≡ None = ap (option_map (λ line. line.items)) c.in-None.is in
-    subst (λ o. Writes (IsListedText geo p n most o) (g.K.Sink.taken c.args.sink.now)
-    (g.K.Sink.taken c.write_listing.new.sink)) (sym none)
+    subst (λ o. Writes (IsListedText geo p n most o) (g.K.Sink.accepted c.args.sink.now)
+    (g.K.Sink.accepted c.write_listing.new.sink)) (sym none)
     (listed_written geo p n most None all.0 (listed_all geo p n most all.0 all.1) _ _
     (c.in_ok-write_listing-in-None.ensures.text all.0 ((c.requires.before.to_come all.0).0 all.1)))
 
@@ -84,8 +84,8 @@ returns-in-Some-clause-text g c =
     let geo = g.B.Board.geometry in
     let p = c.args.position.now in
     let most = c.args.settings.now.lines in
-    let old = g.K.Sink.taken c.args.sink.now in
-    let new = g.K.Sink.taken c.write_after.new.sink in
+    let old = g.K.Sink.accepted c.args.sink.now in
+    let new = g.K.Sink.accepted c.write_after.new.sink in
     let line : (request_of c.args.settings.now).after ≡ Some c.as_slice.result.now =
     ap (option_map (λ line. line.items)) c.in-Some.is ∙ ap Some (sym c.as_slice.ensures.value) in
     subst (λ o. EndsListed geo p c.args.settings.now.n most o old new c.write_after.result) (sym line)

@@ -10,7 +10,7 @@ pub returns-in_err-switch_to-clause-text : goal.returns-in_err-switch_to-clause-
 returns-in_err-switch_to-clause-text g c =
     let why = err_from_is_err_and c.from_residual.result c.from_residual.ensures.1 in
     nothing_written (IsRow g.B.Board.geometry c.args.text.now.start c.args.line.now)
-    (g.K.Sink.taken c.args.sink.now) c.from_residual.result why.0 stops.Memory why.1 why.2
+    (g.K.Sink.accepted c.args.sink.now) c.from_residual.result why.0 stops.Memory why.1 why.2
 
 pub returns-in_err-switch_to-clause-sink : goal.returns-in_err-switch_to-clause-sink
 returns-in_err-switch_to-clause-sink g c =

@@ -17,7 +17,7 @@ returns-in_err-list-clause-text g c =
     at_stop (IsMovesText geo p) (AreLinesOf (IsMovesText geo p)) _ _ c.from_residual.result stops.Memory (why.1
     ∙ ap Err why.2)
     (no_lines (IsMovesText geo p) (moves_some geo p c.best-taken.result (c.moves_in_order.ensures.listed geo
-    g.met.B.Board.numbers p) c.best-taken.ensures.value) (g.K.Sink.taken c.args.sink.now))
+    g.met.B.Board.numbers p) c.best-taken.ensures.value) (g.K.Sink.accepted c.args.sink.now))
 
 pub returns-in_err-write_all-clause-text : goal.returns-in_err-write_all-clause-text
 returns-in_err-write_all-clause-text g c =
@@ -29,15 +29,15 @@ returns-in_err-write_all-clause-text g c =
     let why = err_from_is_err_and c.from_residual-in_err-write_all.result c.from_residual-in_err-write_all.ensures.1 in
     at_sink (IsMovesText geo p) (AreLinesOf (IsMovesText geo p)) _ _ c.from_residual-in_err-write_all.result (why.1
     ∙ ap Err why.2)
-    (line_short geo p list c.moves.place c.best-taken.result no_move (g.K.Sink.taken c.args.sink.now)
-    (g.K.Sink.taken c.moves.sink) (g.K.Sink.taken c.write_all.new.sink) c.as_bytes.result.now all
+    (line_short geo p list c.moves.place c.best-taken.result no_move (g.K.Sink.accepted c.args.sink.now)
+    (g.K.Sink.accepted c.moves.sink) (g.K.Sink.accepted c.write_all.new.sink) c.as_bytes.result.now all
     c.best-taken.ensures.value c.moves.invariant.lines c.moves-test.true
     c.in_err-write_all.ensures.err (c.as_bytes.ensures.value ∙ (c.as_str.ensures.value ∙ c.move_line.ensures no_move)))
 
 pub moves-preserved : goal.moves-preserved
 moves-preserved g c = record {
   lines = lines_more g.B.Board.geometry c.args.position.now c.as_slice-moves.result.now c.moves.place no_move
-      (g.K.Sink.taken c.args.sink.now) (g.K.Sink.taken c.moves.sink) (g.K.Sink.taken c.write_all.new.sink)
+      (g.K.Sink.accepted c.args.sink.now) (g.K.Sink.accepted c.moves.sink) (g.K.Sink.accepted c.write_all.new.sink)
       c.as_bytes.result.now c.moves.invariant.lines c.moves-test.true
       c.in_ok-write_all.ensures.ok (c.as_bytes.ensures.value ∙ (c.as_str.ensures.value ∙ c.move_line.ensures no_move));
   sink = c.in_ok-write_all.ensures.kept ∙ c.moves.invariant.sink;
@@ -54,8 +54,8 @@ returns-in_err-write_all-2-clause-text g c =
     c.from_residual-in_err-write_all-2.ensures.1 in
     at_sink (IsMovesText geo p) (AreLinesOf (IsMovesText geo p)) _ _ c.from_residual-in_err-write_all-2.result (why.1
     ∙ ap Err why.2)
-    (count_short geo p list c.moves.place c.best-taken.result (g.K.Sink.taken c.args.sink.now)
-    (g.K.Sink.taken c.moves.sink) (g.K.Sink.taken c.write_all-2.new.sink) c.as_bytes-2.result.now all
+    (count_short geo p list c.moves.place c.best-taken.result (g.K.Sink.accepted c.args.sink.now)
+    (g.K.Sink.accepted c.moves.sink) (g.K.Sink.accepted c.write_all-2.new.sink) c.as_bytes-2.result.now all
     c.best-taken.ensures.value c.moves.invariant.lines c.moves-test.false
     c.in_err-write_all-2.ensures.err (c.as_bytes-2.ensures.value ∙ (c.as_str-2.ensures.value ∙ c.count_line.ensures)))
 
@@ -66,8 +66,8 @@ returns-clause-text g c =
     let list = c.as_slice-moves.result.now in
     let all : AreListed geo p list = subst (AreListed geo p) (sym c.as_slice-moves.ensures.value)
     c.in_ok-list.ensures in
-    lines_all geo p list c.moves.place c.best-taken.result (g.K.Sink.taken c.args.sink.now)
-    (g.K.Sink.taken c.moves.sink) (g.K.Sink.taken c.write_all-2.new.sink) c.as_bytes-2.result.now all
+    lines_all geo p list c.moves.place c.best-taken.result (g.K.Sink.accepted c.args.sink.now)
+    (g.K.Sink.accepted c.moves.sink) (g.K.Sink.accepted c.write_all-2.new.sink) c.as_bytes-2.result.now all
     c.best-taken.ensures.value c.moves.invariant.lines c.moves-test.false
     c.in_ok-write_all-2.ensures.ok (c.as_bytes-2.ensures.value ∙ (c.as_str-2.ensures.value ∙ c.count_line.ensures))
 

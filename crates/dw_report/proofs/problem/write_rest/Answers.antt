@@ -1,5 +1,5 @@
 use Rattle.std.proofs.Common.{◌≡◌, ◌∙◌, List, [], ℕ, ap, sym, subst, arith, refl}
-use Rattle.std.proofs.KnownBytes.{Appends-nil}
+use Rattle.dw_notation.specs.inner.StreamLemmas.{Appends-nil}
 use Rattle.std.proofs.lemmas.Result.{err_from_is_err_and}
 use Rattle.dw_notation.specs.Writes.{Writes}
 use Rattle.dw_report.specs.Request.{request_of}
@@ -21,7 +21,7 @@ returns-in_ok-write_moves-in-Moves-clause-text g c =
     let request = request_of c.args.settings.now in
     let said : Command → List ℕ → Type 0 = λ z. IsSaidThen g.B.Board.geometry z request c.args.number
     c.args.position.now in
-    subst (λ z. Writes (said z) (g.K.Sink.taken c.args.sink.now) (g.K.Sink.taken c.write_moves.new.sink))
+    subst (λ z. Writes (said z) (g.K.Sink.accepted c.args.sink.now) (g.K.Sink.accepted c.write_moves.new.sink))
     (sym c.in-Moves.is) c.in_ok-write_moves-in-Moves.ensures.text
 
 pub returns-in_ok-write_judged-in-Judge-clause-text : goal.returns-in_ok-write_judged-in-Judge-clause-text
@@ -29,7 +29,7 @@ returns-in_ok-write_judged-in-Judge-clause-text g c =
     let request = request_of c.args.settings.now in
     let said : Command → List ℕ → Type 0 = λ z. IsSaidThen g.B.Board.geometry z request c.args.number
     c.args.position.now in
-    subst (λ z. Writes (said z) (g.K.Sink.taken c.args.sink.now) (g.K.Sink.taken c.write_judged.new.sink))
+    subst (λ z. Writes (said z) (g.K.Sink.accepted c.args.sink.now) (g.K.Sink.accepted c.write_judged.new.sink))
     (sym c.in-Judge.is) c.in_ok-write_judged-in-Judge.ensures.text
 
 pub returns-in-List-clause-text : goal.returns-in-List-clause-text
@@ -37,16 +37,16 @@ returns-in-List-clause-text g c =
     let request = request_of c.args.settings.now in
     let said : Command → List ℕ → Type 0 = λ z. IsSaidThen g.B.Board.geometry z request c.args.number
     c.args.position.now in
-    subst (λ z. TextEnds (said z) (AreLinesOf (said z)) (g.K.Sink.taken c.args.sink.now)
-    (g.K.Sink.taken c.write_lines.new.sink) c.write_lines.result) (sym c.in-List.is) c.write_lines.ensures.text
+    subst (λ z. TextEnds (said z) (AreLinesOf (said z)) (g.K.Sink.accepted c.args.sink.now)
+    (g.K.Sink.accepted c.write_lines.new.sink) c.write_lines.result) (sym c.in-List.is) c.write_lines.ensures.text
 
 pub returns-in_err-write_moves-in-Moves-clause-text : goal.returns-in_err-write_moves-in-Moves-clause-text
 returns-in_err-write_moves-in-Moves-clause-text g c =
     let request = request_of c.args.settings.now in
     let said : Command → List ℕ → Type 0 = λ z. IsSaidThen g.B.Board.geometry z request c.args.number
     c.args.position.now in
-    let old = g.K.Sink.taken c.args.sink.now in
-    let new = g.K.Sink.taken c.write_moves.new.sink in
+    let old = g.K.Sink.accepted c.args.sink.now in
+    let new = g.K.Sink.accepted c.write_moves.new.sink in
     let why = err_from_is_err_and c.from_residual.result c.from_residual.ensures.1 in
     subst (λ z. TextEnds (said z) (AreLinesOf (said z)) old new c.from_residual.result) (sym c.in-Moves.is)
     (fault_same (said Moves) (AreLinesOf (said Moves)) old new c.write_moves.result c.from_residual.result
@@ -66,8 +66,8 @@ returns-in_err-write_judged-in-Judge-clause-text g c =
     let request = request_of c.args.settings.now in
     let said : Command → List ℕ → Type 0 = λ z. IsSaidThen g.B.Board.geometry z request c.args.number
     c.args.position.now in
-    let old = g.K.Sink.taken c.args.sink.now in
-    let new = g.K.Sink.taken c.write_judged.new.sink in
+    let old = g.K.Sink.accepted c.args.sink.now in
+    let new = g.K.Sink.accepted c.write_judged.new.sink in
     let why = err_from_is_err_and c.from_residual-in_err-write_judged-in-Judge.result
     c.from_residual-in_err-write_judged-in-Judge.ensures.1 in
     subst (λ z. TextEnds (said z) (AreLinesOf (said z)) old new c.from_residual-in_err-write_judged-in-Judge.result)
@@ -128,7 +128,7 @@ returns-in-List-clause-searches g c =
 pub returns-in-Show-clause-text : goal.returns-in-Show-clause-text
 returns-in-Show-clause-text g c =
     let request = request_of c.args.settings.now in
-    let old = g.K.Sink.taken c.args.sink.now in
+    let old = g.K.Sink.accepted c.args.sink.now in
     let said : Command → List ℕ → Type 0 = λ z. IsSaidThen g.B.Board.geometry z request c.args.number
     c.args.position.now in
     subst (λ z. Writes (said z) old old) (sym c.in-Show.is)
@@ -160,8 +160,8 @@ returns-in-ShowRow-clause-text g c =
     let geo = g.B.Board.geometry in
     let request = request_of c.args.settings.now in
     let p = c.args.position.now in
-    row_ends string_bytes geo request c.args.number p ShowRow (g.K.Sink.taken c.args.sink.now)
-    (g.K.Sink.taken c.write_row.new.sink) c.shown_row.result c.write_row.result c.in-ShowRow.is
+    row_ends string_bytes geo request c.args.number p ShowRow (g.K.Sink.accepted c.args.sink.now)
+    (g.K.Sink.accepted c.write_row.new.sink) c.shown_row.result c.write_row.result c.in-ShowRow.is
     (c.one_report.ensures.texts geo g.met.B.Board.numbers request c.requires.sound.lines) c.shown_row.ensures refl
     c.write_row.ensures.text
 
@@ -180,8 +180,8 @@ returns-in-MovesRow-clause-text g c =
     let geo = g.B.Board.geometry in
     let request = request_of c.args.settings.now in
     let p = c.args.position.now in
-    row_ends string_bytes geo request c.args.number p MovesRow (g.K.Sink.taken c.args.sink.now)
-    (g.K.Sink.taken c.write_row-in-MovesRow.new.sink) c.moves_row.result c.write_row-in-MovesRow.result c.in-MovesRow.is
+    row_ends string_bytes geo request c.args.number p MovesRow (g.K.Sink.accepted c.args.sink.now)
+    (g.K.Sink.accepted c.write_row-in-MovesRow.new.sink) c.moves_row.result c.write_row-in-MovesRow.result c.in-MovesRow.is
     (c.one_report.ensures.texts geo g.met.B.Board.numbers request c.requires.sound.lines) c.moves_row.ensures refl
     c.write_row-in-MovesRow.ensures.text
 

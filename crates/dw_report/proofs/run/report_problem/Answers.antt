@@ -55,13 +55,13 @@ returns-clause-searches g c =
 pub returns-clause-text : goal.returns-clause-text
 returns-clause-text g c =
     chosen_report_on g.B.Board.geometry (request_of c.args.settings.now) (numbered c.args.problem.now)
-    (g.K.Sink.taken c.args.sink.now) (g.K.Sink.taken c.write_problem.new.sink)
+    (g.K.Sink.accepted c.args.sink.now) (g.K.Sink.accepted c.write_problem.new.sink)
     (sym c.chooses.ensures ∙ c.if-not-chooses.false) c.in_ok-refused.ensures.text
 
 pub returns-then-not-chooses-clause-text : goal.returns-then-not-chooses-clause-text
 returns-then-not-chooses-clause-text g c =
     no_report_on g.B.Board.geometry (request_of c.args.settings.now) (numbered c.args.problem.now)
-    (g.K.Sink.taken c.args.sink.now) (sym c.chooses.ensures ∙ c.if-not-chooses.true)
+    (g.K.Sink.accepted c.args.sink.now) (sym c.chooses.ensures ∙ c.if-not-chooses.true)
 
 pub returns-then-not-chooses-clause-searches : goal.returns-then-not-chooses-clause-searches
 returns-then-not-chooses-clause-searches g c =

@@ -32,20 +32,20 @@ problems-init g c =
 pub returns-in-Ok-None-clause-report : goal.returns-in-Ok-None-clause-report
 returns-in-Ok-None-clause-report g c =
     let ends = next_none g.B.Board.geometry (request_of c.args.settings.now)
-    (g.S.Source.coming (source_of c.new-problems.result)) (g.S.Source.coming (source_of c.problems.problems))
-    (g.S.Source.coming (source_of c.next.new.self)) (g.S.Source.has_ended (source_of c.next.new.self)) (g.K.Sink.taken
-    c.args.sink.now) (g.K.Sink.taken c.problems.sink) (reader_of c.problems.problems) (reader_of c.next.new.self)
+    (g.S.Source.supply (source_of c.new-problems.result)) (g.S.Source.supply (source_of c.problems.problems))
+    (g.S.Source.supply (source_of c.next.new.self)) (g.K.Sink.accepted c.args.sink.now)
+    (g.K.Sink.accepted c.problems.sink) (reader_of c.problems.problems) (reader_of c.next.new.self)
     c.problems.summary c.in-Ok-None.field-0 c.in-Ok-None.field-0-is c.in-Ok-None.ensures.given
-    c.in-Ok-None.ensures.counted c.problems.invariant.so_far (λ met. (c.next.ensures.end c.problems.invariant.end
-    met).0) c.problems.invariant.bound in
+    c.in-Ok-None.ensures.counted c.problems.invariant.so_far c.next.ensures.stays
+    (c.next.ensures.end c.problems.invariant.end) c.problems.invariant.bound in
     search rules
 
 pub returns-in-Err-clause-report : goal.returns-in-Err-clause-report
 returns-in-Err-clause-report g c =
     let ends = next_failed g.B.Board.geometry (request_of c.args.settings.now)
-    (g.S.Source.coming (source_of c.new-problems.result)) (g.S.Source.coming (source_of c.problems.problems))
-    (g.S.Source.coming (source_of c.next.new.self)) (g.S.Source.has_ended (source_of c.next.new.self)) (g.K.Sink.taken
-    c.args.sink.now) (g.K.Sink.taken c.problems.sink) (reader_of c.problems.problems) (reader_of c.next.new.self)
+    (g.S.Source.supply (source_of c.new-problems.result)) (g.S.Source.supply (source_of c.problems.problems))
+    (g.S.Source.supply (source_of c.next.new.self)) (g.K.Sink.accepted c.args.sink.now)
+    (g.K.Sink.accepted c.problems.sink) (reader_of c.problems.problems) (reader_of c.next.new.self)
     c.problems.summary c.next.result c.in-Err.field-0 (g.S.Source.is_failed (source_of c.next.new.self))
     c.in-Err.is c.next.ensures.given c.next.ensures.stopped c.next.ensures.stays c.problems.invariant.so_far in
     search rules
@@ -63,14 +63,12 @@ report_problem-requires g c =
 pub returns-in-Err-report_problem-clause-report : goal.returns-in-Err-report_problem-clause-report
 returns-in-Err-report_problem-clause-report g c =
     let stops = next_fault g.B.Board.geometry (request_of c.args.settings.now)
-    (g.S.Source.coming (source_of c.new-problems.result)) (g.S.Source.coming (source_of c.problems.problems))
-    (g.S.Source.coming (source_of c.next.new.self)) (g.S.Source.has_ended (source_of c.next.new.self)) (g.K.Sink.taken
-    c.args.sink.now) (g.K.Sink.taken c.problems.sink)
-    (g.K.Sink.taken c.report_problem.new.sink) (reader_of c.problems.problems) (reader_of c.next.new.self)
+    (g.S.Source.supply (source_of c.new-problems.result)) (g.S.Source.supply (source_of c.problems.problems))
+    (g.S.Source.supply (source_of c.next.new.self)) (g.K.Sink.accepted c.args.sink.now)
+    (g.K.Sink.accepted c.problems.sink) (g.K.Sink.accepted c.report_problem.new.sink) (reader_of c.problems.problems) (reader_of c.next.new.self)
     c.problems.summary c.in-Ok-Some.field-0 c.in-Ok-Some.problem c.expanded.result c.report_problem.result
     c.in-Err-report_problem.fault c.in-Ok-Some.field-0-is c.in-Err-report_problem.is c.in-Ok-Some.ensures.given
-    c.problems.invariant.so_far (λ met. (c.next.ensures.end c.problems.invariant.end met).0) c.next.ensures.stays
-    (λ met. (c.next.ensures.end c.problems.invariant.end met).1)
+    c.problems.invariant.so_far c.next.ensures.stays (c.next.ensures.end c.problems.invariant.end)
     (c.one_report.ensures.texts g.B.Board.geometry g.met.B.Board.numbers (request_of c.args.settings.now)
     c.requires.sound.lines) c.report_problem.ensures.text in
     rw c.ended.ensures (search rules)
@@ -85,18 +83,16 @@ returns-in-Err-report_problem-clause-stopped g c =
 pub returns-then-asks_for-clause-report : goal.returns-then-asks_for-clause-report
 returns-then-asks_for-clause-report g c =
     let more = next_more g.B.Board.geometry (request_of c.args.settings.now)
-    (g.S.Source.coming (source_of c.new-problems.result)) (g.S.Source.coming (source_of c.problems.problems))
-    (g.S.Source.coming (source_of c.next.new.self)) (g.K.Sink.taken c.args.sink.now) (g.K.Sink.taken c.problems.sink)
-    (g.K.Sink.taken c.report_problem.new.sink) (reader_of c.problems.problems) (reader_of c.next.new.self)
+    (g.S.Source.supply (source_of c.new-problems.result)) (g.S.Source.supply (source_of c.problems.problems))
+    (g.S.Source.supply (source_of c.next.new.self)) (g.K.Sink.accepted c.args.sink.now)
+    (g.K.Sink.accepted c.problems.sink) (g.K.Sink.accepted c.report_problem.new.sink) (reader_of c.problems.problems) (reader_of c.next.new.self)
     c.problems.summary c.in-Ok.counted c.in-Ok-Some.field-0 c.in-Ok-Some.problem c.in-Ok-Some.field-0-is
     c.in-Ok-Some.ensures.given c.in-Ok-Some.ensures.counted c.problems.invariant.so_far
-    (λ met. (c.next.ensures.end c.problems.invariant.end met).0) c.next.ensures.stays c.in-Ok.ensures.text
-    c.in-Ok.ensures.counts in
+    c.next.ensures.stays c.in-Ok.ensures.text c.in-Ok.ensures.counts in
     let ends = SoFar-asked g.B.Board.geometry (request_of c.args.settings.now)
-    (g.S.Source.coming (source_of c.new-problems.result)) (g.S.Source.coming (source_of c.next.new.self))
-    (g.S.Source.has_ended (source_of c.next.new.self)) (g.K.Sink.taken c.args.sink.now) (g.K.Sink.taken
-    c.report_problem.new.sink) (reader_of c.next.new.self) c.in-Ok.counted (numbered c.in-Ok-Some.problem) more
-    (sym c.asks_for.ensures ∙ c.if-asks_for.true) in
+    (g.S.Source.supply (source_of c.new-problems.result)) (g.S.Source.supply (source_of c.next.new.self))
+    (g.K.Sink.accepted c.args.sink.now) (g.K.Sink.accepted c.report_problem.new.sink) (reader_of c.next.new.self) c.in-Ok.counted (numbered c.in-Ok-Some.problem) more
+    (sym c.asks_for.ensures ∙ c.if-asks_for.true) (c.next.ensures.end c.problems.invariant.end) in
     search rules
 
 pub problems-preserved : goal.problems-preserved
@@ -109,13 +105,12 @@ problems-preserved g c =
     let one : Numbered = numbered c.in-Ok-Some.problem in
     let counts : CountsOne g.B.Board.geometry request c.problems.summary c.in-Ok.counted one = c.in-Ok.ensures.counts in
     let more = next_more g.B.Board.geometry (request_of c.args.settings.now)
-    (g.S.Source.coming (source_of c.new-problems.result)) (g.S.Source.coming (source_of c.problems.problems))
-    (g.S.Source.coming (source_of c.next.new.self)) (g.K.Sink.taken c.args.sink.now) (g.K.Sink.taken c.problems.sink)
-    (g.K.Sink.taken c.report_problem.new.sink) (reader_of c.problems.problems) (reader_of c.next.new.self)
+    (g.S.Source.supply (source_of c.new-problems.result)) (g.S.Source.supply (source_of c.problems.problems))
+    (g.S.Source.supply (source_of c.next.new.self)) (g.K.Sink.accepted c.args.sink.now)
+    (g.K.Sink.accepted c.problems.sink) (g.K.Sink.accepted c.report_problem.new.sink) (reader_of c.problems.problems) (reader_of c.next.new.self)
     c.problems.summary c.in-Ok.counted c.in-Ok-Some.field-0 c.in-Ok-Some.problem c.in-Ok-Some.field-0-is
     c.in-Ok-Some.ensures.given c.in-Ok-Some.ensures.counted c.problems.invariant.so_far
-    (λ met. (c.next.ensures.end c.problems.invariant.end met).0) c.next.ensures.stays c.in-Ok.ensures.text
-    c.in-Ok.ensures.counts in
+    c.next.ensures.stays c.in-Ok.ensures.text c.in-Ok.ensures.counts in
     let few = length-chosen-le request.only one in
     let refused = refused-le g.B.Board.geometry request (chosen request.only (one ∷ [])) counts.refused.0
     counts.refused.1 in
@@ -124,8 +119,8 @@ problems-preserved g c =
     record {
       lender = c.next.ensures.lender ∙ so_far.lender;
       so_far = SoFar-next g.B.Board.geometry (request_of c.args.settings.now)
-          (g.S.Source.coming (source_of c.new-problems.result)) (g.S.Source.coming (source_of c.next.new.self))
-          (g.K.Sink.taken c.args.sink.now) (g.K.Sink.taken c.report_problem.new.sink)
+          (g.S.Source.supply (source_of c.new-problems.result)) (g.S.Source.supply (source_of c.next.new.self))
+          (g.K.Sink.accepted c.args.sink.now) (g.K.Sink.accepted c.report_problem.new.sink)
           (reader_of c.next.new.self) c.in-Ok.counted (numbered c.in-Ok-Some.problem) more
           (sym c.asks_for.ensures ∙ c.if-asks_for.false);
       end = c.next.ensures.end so_far.end;

@@ -12,11 +12,10 @@ invariant-problems g l =
     let sink = g.K.Sink in
     record {
       lender : lender l.problems ≡ lender l.initial.problems;
-      so_far : SoFar g.B.Board.geometry (request_of l.settings) (source.coming (source_of l.initial.problems))
-          (source.coming (source_of l.problems))
-          (sink.taken l.initial.sink) (sink.taken l.sink) (reader_of l.problems) l.summary;
-      end : EndIsTrue (source.coming (source_of l.problems)) (source.has_ended (source_of l.problems))
-          (reader_of l.problems);
+      so_far : SoFar g.B.Board.geometry (request_of l.settings) (source.supply (source_of l.initial.problems))
+          (source.supply (source_of l.problems)) (sink.accepted l.initial.sink) (sink.accepted l.sink)
+          (reader_of l.problems) l.summary;
+      end : EndIsTrue (source.supply (source_of l.problems)) (reader_of l.problems);
       source : source.is_failed (source_of l.problems) ≡ false;
       sink : sink.is_failed l.sink ≡ false;
       limit : l.solver.limit ≡ l.initial.solver.limit;

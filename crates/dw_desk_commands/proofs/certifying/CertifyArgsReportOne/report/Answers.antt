@@ -1,5 +1,5 @@
 use Rattle.std.proofs.Common.{[], refl, sym, subst}
-use Rattle.std.proofs.KnownBytes.{Appends-nil}
+use Rattle.dw_notation.specs.inner.StreamLemmas.{Appends-nil}
 use Rattle.dw_desk_commands.specs.Certifying.{Certifies}
 use Rattle.dw_desk_commands.specs.ProblemText.{IsDoneWith}
 use Rattle.dw_commands.specs.declared.ending.Ending.TheVariants.{TooManyPositions, Failed}
@@ -15,7 +15,7 @@ returns-then-dropped-gt0-clause-text g c =
       [],
       subst (λ z. IsDoneWith (Certifies geo c.args.self.now.n.value)
           (first_line geo (numbered c.args.game.now.problem)) z TooManyPositions []) (sym c.in-Ok.is) refl,
-      Appends-nil (g.K.Sink.taken c.args.sink.now),
+      Appends-nil (g.K.Sink.accepted c.args.sink.now),
     )
 
 pub returns-in-Err-Missing-clause-text : goal.returns-in-Err-Missing-clause-text
@@ -24,7 +24,7 @@ returns-in-Err-Missing-clause-text g c =
       [],
       subst (λ z. IsDoneWith (Certifies geo c.args.self.now.n.value)
           (first_line geo (numbered c.args.game.now.problem)) z TooManyPositions []) (sym c.in-Ok.is) refl,
-      Appends-nil (g.K.Sink.taken c.args.sink.now),
+      Appends-nil (g.K.Sink.accepted c.args.sink.now),
     )
 
 pub returns-in-Err-Memory-clause-text : goal.returns-in-Err-Memory-clause-text
@@ -34,5 +34,5 @@ returns-in-Err-Memory-clause-text g c =
       subst (λ z. IsDoneWith (Certifies geo c.args.self.now.n.value)
           (first_line geo (numbered c.args.game.now.problem)) z
           (Failed (Stopped Memory c.expanded-expanded.result)) []) (sym c.in-Ok.is) refl,
-      Appends-nil (g.K.Sink.taken c.args.sink.now),
+      Appends-nil (g.K.Sink.accepted c.args.sink.now),
     )

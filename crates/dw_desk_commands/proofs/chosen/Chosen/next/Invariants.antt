@@ -1,17 +1,16 @@
-use Rattle.std.proofs.Common.{◌≡◌, ◌≤◌, List}
-use Rattle.dw_desk_commands.specs.inner.Choosing.{AreToCome, IsTextKnown, Runs, lender}
+use Rattle.std.proofs.Common.{◌≡◌, ◌≤◌, ℕ, List}
+use Rattle.dw_desk_commands.specs.inner.Choosing.{AreToCome, GoesOn, Runs, lender}
 use Rattle.dw_games.specs.Games.{NumberedGame}
 use Rattle.dw_desk_commands.proofs.chosen.Chosen.next.Given as goal
 
 abbrev pub invariant-games : goal.invariant-games
 invariant-games g l =
     let geo = g.B.Board.geometry in
-    let source = g.S.Source in
+    let supply = g.S.Source.supply in
     record {
-      handed : (found : List NumberedGame) → AreToCome geo source.coming source.has_ended l.self found
-          → AreToCome geo source.coming source.has_ended l.initial.self found;
-      known : IsTextKnown source.coming source.has_ended l.initial.self.text
-          → IsTextKnown source.coming source.has_ended l.self.text;
+      handed : (whole : List ℕ) (found : List NumberedGame) → AreToCome geo supply l.self whole found
+          → AreToCome geo supply l.initial.self whole found;
+      on : GoesOn supply l.initial.self.text l.self.text;
       portion : l.self.portion ≡ l.initial.self.portion;
       lender : lender l.self.text ≡ lender l.initial.self.text;
       runs : Runs l.self.text;

@@ -1,6 +1,6 @@
 use Rattle.std.proofs.Common.{◌-◌, ◌∙◌, ◌==◌, ◌++◌, not, refl, subst, sym}
-use Rattle.std.specs.Io.KnownBytes.{Appends}
-use Rattle.std.proofs.KnownBytes.{Appends-trans}
+use Rattle.dw_notation.specs.Streams.{Appends}
+use Rattle.dw_notation.specs.inner.StreamLemmas.{Appends-trans}
 use Rattle.dw_mend.specs.Mending.{IsMendText}
 use Rattle.dw_notation.specs.Problems.{numbered}
 use Rattle.dw_desk_commands.specs.Mending.{IsMended, front}
@@ -10,7 +10,7 @@ use Rattle.dw_desk_commands.proofs.mending.MendArgsReportOne.report.Goals as goa
 pub returns-clause-text : goal.returns-clause-text
 returns-clause-text g c =
     let geo = g.B.Board.geometry in
-    let taken = g.K.Sink.taken in
+    let taken = g.K.Sink.accepted in
     let query = c.args.self.now in
     let problem = numbered c.args.game.now.problem in
     let mended = c.in_ok-mended.field-0 in

@@ -31,7 +31,7 @@ returns-in-Some-clause-given g c =
     c.next_piece.new.self) new
     c.in-Some.problem c.in-Ok.is_whole (omega (arith, c.if-is_over.ensures, c.pieces.invariant.handed))
     c.pieces.invariant.nothing c.in-Ok.ensures.piece (ap handed_out c.next_piece.ensures.numbers)
-    (record { ahead = handed.ahead _; rest = refl; given = c.in-Some.ensures.given }) refl)
+    (record { ahead = handed.ahead _; rest = refl; end = refl; given = c.in-Some.ensures.given }))
 
 pub returns-then-not-is_whole-clause-given : goal.returns-then-not-is_whole-clause-given
 unfolding reader_of
@@ -43,7 +43,7 @@ returns-then-not-is_whole-clause-given g c =
     c.next_piece.new.self) new
     c.in-Ok.is_whole c.if-not-is_whole.true (omega (arith, c.if-is_over.ensures, c.pieces.invariant.handed))
     c.pieces.invariant.nothing c.in-Ok.ensures.piece (ap handed_out c.next_piece.ensures.numbers)
-    (record { ahead = handed.ahead _; rest = refl; given = c.in_default.ensures.given }) refl)
+    (record { ahead = handed.ahead _; rest = refl; end = refl; given = c.in_default.ensures.given }))
 
 pub pieces-preserved : goal.pieces-preserved
 pieces-preserved g c =
@@ -58,7 +58,7 @@ pieces-preserved g c =
       nothing = HandsOut-blank _ _ _ _ _ (progress_of c.pieces.self) (progress_of c.next_piece.new.self) new
           c.in-Ok.is_whole
           c.if-not-is_whole.false (omega (arith, c.if-is_over.ensures, so_far.handed)) so_far.nothing next.piece number
-          (record { ahead = handed.ahead _; rest = refl; given = c.in_default.ensures.given });
+          (record { ahead = handed.ahead _; rest = refl; end = refl; given = c.in_default.ensures.given });
       end = λ known. next.end (so_far.end known);
       handed = c.in_default.ensures.handed ∙ add-zero _ ∙ number ∙ so_far.handed;
       stays = λ met. next.stays (so_far.stays met);

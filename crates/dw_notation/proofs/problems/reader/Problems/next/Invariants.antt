@@ -11,10 +11,10 @@ invariant-pieces g l =
     let now = l.self.source.now in
     record {
       lender : l.self.source.ghost_name ≡ l.initial.self.source.ghost_name;
-      nothing : HandsOut g.B.Board.geometry (source.coming old) (source.coming now) (progress_of l.initial.self)
+      nothing : HandsOut g.B.Board.geometry (source.supply old) (source.supply now) (progress_of l.initial.self)
           (progress_of l.self) [];
-      end : EndIsKnown (source.coming old) (source.has_ended old) (met_end_in l.initial.self.buffer)
-          → EndIsKnown (source.coming now) (source.has_ended now) (met_end_in l.self.buffer);
+      end : EndIsKnown (source.supply old) (met_end_in l.initial.self.buffer)
+          → EndIsKnown (source.supply now) (met_end_in l.self.buffer);
       handed : handed_out l.self.numbers ≡ handed_out l.initial.self.numbers;
       stays : met_end_in l.initial.self.buffer ≡ true → met_end_in l.self.buffer ≡ true;
       failed : source.is_failed now ≡ source.is_failed old;

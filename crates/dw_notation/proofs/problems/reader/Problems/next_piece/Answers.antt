@@ -9,13 +9,13 @@ returns-then-cut-clause-piece g c =
     let s = g.S.Source in
     let now = c.reads.self in
     let fill = c.in_ok-fill.ensures in
-    let carried = CarriesOn-filled s.coming s.has_ended s.is_failed s.pulls_left _ (progress_of c.args.self.now)
+    let carried = CarriesOn-filled s.supply s.is_failed s.pulls_left _ (progress_of c.args.self.now)
     now.pieces
     (handed_out now.numbers) now.source.now c.fill.new.source now.buffer c.fill.new.self _ c.reads.invariant.carried
     fill.passes fill.need fill.few in
     rw c.cut.ensures.source (TakesPiece-cut _ _ (progress_of c.args.self.now)
     (progress_at c.fill.new.self now.pieces (handed_out now.numbers)) (progress_of c.cut.new.self) carried
-    (c.cut.ensures.found c.if-cut.true))
+    (c.cut.ensures.found c.if-cut.true) c.cut.ensures.met_end)
 
 pub reads-preserved : goal.reads-preserved
 reads-preserved g c =
@@ -24,7 +24,7 @@ reads-preserved g c =
     let so_far = c.reads.invariant in
     let fill = c.in_ok-fill.ensures in
     let cut = c.cut.ensures in
-    let carried = CarriesOn-filled s.coming s.has_ended s.is_failed s.pulls_left _ (progress_of c.args.self.now)
+    let carried = CarriesOn-filled s.supply s.is_failed s.pulls_left _ (progress_of c.args.self.now)
     now.pieces
     (handed_out now.numbers) now.source.now c.fill.new.source now.buffer c.fill.new.self _ so_far.carried fill.passes
     fill.need fill.few in
@@ -33,7 +33,7 @@ reads-preserved g c =
       lender = ap (λ r. r.ghost_name) cut.source ∙ so_far.lender;
       carried = rw cut.source (CarriesOn-cut _ _ (progress_of c.args.self.now)
           (progress_at c.fill.new.self now.pieces (handed_out now.numbers)) (progress_of c.cut.new.self) carried
-          (cut.same c.if-cut.false));
+          (cut.same c.if-cut.false) cut.met_end);
       numbers = cut.numbers ∙ so_far.numbers;
       stays = λ was. cut.met_end ∙ (fill.passes.stays (so_far.stays was)).1;
       end = λ known. rw (cut.source, cut.met_end) (fill.passes.end (so_far.end known));

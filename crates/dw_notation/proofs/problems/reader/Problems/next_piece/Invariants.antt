@@ -10,11 +10,11 @@ invariant-reads g l =
     let now = l.self.source.now in
     record {
       lender : l.self.source.ghost_name ≡ l.initial.self.source.ghost_name;
-      carried : CarriesOn (source.coming old) (source.coming now) (progress_of l.initial.self) (progress_of l.self);
+      carried : CarriesOn (source.supply old) (source.supply now) (progress_of l.initial.self) (progress_of l.self);
       numbers : l.self.numbers ≡ l.initial.self.numbers;
       stays : met_end_in l.initial.self.buffer ≡ true → met_end_in l.self.buffer ≡ true;
-      end : EndIsKnown (source.coming old) (source.has_ended old) (met_end_in l.initial.self.buffer)
-          → EndIsKnown (source.coming now) (source.has_ended now) (met_end_in l.self.buffer);
+      end : EndIsKnown (source.supply old) (met_end_in l.initial.self.buffer)
+          → EndIsKnown (source.supply now) (met_end_in l.self.buffer);
       failed : source.is_failed now ≡ source.is_failed old;
       again : source.is_failed old ≡ true → IsStarved (progress_of l.initial.self) → IsStarved (progress_of l.self);
       lighter : weight (source.pulls_left now) (unread_in l.self.buffer)

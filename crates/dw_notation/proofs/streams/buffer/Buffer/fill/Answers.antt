@@ -1,5 +1,5 @@
 use Rattle.std.proofs.Common.{◌≡◌, ◌||◌, [], true, false, Bool, refl, append-nil, arith, rules}
-use Rattle.std.proofs.KnownBytes.{Consumes-nil}
+use Rattle.dw_notation.specs.inner.StreamLemmas.{Reads-nil}
 use Rattle.dw_notation.proofs.streams.buffer.Buffer.fill.Goals as goal
 
 or-false : (b : Bool) → b ≡ (b || false)
@@ -9,7 +9,7 @@ or-false false = refl
 pub returns-then-self-clause-passes : goal.returns-then-self-clause-passes
 returns-then-self-clause-passes g c = record {
   read = [];
-  took = Consumes-nil (g.S.Source.coming c.args.source.now);
+  took = Reads-nil (g.S.Source.supply c.args.source.now);
   same = append-nil _;
   stays = λ met. (refl, met);
   end = λ known. known;
