@@ -1,13 +1,24 @@
 //! `dw`: problems of international draughts.
 #![tactic(auto)]
 
+ghost use Rattle.std.specs.Prelude.{◌≡◌, Result, Err, [], false, true};
+ghost use Rattle.dw_commands.specs.Ending.{ending_of};
+ghost use Rattle.dw_notation.specs.Endpoints.{told_by, read_from, has_read_all, has_read_failed};
+ghost use Rattle.dw_notation.specs.Endpoints.{accepted_by, has_write_failed};
+ghost use Rattle.dw_report.specs.Request.{request_of};
+ghost use Rattle.dw_report.specs.Running.{Runs, StopsRightly};
+ghost use Rattle.dw_report.specs.declared.settings.RunFault.{RunFault as AnyFault};
+ghost use Rattle.dw_report.specs.declared.settings.RunFault.TheVariants as faults;
+ghost use Rattle.dw_report.specs.declared.settings.Summary.{Summary};
+
 use dw_arguments::{BoardSize, ReportArgs};
 use dw_board::{Board, Eight, Ten};
 use dw_commands::{Ending, Job};
 use dw_notation::{Reading, Writing};
 use dw_shell::{arguments, end_refused, end_with};
 use std::fs::File;
-use std::io::Read;
+use std::alloc::Global;
+use std::io::{Read, Write};
 use std::process::ExitCode;
 
 /// The program's name in its messages.
@@ -55,7 +66,43 @@ fn report_on<'a, B: Board>(
     job: Job<B>,
     reader: &mut dyn Read,
 ) -> Ending<&'a str> {
+    report_between(rt.alloc(), job, reader, rt.stdout()).ending
+}
+
+/// How a run ended, with its streams.
+#[derive(Drop)]
+struct Ended<'a, R, W> {
+    source: Reading<R>,
+    sink: Writing<W>,
+    ending: Ending<&'a str>,
+}
+
+/// Writes the report on the problems that the reader gives to the writer.
+fn report_between<'a, B: Board, R: Read, W: Write>(
+    alloc: Global,
+    job: Job<B>,
+    reader: R,
+    writer: W,
+) -> Ended<'a, R, W>
+    ensures { (ran : Result Summary AnyFault)
+        × Runs B.geometry (request_of job.settings)
+        (record { told = []; coming = R.remaining reader; has_ended = false })
+        (record {
+          told = told_by result.source;
+          coming = R.remaining (read_from result.source);
+          has_ended = has_read_all result.source;
+        }) [] (accepted_by result.sink) ran
+        × (ran ≡ Err faults.Read → has_read_failed result.source ≡ true)
+        × (ran ≡ Err faults.Write → has_write_failed result.sink ≡ true)
+        × StopsRightly job.settings.command job.settings.limit ran
+        × (result.ending ≡ ending_of ran job.settings.only) }
+{
     let mut source = Reading::new(reader);
-    let mut sink = Writing::new(rt.stdout());
-    job.run(rt.alloc(), &mut source, &mut sink)
+    let mut sink = Writing::new(writer);
+    let ending = job.run(alloc, &mut source, &mut sink);
+    Ended {
+        source,
+        sink,
+        ending,
+    }
 }

@@ -1,20 +1,24 @@
 //! `dw-desk`: a tool for composers, editors and judges of problems of international draughts.
 #![tactic(auto)]
 
-ghost use Rattle.std.specs.Prelude.{◌≡◌, ◌⊎◌};
+ghost use Rattle.std.specs.Prelude.{◌≡◌, ◌⊎◌, [], false};
+ghost use Rattle.dw_desk_commands.specs.Commands.{Obeys};
+ghost use Rattle.dw_desk_commands.specs.Ending.{FailsForCause};
+ghost use Rattle.dw_notation.specs.Endpoints.{told_by, read_from, has_read_all, accepted_by, has_write_failed};
 
 mod progress;
 
 use dw_arguments::{BoardSize, DeskArgs};
 use dw_board::{Board, Eight, Ten};
 use dw_commands::Ending;
-use dw_desk_commands::run_on;
+use dw_desk_commands::{DeskWatcher, run_on};
 use dw_notation::{Reading, Writing};
 use dw_shell::{arguments, end_refused, end_with};
 use dw_study::Slices;
 use progress::Progress;
 use std::fs::File;
-use std::io::{IsTerminal, Read};
+use std::alloc::Global;
+use std::io::{IsTerminal, Read, Write};
 use std::process::ExitCode;
 
 /// The program's name in its messages.
@@ -64,9 +68,43 @@ fn run_with<'a, B: Board>(
     requires { (B.geometry.rows ≡ 10) ⊎ (B.geometry.rows ≡ 8) }
 {
     let mut slices = slices_of(rt, args);
+    run_between::<B, _, _, _>(rt.alloc(), &mut slices, args, reader, rt.stdout()).ending
+}
+
+/// How a command ended, with its streams.
+#[derive(Drop)]
+struct Ended<'a, R, W> {
+    source: Reading<R>,
+    sink: Writing<W>,
+    ending: Ending<&'a str>,
+}
+
+/// Runs the command with the problems that the reader gives, and writes to the writer.
+fn run_between<'a, B: Board, P: DeskWatcher, R: Read, W: Write>(
+    alloc: Global,
+    slices: &mut Slices<P>,
+    args: &DeskArgs<'a>,
+    reader: R,
+    writer: W,
+) -> Ended<'a, R, W>
+    requires { (B.geometry.rows ≡ 10) ⊎ (B.geometry.rows ≡ 8) }
+    ensures obeys { Obeys B.geometry args.now
+        (record { told = []; coming = R.remaining reader; has_ended = false })
+        (record {
+          told = told_by result.source;
+          coming = R.remaining (read_from result.source);
+          has_ended = has_read_all result.source;
+        }) [] (accepted_by result.sink) result.ending }
+    ensures fails { FailsForCause (has_write_failed result.sink) result.ending }
+{
     let mut source = Reading::new(reader);
-    let mut sink = Writing::new(rt.stdout());
-    run_on::<B, _, _, _>(rt.alloc(), &mut slices, args, &mut source, &mut sink)
+    let mut sink = Writing::new(writer);
+    let ending = run_on::<B, _, _, _>(alloc, slices, args, &mut source, &mut sink);
+    Ended {
+        source,
+        sink,
+        ending,
+    }
 }
 
 /// Returns the slices of the searches and their watcher. If the progress is not shown, a search is one slice.

@@ -1,6 +1,6 @@
 -- The output and the end of a program, by its arguments and its input. `before` is the report before the call, and
 -- `after` the report after it; `full` means that there was no room for more.
-use Rattle.std.specs.Prelude.{◌≡◌, ◌⊎◌, ℕ, Bool, true, false, List, Option, Some, None, Result, Ok, Err}
+use Rattle.std.specs.Prelude.{◌≡◌, ◌⊎◌, ℕ, Bool, true, false, List, [], Option, Some, None, Result, Ok, Err}
 use Rattle.std.specs.Borrow.{Bor}
 use Rattle.std.specs.Option.{option_copied}
 use Rattle.clap.specs.Words.{subcommand_rows_of}
@@ -21,7 +21,9 @@ use Rattle.dw_commands.specs.declared.ending.Ending.TheVariants as end
 use Rattle.dw_desk_commands.specs.Commands.{Obeys}
 use Rattle.dw_desk_commands.specs.Ending.{FailsForCause}
 use Rattle.dw_moves.specs.Moves.{Move}
-use Rattle.dw_report.specs.Running.{RunEnds, StopsRightly}
+use Rattle.dw_notation.specs.Streams.{Supply}
+use Rattle.dw_report.specs.Running as running
+use Rattle.dw_report.specs.Running.{StopsRightly}
 use Rattle.dw_report.specs.declared.settings.RunFault.{RunFault}
 use Rattle.dw_report.specs.declared.settings.RunFault.TheVariants.{Read, Stopped, Write}
 use Rattle.dw_report.specs.declared.settings.Summary.{Summary}
@@ -36,64 +38,73 @@ abbrev pub board_of : BoardSize → Geometry
 board_of Ten = ten
 board_of Eight = eight
 
+-- the input at first: a source that has returned nothing, and has all of the input still to give
+abbrev pub unread : (input : List ℕ) → Supply
+unread input = record { told = []; coming = Some input; has_ended = false }
+
 -- `dw` runs: the report on the input is written, or a beginning of it if the run was stopped or there is no more room
-pub record Runs (g : Geometry) (args : ReportArgs) (input : List ℕ) (before after : Option (List ℕ)) (full : Bool)
+pub record Runs (g : Geometry) (args : ReportArgs) (input before after : List ℕ) (full : Bool)
     (ending : Ending (Bor (List ℕ))) : Type 0 where
   pub line : Option (List Move)
   pub is_line : IsLineOf g (option_copied args.after) line
-  pub left : Option (List ℕ)
-  pub met_end : Bool
+  pub left : Supply
   pub ran : Result Summary RunFault
-  pub runs : RunEnds g (request_for args line) (Some input) left met_end before after ran
+  pub runs : running.Runs g (request_for args line) (unread input) left before after ran
   pub stops : StopsRightly (command_for args.command args.json) args.positions ran
   pub cause : ran ≡ Err Write → full ≡ true
   pub ends : ending ≡ ending_of ran args.only
 
 -- a FILE cannot be opened; without one the program runs
-abbrev pub RunsUnlessFile : (Runs : Type 0) → (file : Option (Bor (List ℕ))) → (before after : Option (List ℕ))
+abbrev pub RunsUnlessFile : (Runs : Type 0) → (file : Option (Bor (List ℕ))) → (before after : List ℕ)
     → Ending (Bor (List ℕ)) → Type 0
 RunsUnlessFile Runs (Some file) before after ending = (ending ≡ end.NotOpened file) × (after ≡ before)
 RunsUnlessFile Runs None before after ending = Runs
 
 -- `dw` with these arguments: it ends before its run if the token of --after has a fault, or memory was refused
-abbrev pub Reports : ReportArgs → (input : List ℕ) → (before after : Option (List ℕ)) → (full : Bool)
+abbrev pub Reports : ReportArgs → (input before after : List ℕ) → (full : Bool)
     → Ending (Bor (List ℕ)) → Type 0
 Reports args input before after full ending =
     (EndsBefore (board_of args.board) (option_copied args.after) ending × (after ≡ before))
     ⊎ RunsUnlessFile (Runs (board_of args.board) args input before after full ending) args.file before after ending
 
 -- `dw` with arguments that were read
-abbrev pub DoesReport : (input : List ℕ) → (before after : Option (List ℕ)) → (full : Bool) → Ending (Bor (List ℕ))
+abbrev pub DoesReport : (input before after : List ℕ) → (full : Bool) → Ending (Bor (List ℕ))
     → Type 0
 DoesReport input before after full ending = (matches : ArgMatches) × (args : ReportArgs)
     × reports.IsParsed (subcommand_rows_of matches) (Some args) × Reports args input before after full ending
 
+-- `dw-desk` does what it is asked on the input
+pub record DesksOn (g : Geometry) (args : DeskArgs) (input before after : List ℕ) (full : Bool)
+    (ending : Ending (Bor (List ℕ))) : Type 0 where
+  pub left : Supply
+  pub obeys : Obeys g args (unread input) left before after ending
+  pub cause : FailsForCause full ending
+
 -- `dw-desk` with these arguments
-abbrev pub Desks : DeskArgs → (input : List ℕ) → (before after : Option (List ℕ)) → (full : Bool)
+abbrev pub Desks : DeskArgs → (input before after : List ℕ) → (full : Bool)
     → Ending (Bor (List ℕ)) → Type 0
 Desks args input before after full ending =
-    RunsUnlessFile (Obeys (board_of args.board) args (Some input) before after ending × FailsForCause full ending)
-    args.file before after ending
+    RunsUnlessFile (DesksOn (board_of args.board) args input before after full ending) args.file before after ending
 
 -- `dw-desk` with arguments that were read
-abbrev pub DoesDesk : (input : List ℕ) → (before after : Option (List ℕ)) → (full : Bool) → Ending (Bor (List ℕ))
+abbrev pub DoesDesk : (input before after : List ℕ) → (full : Bool) → Ending (Bor (List ℕ))
     → Type 0
 DoesDesk input before after full ending = (matches : ArgMatches) × (args : DeskArgs)
     × desk.IsParsed (subcommand_rows_of matches) (Ok args) × Desks args input before after full ending
 
 -- the arguments make no request: help was asked for, they are no command, or memory was refused
-abbrev pub Refuses : (before after : Option (List ℕ)) → (full : Bool) → Ending (Bor (List ℕ)) → Type 0
+abbrev pub Refuses : (before after : List ℕ) → (full : Bool) → Ending (Bor (List ℕ)) → Type 0
 Refuses before after full ending = (error : CliError) × EndsUnread before after full error ending
 
 -- the effect of the named program; without a program nothing is done
-abbrev pub DoesIt : Option Program → (input : List ℕ) → (before after : Option (List ℕ)) → (full : Bool)
+abbrev pub DoesIt : Option Program → (input before after : List ℕ) → (full : Bool)
     → Ending (Bor (List ℕ)) → Type 0
 DoesIt (Some Report) input before after full ending = DoesReport input before after full ending
 DoesIt (Some Desk) input before after full ending = DoesDesk input before after full ending
 DoesIt None input before after full ending = ⊥
 
 -- the arguments are refused, or the program does what they request
-abbrev pub Answers : Option Program → (input : List ℕ) → (before after : Option (List ℕ)) → (full : Bool)
+abbrev pub Answers : Option Program → (input before after : List ℕ) → (full : Bool)
     → Ending (Bor (List ℕ)) → Type 0
 Answers program input before after full ending =
     Refuses before after full ending ⊎ DoesIt program input before after full ending

@@ -1,5 +1,5 @@
 //! The call that runs a program over bytes.
-ghost use Rattle.std.specs.Prelude.{◌≡◌, ◌≤◌, ℕ, Bool, true, Some, List, [], length, take, drop};
+ghost use Rattle.std.specs.Prelude.{◌≡◌, ◌≤◌, ℕ, Bool, true, List, [], length, take, drop};
 ghost use Rattle.std.specs.Borrow.{Bor};
 ghost use Rattle.dw_commands.specs.declared.ending.Ending.{Ending};
 ghost use Rattle.dw_web.specs.Answers.{Answers, IsTold};
@@ -25,7 +25,7 @@ pub extern "C" fn dw_web_run(
     ended: &mut Ended,
 )
     ensures answers { (full : Bool) × (ending : Ending (Bor (List ℕ)))
-        × Answers (program_in arguments.now) input.now (Some []) (Some (take ended.new.report report.new)) full ending
+        × Answers (program_in arguments.now) input.now [] (take ended.new.report report.new) full ending
         × IsTold ending ended.new.status ended.new.reason ended.new.message
         × (full ≡ true → ended.new.report ≡ length report.old) }
     ensures report { ended.new.report ≤ length report.old }

@@ -1,10 +1,8 @@
 //! `dw-desk`, over bytes.
-ghost use Rattle.std.specs.Prelude.{◌≡◌, ◌⊎◌, ◌≤◌, ℕ, List, Some, false, length};
+ghost use Rattle.std.specs.Prelude.{◌≡◌, ◌⊎◌, ◌≤◌, ℕ, List, false, length};
 ghost use Rattle.std.specs.Borrow.{Bor};
 ghost use Rattle.dw_commands.specs.declared.ending.Ending.{Ending as AnyEnding};
-ghost use Rattle.dw_desk_commands.specs.Commands.{Obeys};
-ghost use Rattle.dw_desk_commands.specs.Ending.{FailsForCause};
-ghost use Rattle.dw_web.specs.Answers.{Desks, DoesDesk, IsTold, Refuses, RunsUnlessFile, reason_number};
+ghost use Rattle.dw_web.specs.Answers.{Desks, DesksOn, DoesDesk, IsTold, Refuses, RunsUnlessFile, reason_number};
 
 use crate::room::{Limit, Room};
 use crate::said::{Exited, refuse, tell};
@@ -30,8 +28,8 @@ pub(crate) fn run_arguments<L: Limit>(
 ) -> Exited
     requires { room.old.has_failed ≡ false }
     ensures answers { (ending : AnyEnding (Bor (List ℕ)))
-        × (Refuses (Some (room.old.bytes.items)) (Some (room.new.bytes.items)) room.new.has_failed ending
-        ⊎ DoesDesk input.now (Some (room.old.bytes.items)) (Some (room.new.bytes.items)) room.new.has_failed ending)
+        × (Refuses room.old.bytes.items room.new.bytes.items room.new.has_failed ending
+        ⊎ DoesDesk input.now room.old.bytes.items room.new.bytes.items room.new.has_failed ending)
         × IsTold ending result.status (reason_number result.reason) result.message }
     ensures message { result.message ≤ length message.old }
 {
@@ -52,7 +50,7 @@ fn run<'a, L: Limit>(
     room: &mut Room<L>,
 ) -> Ending<&'a str>
     requires { room.old.has_failed ≡ false }
-    ensures { Desks args.now input.now (Some (room.old.bytes.items)) (Some (room.new.bytes.items)) room.new.has_failed
+    ensures { Desks args.now input.now room.old.bytes.items room.new.bytes.items room.new.has_failed
         result }
 {
     match args.board {
@@ -70,9 +68,8 @@ fn run_from<'a, B: Board, L: Limit>(
 ) -> Ending<&'a str>
     requires rows { (B.geometry.rows ≡ 10) ⊎ (B.geometry.rows ≡ 8) }
     requires room { room.old.has_failed ≡ false }
-    ensures { RunsUnlessFile (Obeys B.geometry args.now (Some input.now) (Some (room.old.bytes.items))
-        (Some (room.new.bytes.items)) result × FailsForCause room.new.has_failed result)
-        args.now.file (Some (room.old.bytes.items)) (Some (room.new.bytes.items)) result }
+    ensures { RunsUnlessFile (DesksOn B.geometry args.now input.now room.old.bytes.items room.new.bytes.items
+        room.new.has_failed result) args.now.file room.old.bytes.items room.new.bytes.items result }
 {
     if let Some(path) = args.file {
         return Ending::NotOpened(path);

@@ -1,5 +1,5 @@
 //! The program that the arguments are for.
-ghost use Rattle.std.specs.Prelude.{◌≡◌, ◌≤◌, ℕ, Bool, true, false, Some, List, [], length, take, drop};
+ghost use Rattle.std.specs.Prelude.{◌≡◌, ◌≤◌, ℕ, Bool, true, false, List, [], length, take, drop};
 ghost use Rattle.std.specs.Borrow.{Bor};
 ghost use Rattle.dw_commands.specs.declared.ending.Ending.{Ending as AnyEnding};
 ghost use Rattle.dw_web.specs.Answers.{Answers, IsTold, reason_number};
@@ -27,7 +27,7 @@ pub(crate) fn run_within<L: Limit>(
 ) -> Ended
     requires { length report.old ≡ L.limit }
     ensures answers { (full : Bool) × (ending : AnyEnding (Bor (List ℕ)))
-        × Answers (program_in arguments.now) input.now (Some []) (Some (take result.report report.new)) full ending
+        × Answers (program_in arguments.now) input.now [] (take result.report report.new) full ending
         × IsTold ending result.status result.reason result.message
         × (full ≡ true → result.report ≡ length report.old) }
     ensures report { result.report ≤ length report.old }
@@ -51,7 +51,7 @@ fn answer<L: Limit>(
 ) -> Exited
     requires { room.old.has_failed ≡ false }
     ensures answers { (ending : AnyEnding (Bor (List ℕ)))
-        × Answers (program_in arguments.now) input.now (Some (room.old.bytes.items)) (Some (room.new.bytes.items))
+        × Answers (program_in arguments.now) input.now room.old.bytes.items room.new.bytes.items
         room.new.has_failed ending
         × IsTold ending result.status (reason_number result.reason) result.message }
     ensures message { result.message ≤ length message.old }

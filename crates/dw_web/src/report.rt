@@ -1,5 +1,5 @@
 //! `dw`, over bytes.
-ghost use Rattle.std.specs.Prelude.{◌≡◌, ◌⊎◌, ◌≤◌, ℕ, List, Some, false, length};
+ghost use Rattle.std.specs.Prelude.{◌≡◌, ◌⊎◌, ◌≤◌, ℕ, List, false, length};
 ghost use Rattle.std.specs.Borrow.{Bor};
 ghost use Rattle.std.specs.Option.{option_copied};
 ghost use Rattle.dw_commands.specs.Reports.{EndsBefore};
@@ -28,8 +28,8 @@ pub(crate) fn run_arguments<L: Limit>(
 ) -> Exited
     requires { room.old.has_failed ≡ false }
     ensures answers { (ending : AnyEnding (Bor (List ℕ)))
-        × (Refuses (Some (room.old.bytes.items)) (Some (room.new.bytes.items)) room.new.has_failed ending
-        ⊎ DoesReport input.now (Some (room.old.bytes.items)) (Some (room.new.bytes.items)) room.new.has_failed ending)
+        × (Refuses room.old.bytes.items room.new.bytes.items room.new.has_failed ending
+        ⊎ DoesReport input.now room.old.bytes.items room.new.bytes.items room.new.has_failed ending)
         × IsTold ending result.status (reason_number result.reason) result.message }
     ensures message { result.message ≤ length message.old }
 {
@@ -50,7 +50,7 @@ fn run<'a, L: Limit>(
     room: &mut Room<L>,
 ) -> Ending<&'a str>
     requires { room.old.has_failed ≡ false }
-    ensures { Reports args.now input.now (Some (room.old.bytes.items)) (Some (room.new.bytes.items)) room.new.has_failed
+    ensures { Reports args.now input.now room.old.bytes.items room.new.bytes.items room.new.has_failed
         result }
 {
     match args.board {
@@ -68,9 +68,9 @@ fn run_on<'a, B: Board, L: Limit>(
 ) -> Ending<&'a str>
     requires { room.old.has_failed ≡ false }
     ensures { (EndsBefore B.geometry (option_copied args.now.after) result
-        × (Some (room.new.bytes.items) ≡ Some (room.old.bytes.items)))
-        ⊎ RunsUnlessFile (Runs B.geometry args.now input.now (Some (room.old.bytes.items)) (Some (room.new.bytes.items))
-        room.new.has_failed result) args.now.file (Some (room.old.bytes.items)) (Some (room.new.bytes.items)) result }
+        × (room.new.bytes.items ≡ room.old.bytes.items))
+        ⊎ RunsUnlessFile (Runs B.geometry args.now input.now room.old.bytes.items room.new.bytes.items
+        room.new.has_failed result) args.now.file room.old.bytes.items room.new.bytes.items result }
 {
     let job = match Job::<B>::new(alloc, args) {
         Ok(job) => job,

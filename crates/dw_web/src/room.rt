@@ -1,5 +1,5 @@
 //! A sink of fixed room.
-ghost use Rattle.std.specs.Prelude.{◌≡◌, ◌≤◌, ℕ, [], ◌++◌, IfOk, Some, true, false, take, drop, length, vec_len};
+ghost use Rattle.std.specs.Prelude.{◌≡◌, ◌≤◌, ℕ, [], ◌++◌, IfOk, true, false, take, drop, length, vec_len};
 ghost use Rattle.std.specs.Prelude.{vec_capacity};
 
 use dw_notation::Sink;
@@ -60,7 +60,7 @@ impl<L: Limit> Room<L> {
 }
 
 impl<L: Limit> Sink for Room<L> {
-    ghost taken = { λ room. Some room.bytes.items };
+    ghost accepted = { λ room. room.bytes.items };
 
     ghost is_failed = { λ room. room.has_failed };
 
