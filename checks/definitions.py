@@ -247,6 +247,9 @@ def rows():
     """The rows of the table: what stands in its first column, and what is reached."""
     wins, legal, play = "dw_solve/src/solver.rt", "dw_moves/src/legal.rt", "dw_moves/src/play.rt"
     yield "`run`", [contract("dw_report/src/run.rt", "pub fn run<")]
+    yield "`Job::run`, the report of `dw`", [contract("dw_commands/src/report.rt", "pub fn run<")]
+    yield "`run_on`, all commands of `dw-desk`", [contract("dw_desk_commands/src/desk.rt", "pub fn run_on<")]
+    yield "`dw_web_run`, both programs and their boards", [contract("dw_web/src/call.rt", "fn dw_web_run(")]
     yield "`Solver::wins`, its answer (clause `answer`)", [contract(wins, "pub fn wins", "answer")]
     yield "`Solver::wins`, all of its clauses", [contract(wins, "pub fn wins")]
     yield "`legal`, the rules of the game", [contract(legal, "pub fn legal<")]

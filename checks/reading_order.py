@@ -22,6 +22,7 @@ TYPES = "Definitions and contracts also name these plain types and constants of 
 FILES = {
     "dw_report/specs/Running.antt": "How a run ends",
     "dw_report/specs/Request.antt": "Requests",
+    "dw_notation/specs/Streams.antt": "Bytes read and written",
     "dw_notation/specs/Writes.antt": "Written text",
     "dw_report/specs/Report.antt": "The report",
     "dw_report/specs/Refusals.antt": "Reasons for a refusal",

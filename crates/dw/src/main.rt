@@ -94,7 +94,7 @@ fn report_between<'a, B: Board, R: Read, W: Write>(
         }) [] (accepted_by result.sink) ran
         × (ran ≡ Err faults.Read → has_read_failed result.source ≡ true)
         × (ran ≡ Err faults.Write → has_write_failed result.sink ≡ true)
-        × StopsRightly job.settings.command job.settings.limit ran
+        × StopsRightly job.settings.command 0 job.settings.limit ran
         × (result.ending ≡ ending_of ran job.settings.only) }
 {
     let mut source = Reading::new(reader);

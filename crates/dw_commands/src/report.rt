@@ -77,7 +77,7 @@ impl<B: Board> Job<B> {
             (K.accepted sink.old) (K.accepted sink.new) ran
             × (ran ≡ Err RunFault.Read → S.is_failed source.new ≡ true)
             × (ran ≡ Err RunFault.Write → K.is_failed sink.new ≡ true)
-            × StopsRightly self.settings.command self.settings.limit ran
+            × StopsRightly self.settings.command 0 self.settings.limit ran
             × (result ≡ ending_of ran self.settings.only) }
     {
         let Job { settings, memo } = self;

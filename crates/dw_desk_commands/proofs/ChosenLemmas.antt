@@ -22,10 +22,9 @@ use Rattle.dw_games.specs.declared.games.Games.{Games}
 use Rattle.dw_games.specs.inner.GameReaders.{reading_of}
 use Rattle.dw_notation.specs.Problems.{Numbered, number_from, numbered}
 use Rattle.dw_notation.specs.Reading as problems
-use Rattle.dw_notation.specs.Streams.{Supply, IsOver}
+use Rattle.dw_notation.specs.Streams.{Supply, IsOver, HoldsAhead}
 use Rattle.dw_notation.specs.inner.Readers.{reader_of}
 use Rattle.dw_notation.specs.inner.StreamLemmas.{Reads-nil, Reads-trans}
-use Rattle.dw_report.specs.Running.{HoldsAhead}
 use Rattle.dw_notation.specs.declared.problems.Problem.{Problem}
 use Rattle.dw_notation.specs.declared.problems.reader.Problems.{Problems}
 use Rattle.dw_notation.specs.TextLines.{Found}
@@ -316,7 +315,8 @@ pub GoesOn-next : {B S : Type 0} (g : Geometry) (supply : S → Supply) (old mid
     → GoesOn supply old new
 GoesOn-next g supply old mid new found on next end = record {
   read = on.read ++ next.read;
-  took = Reads-trans (supply (source_of old)) (supply (source_of mid)) (supply (source_of new)) on.read next.read on.took
+  took = Reads-trans (supply (source_of old)) (supply (source_of mid)) (supply (source_of new)) on.read next.read
+      on.took
       next.took;
   end = λ known. end (on.end known);
 }
@@ -325,7 +325,8 @@ pub GoesOn-trans : {B S : Type 0} (supply : S → Supply) (old mid new : Text B 
     → GoesOn supply mid new → GoesOn supply old new
 GoesOn-trans supply old mid new on more = record {
   read = on.read ++ more.read;
-  took = Reads-trans (supply (source_of old)) (supply (source_of mid)) (supply (source_of new)) on.read more.read on.took
+  took = Reads-trans (supply (source_of old)) (supply (source_of mid)) (supply (source_of new)) on.read more.read
+      on.took
       more.took;
   end = λ known. more.end (on.end known);
 }

@@ -22,8 +22,7 @@ use Rattle.dw_arguments.specs.declared.desk.Task.TheVariants as task
 use Rattle.dw_games.specs.Games.{NumberedGame, problem_of}
 use Rattle.dw_notation.specs.declared.problems.Form.{Form}
 use Rattle.dw_notation.specs.declared.problems.Form.TheVariants.{Pdn}
-use Rattle.dw_notation.specs.Streams.{Supply, Reads, Appends}
-use Rattle.dw_report.specs.Running.{HoldsAhead}
+use Rattle.dw_notation.specs.Streams.{Supply, Reads, HoldsAhead, Appends}
 use Rattle.dw_report.specs.declared.settings.RunFault.{RunFault}
 
 -- the form of the problems for a task: tags for `check`, which needs games, else as the arguments say

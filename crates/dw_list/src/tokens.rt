@@ -59,7 +59,8 @@ pub fn write_token<B: Board, K: Sink>(line: &[Move<B>], sink: &mut K) -> Result<
     requires most { length line.now ≤ 39 }
     requires rows { (B.geometry.rows ≡ 10) ⊎ (B.geometry.rows ≡ 8) }
     requires works { K.is_failed sink.old ≡ false }
-    ensures ok { OnOk result (Appends (K.accepted sink.old) (K.accepted sink.new) (tokens.token_of B.geometry line.now)) }
+    ensures ok { OnOk result (Appends (K.accepted sink.old) (K.accepted sink.new)
+        (tokens.token_of B.geometry line.now)) }
     ensures err { OnErr result
         (StopsShort (K.accepted sink.old) (K.accepted sink.new) (tokens.token_of B.geometry line.now)) }
     ensures failed { IsErr result → K.is_failed sink.new ≡ true }

@@ -90,7 +90,8 @@ pub CarriesOn-filled : {S : Type 0} (supply : S → Supply) (is_failed : S → B
     → Passes supply is_failed pulls (input_of source mid) (input_of after new) [] fails
     → (unread_in mid ≡ []) ⊎ (input_of after new ≡ input_of source mid) → length (unread_in new) ≤ MAX_READ
     → CarriesOn first (supply after) old (progress_at new pieces handed)
-CarriesOn-filled supply is_failed pulls first old pieces handed source after mid new fails so_far passes (inl none) few =
+CarriesOn-filled supply is_failed pulls first old pieces handed source after mid new fails so_far passes (inl none) few
+    =
     let read : passes.read ≡ unread_in new = ap (λ l. l ++ passes.read) (sym none) ∙ passes.same in
     CarriesOn-fill first (supply source) (supply after) old (progress_at mid pieces handed)
     (progress_at new pieces handed) so_far none refl (subst (Reads (supply source) (supply after)) read passes.took)

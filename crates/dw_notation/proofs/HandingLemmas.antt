@@ -206,7 +206,8 @@ NextGives-some g first now after old mid cut new problem true room so_far piece 
     NextGives-problem g first after old new problem (HandsOut-piece g first now after old mid cut new
     (numbered problem ∷ []) room so_far piece same_number handed)
 NextGives-some g first now after old mid cut new problem false room so_far piece same_number handed =
-    NextGives-last g first now after old mid cut new problem room so_far piece.0 same_number handed (handed.end ∙ piece.1)
+    NextGives-last g first now after old mid cut new problem room so_far piece.0 same_number handed
+    (handed.end ∙ piece.1)
 
 pub NextGives-end : {B : Type 0} (g : Geometry) (first now after : Supply) (old mid cut new : Progress)
     (is_whole : Bool) → is_whole ≡ false

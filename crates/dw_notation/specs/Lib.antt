@@ -1,6 +1,7 @@
 pub mod Streams
 pub mod Buffering
 pub mod Endpoints
+pub mod History
 pub mod Writes
 pub mod Text
 pub mod TextLaws

@@ -15,4 +15,3 @@ pub mod WrittenMoves
 pub mod LineCodes
 pub mod Writes
 pub mod StreamLemmas
-pub mod History

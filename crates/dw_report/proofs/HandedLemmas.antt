@@ -8,12 +8,12 @@ use Rattle.dw_notation.specs.TextLines.LinesSay.{last as last_line}
 use Rattle.dw_notation.specs.WholeTexts.SectionsSay.{nothing}
 use Rattle.dw_notation.specs.Problems.{Numbered, TextSays, AreProblems}
 use Rattle.dw_notation.specs.Reading.{Reader, ReadsAtNeed}
-use Rattle.dw_notation.specs.Streams.{Supply, Reads, IsOver}
+use Rattle.dw_notation.specs.Streams.{Supply, Reads, IsOver, HoldsAhead}
 use Rattle.dw_notation.specs.inner.StreamLemmas.{Reads-nil, Reads-trans}
 use Rattle.dw_notation.specs.declared.problems.Form.{Form}
 use Rattle.dw_notation.specs.declared.problems.Form.TheVariants.{Fens, Pdn}
 use Rattle.dw_notation.specs.declared.problems.TheConstants.{MAX_PROBLEMS}
-use Rattle.dw_report.specs.Running.{ReadsUpTo, HoldsAhead}
+use Rattle.dw_report.specs.Running.{ReadsUpTo}
 
 -- what the problems of the bytes read are, from those handed out on
 abbrev pub Continues : Geometry → Form → List ℕ → Reader → List Numbered → Bool → Type 0
@@ -225,12 +225,18 @@ pub HasHanded-end : (P : List ℕ → Type 0) (g : Geometry) (form : Form) (befo
     → HoldsAhead P after (has.read ++ next)
 HasHanded-end P g form before now after old new handed next has still stays gives over holds =
     elim (cases_Bool old.met_end) [
-      | inl was ↦ inr (over (stays was), subst P (read was) (holds has.read (subst (AreProblems g form true has.read)
-          (last was) (ahead-met g form before now old handed has was))))
+      | inl was ↦ inr (
+        over (stays was),
+        subst P (read was) (holds has.read (subst (AreProblems g form true has.read)
+            (last was) (ahead-met g form before now old handed has was))),
+      )
       | inr unmet ↦ elim gives.why [
-        | inl met ↦ inr (over met, holds (has.read ++ next) (subst (AreProblems g form true (has.read ++ next))
-            (ap (λ l. handed ++ l) gives.none ∙ append-nil handed)
-            (ahead-unmet g form before now old handed has unmet true next)))
+        | inl met ↦ inr (
+          over met,
+          holds (has.read ++ next) (subst (AreProblems g form true (has.read ++ next))
+              (ap (λ l. handed ++ l) gives.none ∙ append-nil handed)
+              (ahead-unmet g form before now old handed has unmet true next)),
+        )
         | inr full ↦ inl (λ more. subst P (sym (append_assoc has.read next more)) (holds (has.read ++ (next ++ more))
             (subst (AreProblems g form true (has.read ++ (next ++ more)))
             (ap (λ l. handed ++ l) (full.1 more) ∙ append-nil handed)

@@ -6,7 +6,7 @@ use Rattle.dw_notation.specs.inner.StreamLemmas.{Appends-trans, Appends-nil}
 use Rattle.dw_board.specs.Geometry.{Geometry, IsBoard}
 use Rattle.dw_board.specs.Placement.{Placement}
 use Rattle.dw_notation.specs.TextLaws.{MovesHaveTexts, LinesHaveTexts}
-use Rattle.dw_notation.specs.Writes.{Writes}
+use Rattle.dw_notation.specs.inner.Writes.{Writes}
 use Rattle.dw_verdict.specs.Verdict.{Verdict, unsolvable, cooked, dual, sound}
 use Rattle.dw_verdict.specs.VerdictLaws.{OneVerdict, TriesAreListed}
 use Rattle.dw_report.specs.JudgedText.{next_number, IsVerdictText, IsJudgedText}

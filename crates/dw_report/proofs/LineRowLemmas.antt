@@ -13,8 +13,8 @@ use Rattle.dw_board.specs.Lists.{Member}
 use Rattle.dw_moves.specs.inner.MemberLemmas.{mem_left, mem_right}
 use Rattle.dw_notation.specs.Text.{IsLineText, ArePlayable}
 use Rattle.dw_notation.specs.TextLaws.{LinesHaveTexts}
-use Rattle.dw_notation.specs.Writes.{StopsShort, Writes}
-use Rattle.dw_notation.specs.inner.Writes.{WritesShort}
+use Rattle.dw_notation.specs.Writes.{StopsShort}
+use Rattle.dw_notation.specs.inner.Writes.{Writes, WritesShort}
 use Rattle.dw_solve.specs.Lines.{Line, Lines}
 use Rattle.dw_list.specs.Places.{After}
 use Rattle.dw_list.specs.LineStack.{LineStack, AreToCome}

@@ -14,8 +14,8 @@ use Rattle.dw_board.specs.Lists.{Member}
 use Rattle.dw_moves.specs.Order.{Listed, AreListed}
 use Rattle.dw_board.specs.FenText.{written}
 use Rattle.dw_notation.specs.Text.{text_among}
-use Rattle.dw_notation.specs.Writes.{StopsShort, Writes}
-use Rattle.dw_notation.specs.inner.Writes.{WritesShort}
+use Rattle.dw_notation.specs.Writes.{StopsShort}
+use Rattle.dw_notation.specs.inner.Writes.{Writes, WritesShort}
 use Rattle.dw_report.specs.Report.{move_line, IsMovesText}
 use Rattle.dw_report.specs.inner.Rows.{count_line}
 use Rattle.dw_report.proofs.WritingLemmas.{stops_within}

@@ -11,8 +11,7 @@ use Rattle.dw_notation.specs.Streams.{Supply, Reads, IsOver}
 use Rattle.dw_notation.specs.inner.StreamLemmas.{Reads-trans, Appends-trans, Appends-nil}
 use Rattle.dw_notation.specs.declared.problems.Form.{Form}
 use Rattle.dw_notation.specs.declared.problems.TheConstants.{MAX_PROBLEMS}
-use Rattle.dw_notation.specs.Writes.{Writes}
-use Rattle.dw_notation.specs.inner.Writes.{WritesShort}
+use Rattle.dw_notation.specs.inner.Writes.{Writes, WritesShort}
 use Rattle.dw_report.specs.Request.{number_is_chosen, number_is_asked, Request}
 use Rattle.dw_report.specs.Report.{AreTexts, IsReportOn, chosen}
 use Rattle.dw_report.specs.Running.{Runs, IsWhole, IsPart, IsPartOn, BeginsReport, IsRefused, AreRefused, ReadsUpTo}

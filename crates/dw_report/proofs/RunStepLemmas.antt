@@ -9,7 +9,7 @@ use Rattle.dw_notation.specs.Streams.{Supply, IsOver}
 use Rattle.dw_notation.specs.declared.problems.Problem.{Problem}
 use Rattle.dw_notation.specs.declared.problems.ReadFault.{ReadFault}
 use Rattle.dw_notation.specs.declared.problems.TheConstants.{MAX_PROBLEMS}
-use Rattle.dw_notation.specs.Writes.{Writes}
+use Rattle.dw_notation.specs.inner.Writes.{Writes}
 use Rattle.dw_report.specs.Request.{number_is_chosen, Request}
 use Rattle.dw_report.specs.Report.{IsReportOn}
 use Rattle.dw_report.specs.Running.{Runs, IsPartOn, AreRefused}

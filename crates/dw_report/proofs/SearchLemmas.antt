@@ -5,8 +5,9 @@ use Rattle.dw_solve.specs.Solving.{Solving}
 use Rattle.dw_solve.specs.declared.stop.Stop.{Stop}
 use Rattle.dw_solve.specs.declared.stop.Stop.TheVariants as stops
 use Rattle.dw_report.specs.inner.Running.{StopsSearch}
-use Rattle.dw_report.specs.Running.{MayStop, StopsRightly}
+use Rattle.dw_report.specs.Running.{MayStop, StopsRightly, TellsExpanded}
 use Rattle.dw_report.specs.inner.Running.{IsStill, SearchesFor, Spends, ended_by, searches}
+use Rattle.dw_report.proofs.SpendingLemmas.{Counted, counted_then}
 use Rattle.dw_report.specs.declared.problem.TextFault.{TextFault}
 use Rattle.dw_report.specs.declared.problem.TextFault.TheVariants.{Stopped, Sink}
 use Rattle.dw_report.specs.declared.settings.RunFault.{RunFault}
@@ -84,20 +85,20 @@ stops_search old new r stops.Limit e h = h.limit e ∙ h.count.same
 stops_search old new r stops.Memory e h = h.count.within
 
 still_stops : {M X : Type 0} (old new : Solving M) (r : Result X TextFault) (why : Stop) → r ≡ Err (Stopped why)
-    → IsStill old new r → old.expanded ≡ 0 → (why ≡ stops.Memory) × (new.expanded ≡ 0)
-still_stops {M} old new r why e h still = (h.memory why e, ap (λ (s : Solving M). s.expanded) h.same ∙ still)
+    → IsStill old new r → (before : ℕ) → old.expanded ≡ before → (why ≡ stops.Memory) × (new.expanded ≡ before)
+still_stops {M} old new r why e h before still = (h.memory why e, ap (λ (s : Solving M). s.expanded) h.same ∙ still)
 
-may_stop : {M X : Type 0} (command : Command) (old new : Solving M) (r : Result X TextFault) (why : Stop)
-    → r ≡ Err (Stopped why) → SearchesFor command old new r → (searches command ≡ false → old.expanded ≡ 0)
-    → MayStop command old.limit why new.expanded
-may_stop Show old new r why e h still = h.1 why e
-may_stop ShowRow old new r why e h still = still_stops old new r why e h (still refl)
-may_stop Moves old new r why e h still = still_stops old new r why e h (still refl)
-may_stop MovesRow old new r why e h still = still_stops old new r why e h (still refl)
-may_stop Judge old new r stops.Limit e h still = stops_search old new r stops.Limit e h
-may_stop Judge old new r stops.Memory e h still = stops_search old new r stops.Memory e h
-may_stop Lists old new r stops.Limit e h still = stops_search old new r stops.Limit e h
-may_stop Lists old new r stops.Memory e h still = stops_search old new r stops.Memory e h
+may_stop : {M X : Type 0} (command : Command) (before : ℕ) (old new : Solving M) (r : Result X TextFault) (why : Stop)
+    → r ≡ Err (Stopped why) → SearchesFor command old new r → (searches command ≡ false → old.expanded ≡ before)
+    → MayStop command before old.limit why new.expanded
+may_stop Show before old new r why e h still = h.1 why e
+may_stop ShowRow before old new r why e h still = still_stops old new r why e h before (still refl)
+may_stop Moves before old new r why e h still = still_stops old new r why e h before (still refl)
+may_stop MovesRow before old new r why e h still = still_stops old new r why e h before (still refl)
+may_stop Judge before old new r stops.Limit e h still = stops_search old new r stops.Limit e h
+may_stop Judge before old new r stops.Memory e h still = stops_search old new r stops.Memory e h
+may_stop Lists before old new r stops.Limit e h still = stops_search old new r stops.Limit e h
+may_stop Lists before old new r stops.Memory e h still = stops_search old new r stops.Memory e h
 
 ends_apart : (r : Result Summary RunFault) (why : Stop) (n : ℕ) → r ≡ Err ends.Write → r ≡ Err (ends.Stopped why n) → ⊥
 ends_apart r why n e f = cc
@@ -107,13 +108,33 @@ ends_same : (r : Result Summary RunFault) (w why : Stop) (n expanded : ℕ) → 
 ends_same r w why n expanded e f = let one : w ≡ why = cc in let two : n ≡ expanded = cc in (one, two)
 
 -- a run that ends with a fault stops rightly
-pub stops_rightly : {M X : Type 0} (command : Command) (limit : ℕ) (old new : Solving M) (r : Result X TextFault)
+pub stops_rightly : {M X : Type 0} (command : Command) (before limit : ℕ) (old new : Solving M) (r : Result X TextFault)
     (fault : TextFault) → r ≡ Err fault → SearchesFor command old new r → old.limit ≡ limit
-    → (searches command ≡ false → old.expanded ≡ 0)
-    → StopsRightly command limit (Err (ended_by fault new.expanded))
-stops_rightly command limit old new r Sink e h same still = λ why expanded bad. absurd
+    → (searches command ≡ false → old.expanded ≡ before)
+    → StopsRightly command before limit (Err (ended_by fault new.expanded))
+stops_rightly command before limit old new r Sink e h same still = λ why expanded bad. absurd
     (ends_apart (Err ends.Write) why expanded refl bad)
-stops_rightly command limit old new r (Stopped w) e h same still = λ why expanded is.
+stops_rightly command before limit old new r (Stopped w) e h same still = λ why expanded is.
     let parts = ends_same (Err (ends.Stopped w new.expanded)) w why new.expanded expanded refl is in
-    let may = subst (λ z. MayStop command z w new.expanded) same (may_stop command old new r w e h still) in
-    subst (λ z. MayStop command limit z expanded) parts.0 (subst (λ z. MayStop command limit w z) parts.1 may)
+    let may = subst (λ z. MayStop command before z w new.expanded) same (may_stop command before old new r w e h still)
+    in subst (λ z. MayStop command before limit z expanded) parts.0
+    (subst (λ z. MayStop command before limit w z) parts.1 may)
+
+-- and tells what was expanded
+pub tells_expanded : (fault : TextFault) (expanded : ℕ) → TellsExpanded expanded (Err (ended_by fault expanded))
+tells_expanded Sink expanded = λ why told bad. absurd (ends_apart (Err ends.Write) why told refl bad)
+tells_expanded (Stopped w) expanded = λ why told is.
+    sym (ends_same (Err (ends.Stopped w expanded)) w why expanded told refl is).1
+
+counted_same : {M : Type 0} (first old new : Solving M) → Counted first old → new ≡ old → Counted first new
+counted_same {M} first old new so_far same = subst (λ (s : Solving M). Counted first s) (sym same) so_far
+
+-- what was counted before a text, and for it
+pub searches_counted : {M X : Type 0} (command : Command) (first old new : Solving M) (r : Result X TextFault)
+    → Counted first old → SearchesFor command old new r → Counted first new
+searches_counted Show first old new r so_far h = counted_same first old new so_far h.0
+searches_counted ShowRow first old new r so_far h = counted_same first old new so_far h.same
+searches_counted Moves first old new r so_far h = counted_same first old new so_far h.same
+searches_counted MovesRow first old new r so_far h = counted_same first old new so_far h.same
+searches_counted Judge first old new r so_far h = counted_then first old new so_far h.count
+searches_counted Lists first old new r so_far h = counted_then first old new so_far h.count

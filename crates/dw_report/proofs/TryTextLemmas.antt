@@ -12,8 +12,8 @@ use Rattle.dw_moves.specs.Order.{Precedes, IsAscending, IsListOf}
 use Rattle.dw_moves.specs.inner.MemberLemmas.{mem_right}
 use Rattle.dw_moves.specs.Laws.{MovesInOrder, MovesHaveKeys}
 use Rattle.dw_notation.specs.TextLaws.{MovesHaveTexts}
-use Rattle.dw_notation.specs.Writes.{StopsShort, Writes}
-use Rattle.dw_notation.specs.inner.Writes.{WritesShort}
+use Rattle.dw_notation.specs.Writes.{StopsShort}
+use Rattle.dw_notation.specs.inner.Writes.{Writes, WritesShort}
 use Rattle.dw_solve.specs.declared.stop.Stop.{Stop}
 use Rattle.dw_solve.specs.Laws.{WinsAreDecided}
 use Rattle.dw_solve.specs.inner.ListLemmas.{at_item}

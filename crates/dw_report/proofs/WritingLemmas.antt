@@ -9,8 +9,8 @@ use Rattle.dw_board.specs.Diagram.{diagram_text}
 use Rattle.dw_notation.specs.TextLines.{Found}
 use Rattle.dw_notation.specs.Problems.{Numbered}
 use Rattle.dw_notation.specs.declared.problems.ProblemFault.{ProblemFault}
-use Rattle.dw_notation.specs.Writes.{IsBeginning, StopsShort, Writes}
-use Rattle.dw_notation.specs.inner.Writes.{WritesShort}
+use Rattle.dw_notation.specs.Writes.{IsBeginning, StopsShort}
+use Rattle.dw_notation.specs.inner.Writes.{Writes, WritesShort}
 use Rattle.dw_report.specs.JsonRows.{refused_row}
 use Rattle.dw_report.specs.Request.{number_is_chosen, writes_rows, Request}
 use Rattle.dw_report.specs.Report.{IsSaid, IsFurther, IsProblemText, AreTexts, IsReportOn, chosen, heading}

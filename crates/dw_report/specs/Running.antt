@@ -7,7 +7,7 @@ use Rattle.dw_board.specs.Placement.{Placement}
 use Rattle.dw_moves.specs.Moves.{Move}
 use Rattle.dw_notation.specs.TextLines.{line_feed, Found}
 use Rattle.dw_notation.specs.Problems.{Numbered, AreProblems}
-use Rattle.dw_notation.specs.Streams.{Supply, Reads, IsOver, Appends}
+use Rattle.dw_notation.specs.Streams.{Supply, Reads, HoldsAhead, Appends}
 use Rattle.dw_notation.specs.Writes.{IsBeginning}
 use Rattle.dw_notation.specs.declared.problems.TheConstants.{MAX_PROBLEMS, MAX_READ}
 use Rattle.dw_notation.specs.declared.problems.Form.{Form}
@@ -123,10 +123,6 @@ pub record IsPart (g : Geometry) (request : Request) (read bytes out : List ℕ)
   pub need : ReadsUpTo g request.form number read
   pub part : IsPartOn g request number problems out
 
--- P holds of the bytes read, whatever bytes follow them; or it holds of these alone, and the source's end was met
-abbrev pub HoldsAhead : (P : List ℕ → Type 0) → (after : Supply) → (read : List ℕ) → Type 0
-HoldsAhead P after read = ((more : List ℕ) → P (read ++ more)) ⊎ (IsOver after × P read)
-
 -- the output of a run that read these bytes: the whole report, or a stated beginning of it
 abbrev pub RunEnds : Geometry → Request → (after : Supply) → (read out : List ℕ) → Result Summary RunFault → Type 0
 RunEnds g request after read out (Ok summary) =
@@ -146,17 +142,22 @@ pub record Runs (g : Geometry) (request : Request) (before after : Supply) (acce
   pub wrote : Appends accepted new out
   pub ends : RunEnds g request after read out result
 
--- how a run may be stopped: `show` never; `moves` and rows only for lack of memory; a search also at its limit, never
--- above it
-abbrev pub MayStop : Command → ℕ → Stop → ℕ → Type 0
-MayStop asked.Show limit why expanded = ⊥
-MayStop asked.ShowRow limit why expanded = (why ≡ Memory) × (expanded ≡ 0)
-MayStop asked.Moves limit why expanded = (why ≡ Memory) × (expanded ≡ 0)
-MayStop asked.MovesRow limit why expanded = (why ≡ Memory) × (expanded ≡ 0)
-MayStop searches limit Limit expanded = expanded ≡ limit
-MayStop searches limit Memory expanded = expanded ≤ limit
+-- how a run may be stopped, with a solver that had expanded `before` positions: `show` never; `moves` and rows only for
+-- lack of memory, and nothing is expanded; a search also at its limit, never above it
+abbrev pub MayStop : Command → (before limit : ℕ) → Stop → (expanded : ℕ) → Type 0
+MayStop asked.Show before limit why expanded = ⊥
+MayStop asked.ShowRow before limit why expanded = (why ≡ Memory) × (expanded ≡ before)
+MayStop asked.Moves before limit why expanded = (why ≡ Memory) × (expanded ≡ before)
+MayStop asked.MovesRow before limit why expanded = (why ≡ Memory) × (expanded ≡ before)
+MayStop searches before limit Limit expanded = expanded ≡ limit
+MayStop searches before limit Memory expanded = expanded ≤ limit
 
 -- a run is stopped only as its command and its limit allow
-abbrev pub StopsRightly : Command → ℕ → Result Summary RunFault → Type 0
-StopsRightly command limit result =
-    (why : Stop) (expanded : ℕ) → result ≡ Err (ends.Stopped why expanded) → MayStop command limit why expanded
+abbrev pub StopsRightly : Command → (before limit : ℕ) → Result Summary RunFault → Type 0
+StopsRightly command before limit result =
+    (why : Stop) (expanded : ℕ) → result ≡ Err (ends.Stopped why expanded) → MayStop command before limit why expanded
+
+-- a run that is stopped tells how many positions its solver has expanded
+abbrev pub TellsExpanded : (expanded : ℕ) → Result Summary RunFault → Type 0
+TellsExpanded expanded result =
+    (why : Stop) (told : ℕ) → result ≡ Err (ends.Stopped why told) → told ≡ expanded

@@ -268,7 +268,8 @@ fn write_more<B: Board, K: Sink>(sink: &mut K, last: &[Move<B>]) -> Result<(), W
     requires most { length last.now ≤ 39 }
     requires works { K.is_failed sink.old ≡ false }
     ensures ok { OnOk result (Appends (K.accepted sink.old) (K.accepted sink.new) (more_after B.geometry last.now)) }
-    ensures err { OnErr result (StopsShort (K.accepted sink.old) (K.accepted sink.new) (more_after B.geometry last.now)) }
+    ensures err { OnErr result (StopsShort (K.accepted sink.old) (K.accepted sink.new)
+        (more_after B.geometry last.now)) }
     ensures failed { IsErr result → K.is_failed sink.new ≡ true }
     ensures kept { OnOk result (K.is_failed sink.new ≡ K.is_failed sink.old) }
 {

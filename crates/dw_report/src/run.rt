@@ -2,9 +2,10 @@
 ghost use Rattle.std.specs.Prelude.{◌≡◌, ◌+◌, ◌<◌, ◌≤◌, true, false, Err, [], ◌∷◌, IfOk, if◌then◌else◌};
 ghost use Rattle.dw_notation.specs.Problems.{numbered};
 ghost use Rattle.dw_solve.specs.Facts.{AreTrue};
+ghost use Rattle.dw_solve.specs.Searching.{IsCounted};
 ghost use Rattle.dw_report.specs.Request.{request_of};
 ghost use Rattle.dw_report.specs.Report.{chosen, IsReportOn};
-ghost use Rattle.dw_report.specs.Running.{Runs, StopsRightly, IsPartOn};
+ghost use Rattle.dw_report.specs.Running.{Runs, StopsRightly, TellsExpanded, IsPartOn};
 ghost use Rattle.dw_report.specs.inner.Running.{TextEnds, SinkEnds, SearchesFor, CountsOne, IsSound, HasRoom};
 ghost use Rattle.dw_report.specs.inner.Running.{ended_by};
 
@@ -45,14 +46,16 @@ pub fn run<B: Board, S: Source, K: Sink, M: Memo<B> + Drop, G: Guide<B> + Drop>(
         (K.accepted sink.old) (K.accepted sink.new) result }
     ensures read { result ≡ Err RunFault.Read → S.is_failed source.new ≡ true }
     ensures write { result ≡ Err RunFault.Write → K.is_failed sink.new ≡ true }
-    ensures stopped { StopsRightly settings.now.command settings.now.limit result }
+    ensures stopped { StopsRightly settings.now.command 0 settings.now.limit result }
 {
     let mut solver = Solver::new(memo, guide, settings.limit);
-    write_report(alloc, source, sink, settings, &mut solver)
+    run_with(alloc, source, sink, settings, &mut solver)
 }
 
-/// Writes the report on the problems of the source, with a solver that has expanded nothing yet.
-fn write_report<B: Board, S: Source, K: Sink, M: Memo<B>, G: Guide<B>>(
+/// Writes the report as `run` does, with a solver of the caller's. The solver's limit holds, and not that of the
+/// settings. A stop tells how many positions the solver has expanded, so a run cannot end at a limit that its solver
+/// has not reached.
+pub fn run_with<B: Board, S: Source, K: Sink, M: Memo<B>, G: Guide<B>>(
     alloc: Global,
     source: &mut S,
     sink: &mut K,
@@ -61,15 +64,19 @@ fn write_report<B: Board, S: Source, K: Sink, M: Memo<B>, G: Guide<B>>(
 ) -> Result<Summary, RunFault>
     requires source { S.is_failed source.old ≡ false }
     requires sink { K.is_failed sink.old ≡ false }
-    requires sound { IsSound B.geometry (request_of settings.now) }
-    requires fresh { solver.old.expanded ≡ 0 }
+    requires some { 1 ≤ settings.now.n }
+    requires few { settings.now.n ≤ 20 }
+    requires lines { 1 ≤ settings.now.lines }
     ensures report { Runs B.geometry (request_of settings.now) (S.supply source.old) (S.supply source.new)
         (K.accepted sink.old) (K.accepted sink.new) result }
     ensures read { result ≡ Err RunFault.Read → S.is_failed source.new ≡ true }
     ensures write { result ≡ Err RunFault.Write → K.is_failed sink.new ≡ true }
-    ensures stopped { StopsRightly settings.now.command solver.old.limit result }
+    ensures stopped { StopsRightly settings.now.command solver.old.expanded solver.old.limit result }
+    ensures expanded { TellsExpanded solver.new.expanded result }
+    ensures count { IsCounted solver.old.expanded solver.old.limit solver.new.expanded solver.new.limit }
 {
     crate::laws::one_report();
+    solver.keeps_its_limit();
     let mut problems = Problems::<B, S>::new(source, settings.form);
     let mut summary = Summary::default();
     'problems: loop {

@@ -50,7 +50,7 @@ pub record Runs (g : Geometry) (args : ReportArgs) (input before after : List �
   pub left : Supply
   pub ran : Result Summary RunFault
   pub runs : running.Runs g (request_for args line) (unread input) left before after ran
-  pub stops : StopsRightly (command_for args.command args.json) args.positions ran
+  pub stops : StopsRightly (command_for args.command args.json) 0 args.positions ran
   pub cause : ran ≡ Err Write → full ≡ true
   pub ends : ending ≡ ending_of ran args.only
 

@@ -19,7 +19,7 @@ pub struct History {
 
 impl Model for History {
     ghost use Rattle.std.specs.Prelude.{List, ℕ};
-    ghost use Rattle.dw_notation.specs.inner.History.{bytes_of};
+    ghost use Rattle.dw_notation.specs.History.{bytes_of};
 
     ghost Value = { List ℕ };
 

@@ -6,8 +6,7 @@ use Rattle.dw_board.specs.Placement.{Placement}
 use Rattle.dw_board.specs.Diagram.{diagram_text}
 use Rattle.dw_notation.specs.TextLines.{Found}
 use Rattle.dw_notation.specs.Problems.{Numbered}
-use Rattle.dw_notation.specs.Writes.{Writes}
-use Rattle.dw_notation.specs.inner.Writes.{WritesShort}
+use Rattle.dw_notation.specs.inner.Writes.{Writes, WritesShort}
 use Rattle.dw_solve.specs.Searching.{IsCounted}
 use Rattle.dw_solve.specs.Solving.{Solving}
 use Rattle.dw_solve.specs.declared.stop.Stop.{Stop}

@@ -37,7 +37,8 @@ returns-in-Check-clause-does g c =
     (g.K.Sink.accepted c.args.sink.now) (g.K.Sink.accepted c.report_all-in-Check.new.sink) One
     c.in_ok-report_all-in-Check.field-0 c.ending-in-Check.result c.requires.fresh c.in_ok-report_all-in-Check.ensures.on
     c.in_ok-report_all-in-Check.ensures.report c.ending-in-Check.ensures
-    (λ games text all. subst (λ t. Tells geo args.portion t games c.ending-in-Check.result text) (sym c.in-Check.is) all)
+    (λ games text all. subst (λ t. Tells geo args.portion t games c.ending-in-Check.result text) (sym c.in-Check.is)
+    all)
 
 pub returns-in-Solution-clause-does : goal.returns-in-Solution-clause-does
 returns-in-Solution-clause-does g c =
@@ -46,9 +47,11 @@ returns-in-Solution-clause-does g c =
     let One = IsSolutionOf geo c.in-Solution.query in
     does_all geo g.S.Source.supply args c.args.chosen.now c.report_all-in-Solution.new.chosen
     (g.K.Sink.accepted c.args.sink.now) (g.K.Sink.accepted c.report_all-in-Solution.new.sink) One
-    c.in_ok-report_all-in-Solution.field-0 c.ending-in-Solution.result c.requires.fresh c.in_ok-report_all-in-Solution.ensures.on
+    c.in_ok-report_all-in-Solution.field-0 c.ending-in-Solution.result c.requires.fresh
+    c.in_ok-report_all-in-Solution.ensures.on
     c.in_ok-report_all-in-Solution.ensures.report c.ending-in-Solution.ensures
-    (λ games text all. subst (λ t. Tells geo args.portion t games c.ending-in-Solution.result text) (sym c.in-Solution.is) all)
+    (λ games text all. subst (λ t. Tells geo args.portion t games c.ending-in-Solution.result text)
+    (sym c.in-Solution.is) all)
 
 pub returns-in-Page-clause-does : goal.returns-in-Page-clause-does
 returns-in-Page-clause-does g c =

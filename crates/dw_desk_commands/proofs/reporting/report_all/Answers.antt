@@ -30,10 +30,12 @@ games-preserved g c =
     let Mid = AreToCome geo source.supply c.games.chosen in
     let New = AreToCome geo source.supply c.next.new.self in
     record {
-      so_far = then_one One Old Mid New (MayBe source.supply c.next.new.self) c.games.counts c.with-counts.result (taken c.args.sink.now)
+      so_far = then_one One Old Mid New (MayBe source.supply c.next.new.self) c.games.counts c.with-counts.result
+          (taken c.args.sink.now)
           (taken c.games.sink) (taken c.report.new.sink) (numbered_game c.in-Some.game)
           c.in_ok-report.field-0 c.games.invariant.so_far
-          (subst (λ z. HandsOut Mid New (MayBe source.supply c.next.new.self) (option_map numbered_game z)) c.in-Some.is c.in_ok-game.ensures.given)
+          (subst (λ z. HandsOut Mid New (MayBe source.supply c.next.new.self) (option_map numbered_game z))
+          c.in-Some.is c.in_ok-game.ensures.given)
           c.in_ok-report.ensures.text c.with-counts.ensures.more;
       on = GoesOn-trans source.supply c.args.chosen.now.text c.games.chosen.text c.next.new.self.text
           c.games.invariant.on c.in_ok-game.ensures.on;
@@ -51,8 +53,10 @@ returns-clause-report g c =
     let Old = AreToCome geo source.supply c.args.chosen.now in
     let Mid = AreToCome geo source.supply c.games.chosen in
     let New = AreToCome geo source.supply c.next.new.self in
-    all_written One Old Mid (MayBe source.supply c.next.new.self) c.games.counts (taken c.args.sink.now) (taken c.games.sink) c.games.invariant.so_far
-    (subst (λ z. HandsOut Mid New (MayBe source.supply c.next.new.self) (option_map numbered_game z)) c.in_default.is c.in_ok-game.ensures.given)
+    all_written One Old Mid (MayBe source.supply c.next.new.self) c.games.counts (taken c.args.sink.now)
+    (taken c.games.sink) c.games.invariant.so_far
+    (subst (λ z. HandsOut Mid New (MayBe source.supply c.next.new.self) (option_map numbered_game z)) c.in_default.is
+    c.in_ok-game.ensures.given)
 
 pub returns-clause-on : goal.returns-clause-on
 returns-clause-on g c = GoesOn-trans g.S.Source.supply c.args.chosen.now.text c.games.chosen.text c.next.new.self.text

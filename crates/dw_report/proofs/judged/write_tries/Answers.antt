@@ -2,7 +2,7 @@ use Rattle.std.proofs.Common.{◌≡◌, [], map, refl, sym, ap, ◌∙◌, subs
 use Rattle.std.proofs.lemmas.Result.{err_from_is_err_and}
 use Rattle.dw_moves.specs.Moves.{Legal}
 use Rattle.dw_moves.specs.Order.{Precedes, IsListOf}
-use Rattle.dw_notation.specs.Writes.{Writes}
+use Rattle.dw_notation.specs.inner.Writes.{Writes}
 use Rattle.dw_report.specs.inner.JudgedText.{IsTryText}
 use Rattle.dw_report.specs.inner.Running.{TextEnds, SinkEnds}
 use Rattle.dw_verdict.specs.inner.GatheredLemmas.{item_among}

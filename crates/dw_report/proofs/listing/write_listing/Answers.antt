@@ -4,7 +4,8 @@ use Rattle.std.proofs.lemmas.Result.{err_from_is_err_and}
 use Rattle.dw_moves.specs.Moves.{Move}
 use Rattle.dw_notation.specs.LineTexts.{LineFrom}
 use Rattle.dw_notation.specs.Text.{ArePlayable}
-use Rattle.dw_notation.specs.Writes.{StopsShort, Writes}
+use Rattle.dw_notation.specs.Writes.{StopsShort}
+use Rattle.dw_notation.specs.inner.Writes.{Writes}
 use Rattle.dw_list.specs.Listing.{stack_of, solver_of}
 use Rattle.dw_report.specs.ListedText.{IsListing}
 use Rattle.dw_report.specs.inner.Rows.{IsRow, IsNothing}
@@ -112,7 +113,8 @@ returns-in_err-write_row-clause-text g c =
     (stack_of c.take_line.new.lister) c.lines.written _ _ _ c.write_row.result c.from_residual-in_err-write_row.result
     c.in_err-write_row.field-0.0 why.0
     c.lines.invariant.rows first c.lines-test.true c.in_err-write_row.was why.1 (sym why.2)
-    (subst (λ z. TextEnds (IsRow geo p z) IsNothing (g.K.Sink.accepted c.lines.sink) (g.K.Sink.accepted c.write_row.new.sink)
+    (subst (λ z. TextEnds (IsRow geo p z) IsNothing (g.K.Sink.accepted c.lines.sink)
+    (g.K.Sink.accepted c.write_row.new.sink)
     c.write_row.result) copy
     (subst (λ z. TextEnds (IsRow geo z c.as_slice.result.now) IsNothing (g.K.Sink.accepted c.lines.sink)
     (g.K.Sink.accepted c.write_row.new.sink) c.write_row.result) c.lines.invariant.start c.write_row.ensures.text))
@@ -128,7 +130,8 @@ lines-preserved g c =
     let copy = c.as_slice.ensures.value ∙ c.in_ok-take_line.ensures.line c.if-not-branch.false in
     let here = subst (λ z. Writes (IsRow geo z c.as_slice.result.now) (g.K.Sink.accepted c.lines.sink)
     (g.K.Sink.accepted c.write_row.new.sink)) c.lines.invariant.start c.in_ok-write_row.ensures.text in
-    let row = subst (λ z. Writes (IsRow geo p z) (g.K.Sink.accepted c.lines.sink) (g.K.Sink.accepted c.write_row.new.sink))
+    let row = subst (λ z. Writes (IsRow geo p z) (g.K.Sink.accepted c.lines.sink)
+    (g.K.Sink.accepted c.write_row.new.sink))
     copy here in
     record {
       lender = c.take_line.ensures.lender ∙ c.lines.invariant.lender;
@@ -186,7 +189,8 @@ returns-in_err-write_more-clause-text g c =
     (more_short geo p most c.requires.some start lines all (lines_text c.lines_have_texts.ensures geo
     g.met.B.Board.numbers start p lines c.requires.ahead.position all) (stack_of c.lines.lister)
     (stack_of c.has_more.new.lister) c.lines.written _ _ _ c.lines.invariant.rows first full
-    (subst (λ z. StopsShort (g.K.Sink.accepted c.lines.sink) (g.K.Sink.accepted c.write_more.new.sink) (more_after geo z))
+    (subst (λ z. StopsShort (g.K.Sink.accepted c.lines.sink) (g.K.Sink.accepted c.write_more.new.sink)
+    (more_after geo z))
     last c.in_err-write_more.ensures.err))
 
 pub returns-in_err-write_all-2-clause-text : goal.returns-in_err-write_all-2-clause-text

@@ -1,7 +1,7 @@
 use Rattle.std.proofs.Common.{◌≡◌, ◌∙◌, ◌↔◌, sym, ap, subst, arith, Some, None, IsTrue, true, false}
 use Rattle.std.specs.Prelude.{option_map}
 use Rattle.std.proofs.lemmas.Result.{err_from_is_err_and}
-use Rattle.dw_notation.specs.Writes.{Writes}
+use Rattle.dw_notation.specs.inner.Writes.{Writes}
 use Rattle.dw_list.specs.Listing.{stack_of, solver_of}
 use Rattle.dw_report.specs.ListedText.{IsListedText}
 use Rattle.dw_report.specs.Running.{IsNoLine}
@@ -32,7 +32,8 @@ returns-in_err-write_listing-in-None-clause-text g c =
     let all = c.lines_exist.ensures.some geo g.met.B.Board.numbers p n in
     let none : (request_of c.args.settings.now).after ≡ None = ap (option_map (λ line. line.items)) c.in-None.is in
     let why = err_from_is_err_and c.from_residual.result c.from_residual.ensures.1 in
-    subst (λ o. EndsListed geo p n most o (g.K.Sink.accepted c.args.sink.now) (g.K.Sink.accepted c.write_listing.new.sink)
+    subst (λ o. EndsListed geo p n most o (g.K.Sink.accepted c.args.sink.now)
+    (g.K.Sink.accepted c.write_listing.new.sink)
     c.from_residual.result) (sym none)
     (listed_fault geo p n most None all.0 (listed_all geo p n most all.0 all.1) _ _ c.write_listing.result
     c.from_residual.result c.in_err-write_listing-in-None.field-0.0 why.0 c.in_err-write_listing-in-None.was why.1

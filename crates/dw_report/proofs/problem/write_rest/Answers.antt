@@ -1,7 +1,7 @@
 use Rattle.std.proofs.Common.{◌≡◌, ◌∙◌, List, [], ℕ, ap, sym, subst, arith, refl}
 use Rattle.dw_notation.specs.inner.StreamLemmas.{Appends-nil}
 use Rattle.std.proofs.lemmas.Result.{err_from_is_err_and}
-use Rattle.dw_notation.specs.Writes.{Writes}
+use Rattle.dw_notation.specs.inner.Writes.{Writes}
 use Rattle.dw_report.specs.Request.{request_of}
 use Rattle.dw_report.specs.declared.settings.Command.{Command}
 use Rattle.dw_report.specs.Running.{AreLinesOf}
@@ -181,7 +181,8 @@ returns-in-MovesRow-clause-text g c =
     let request = request_of c.args.settings.now in
     let p = c.args.position.now in
     row_ends string_bytes geo request c.args.number p MovesRow (g.K.Sink.accepted c.args.sink.now)
-    (g.K.Sink.accepted c.write_row-in-MovesRow.new.sink) c.moves_row.result c.write_row-in-MovesRow.result c.in-MovesRow.is
+    (g.K.Sink.accepted c.write_row-in-MovesRow.new.sink) c.moves_row.result c.write_row-in-MovesRow.result
+    c.in-MovesRow.is
     (c.one_report.ensures.texts geo g.met.B.Board.numbers request c.requires.sound.lines) c.moves_row.ensures refl
     c.write_row-in-MovesRow.ensures.text
 

@@ -4,11 +4,12 @@ use Rattle.dw_notation.specs.Reading.{source_of}
 use Rattle.dw_notation.specs.inner.Readers.{reader_of}
 use Rattle.dw_report.specs.Request.{request_of}
 use Rattle.dw_report.specs.Report.{chosen}
-use Rattle.dw_report.specs.inner.Running.{CountsOne, HasRoom}
+use Rattle.dw_report.specs.inner.Running.{CountsOne, HasRoom, IsSound}
 use Rattle.dw_report.proofs.RunLemmas.{SoFar-start, SoFar-next, SoFar-asked, failed-at_ok, refused-le, length-chosen-le}
 use Rattle.dw_report.proofs.RunStepLemmas.{next_none, next_failed, counted_one, next_more, next_fault}
-use Rattle.dw_report.proofs.SearchLemmas.{searches_keep, stops_rightly}
-use Rattle.dw_report.proofs.run.write_report.Goals as goal
+use Rattle.dw_report.proofs.SearchLemmas.{searches_counted, searches_keep, stops_rightly, tells_expanded}
+use Rattle.dw_report.proofs.SpendingLemmas.{counted_none}
+use Rattle.dw_report.proofs.run.run_with.Goals as goal
 
 pub problems-init : goal.problems-init
 problems-init g c =
@@ -21,8 +22,8 @@ problems-init g c =
       end = λ met. let bad : true ≡ false = sym met ∙ new.met_end in cc;
       source = ap g.S.Source.is_failed new.source ∙ c.requires.source;
       sink = c.requires.sink;
-      limit = refl;
-      still = λ _. c.requires.fresh;
+      count = counted_none c.args.solver.now c.keeps_its_limit.ensures;
+      still = λ _. refl;
       read = zero.0 ∙ sym new.handed;
       shown = omega (arith, zero.1.0);
       refused = omega (arith, zero.1.1);
@@ -58,40 +59,59 @@ report_problem-requires g c =
       shown = so_far.shown;
       refused = so_far.refused;
     } in
-    (omega arith, (so_far.sink, (c.requires.sound, room)))
+    let sound : IsSound g.B.Board.geometry (request_of c.args.settings.now) = record {
+      some = c.requires.some;
+      few = c.requires.few;
+      lines = c.requires.lines;
+    } in
+    (omega arith, (so_far.sink, (sound, room)))
 
 pub returns-in-Err-report_problem-clause-report : goal.returns-in-Err-report_problem-clause-report
 returns-in-Err-report_problem-clause-report g c =
     let stops = next_fault g.B.Board.geometry (request_of c.args.settings.now)
     (g.S.Source.supply (source_of c.new-problems.result)) (g.S.Source.supply (source_of c.problems.problems))
     (g.S.Source.supply (source_of c.next.new.self)) (g.K.Sink.accepted c.args.sink.now)
-    (g.K.Sink.accepted c.problems.sink) (g.K.Sink.accepted c.report_problem.new.sink) (reader_of c.problems.problems) (reader_of c.next.new.self)
+    (g.K.Sink.accepted c.problems.sink) (g.K.Sink.accepted c.report_problem.new.sink) (reader_of c.problems.problems)
+    (reader_of c.next.new.self)
     c.problems.summary c.in-Ok-Some.field-0 c.in-Ok-Some.problem c.expanded.result c.report_problem.result
     c.in-Err-report_problem.fault c.in-Ok-Some.field-0-is c.in-Err-report_problem.is c.in-Ok-Some.ensures.given
     c.problems.invariant.so_far c.next.ensures.stays (c.next.ensures.end c.problems.invariant.end)
     (c.one_report.ensures.texts g.B.Board.geometry g.met.B.Board.numbers (request_of c.args.settings.now)
-    c.requires.sound.lines) c.report_problem.ensures.text in
+    c.requires.lines) c.report_problem.ensures.text in
     rw c.ended.ensures (search rules)
 
 pub returns-in-Err-report_problem-clause-stopped : goal.returns-in-Err-report_problem-clause-stopped
 returns-in-Err-report_problem-clause-stopped g c =
     let so_far = c.problems.invariant in
-    rw (c.ended.ensures, c.expanded.ensures) (stops_rightly c.args.settings.now.command c.args.solver.now.limit
-    c.problems.solver c.report_problem.new.solver c.report_problem.result c.in-Err-report_problem.fault
-    c.in-Err-report_problem.is c.report_problem.ensures.searches so_far.limit so_far.still)
+    rw (c.ended.ensures, c.expanded.ensures) (stops_rightly c.args.settings.now.command
+    c.args.solver.now.expanded c.args.solver.now.limit c.problems.solver c.report_problem.new.solver
+    c.report_problem.result c.in-Err-report_problem.fault c.in-Err-report_problem.is
+    c.report_problem.ensures.searches so_far.count.same so_far.still)
+
+pub returns-in-Err-report_problem-clause-expanded : goal.returns-in-Err-report_problem-clause-expanded
+returns-in-Err-report_problem-clause-expanded g c =
+    rw (c.ended.ensures, c.expanded.ensures) (tells_expanded c.in-Err-report_problem.fault
+    c.report_problem.new.solver.expanded)
+
+pub returns-in-Err-report_problem-clause-count : goal.returns-in-Err-report_problem-clause-count
+returns-in-Err-report_problem-clause-count g c = searches_counted c.args.settings.now.command c.args.solver.now
+    c.problems.solver c.report_problem.new.solver c.report_problem.result c.problems.invariant.count
+    c.report_problem.ensures.searches
 
 pub returns-then-asks_for-clause-report : goal.returns-then-asks_for-clause-report
 returns-then-asks_for-clause-report g c =
     let more = next_more g.B.Board.geometry (request_of c.args.settings.now)
     (g.S.Source.supply (source_of c.new-problems.result)) (g.S.Source.supply (source_of c.problems.problems))
     (g.S.Source.supply (source_of c.next.new.self)) (g.K.Sink.accepted c.args.sink.now)
-    (g.K.Sink.accepted c.problems.sink) (g.K.Sink.accepted c.report_problem.new.sink) (reader_of c.problems.problems) (reader_of c.next.new.self)
+    (g.K.Sink.accepted c.problems.sink) (g.K.Sink.accepted c.report_problem.new.sink) (reader_of c.problems.problems)
+    (reader_of c.next.new.self)
     c.problems.summary c.in-Ok.counted c.in-Ok-Some.field-0 c.in-Ok-Some.problem c.in-Ok-Some.field-0-is
     c.in-Ok-Some.ensures.given c.in-Ok-Some.ensures.counted c.problems.invariant.so_far
     c.next.ensures.stays c.in-Ok.ensures.text c.in-Ok.ensures.counts in
     let ends = SoFar-asked g.B.Board.geometry (request_of c.args.settings.now)
     (g.S.Source.supply (source_of c.new-problems.result)) (g.S.Source.supply (source_of c.next.new.self))
-    (g.K.Sink.accepted c.args.sink.now) (g.K.Sink.accepted c.report_problem.new.sink) (reader_of c.next.new.self) c.in-Ok.counted (numbered c.in-Ok-Some.problem) more
+    (g.K.Sink.accepted c.args.sink.now) (g.K.Sink.accepted c.report_problem.new.sink) (reader_of c.next.new.self)
+    c.in-Ok.counted (numbered c.in-Ok-Some.problem) more
     (sym c.asks_for.ensures ∙ c.if-asks_for.true) (c.next.ensures.end c.problems.invariant.end) in
     search rules
 
@@ -107,7 +127,8 @@ problems-preserved g c =
     let more = next_more g.B.Board.geometry (request_of c.args.settings.now)
     (g.S.Source.supply (source_of c.new-problems.result)) (g.S.Source.supply (source_of c.problems.problems))
     (g.S.Source.supply (source_of c.next.new.self)) (g.K.Sink.accepted c.args.sink.now)
-    (g.K.Sink.accepted c.problems.sink) (g.K.Sink.accepted c.report_problem.new.sink) (reader_of c.problems.problems) (reader_of c.next.new.self)
+    (g.K.Sink.accepted c.problems.sink) (g.K.Sink.accepted c.report_problem.new.sink) (reader_of c.problems.problems)
+    (reader_of c.next.new.self)
     c.problems.summary c.in-Ok.counted c.in-Ok-Some.field-0 c.in-Ok-Some.problem c.in-Ok-Some.field-0-is
     c.in-Ok-Some.ensures.given c.in-Ok-Some.ensures.counted c.problems.invariant.so_far
     c.next.ensures.stays c.in-Ok.ensures.text c.in-Ok.ensures.counts in
@@ -128,10 +149,16 @@ problems-preserved g c =
           (g.S.Source.is_failed (source_of c.problems.problems)) c.next.result c.in-Ok-Some.field-0
           c.next.ensures.failed c.in-Ok-Some.is so_far.source;
       sink = c.in-Ok.ensures.sink ∙ so_far.sink;
-      limit = keep.0 ∙ so_far.limit;
+      count = searches_counted settings.command c.args.solver.now c.problems.solver c.report_problem.new.solver
+          c.report_problem.result so_far.count c.report_problem.ensures.searches;
       still = λ moves. keep.1 moves ∙ so_far.still moves;
       read = omega (arith, counts.read, so_far.read, counted.0);
       shown = omega (arith, counts.read, counts.shown, so_far.shown, few);
       refused = omega (arith, counts.shown, counts.refused.2, so_far.refused, refused);
       bound = omega (arith, counted.0, counted.1);
     }
+
+pub returns-then-asks_for-clause-count : goal.returns-then-asks_for-clause-count
+returns-then-asks_for-clause-count g c = searches_counted c.args.settings.now.command c.args.solver.now
+    c.problems.solver c.report_problem.new.solver c.report_problem.result c.problems.invariant.count
+    c.report_problem.ensures.searches

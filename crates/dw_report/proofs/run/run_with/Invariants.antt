@@ -4,7 +4,8 @@ use Rattle.dw_notation.specs.inner.Readers.{reader_of}
 use Rattle.dw_report.specs.Request.{request_of}
 use Rattle.dw_report.specs.inner.Running.{searches}
 use Rattle.dw_report.proofs.RunLemmas.{SoFar}
-use Rattle.dw_report.proofs.run.write_report.Given as goal
+use Rattle.dw_report.proofs.SpendingLemmas.{Counted}
+use Rattle.dw_report.proofs.run.run_with.Given as goal
 
 abbrev pub invariant-problems : goal.invariant-problems
 invariant-problems g l =
@@ -18,8 +19,8 @@ invariant-problems g l =
       end : EndIsTrue (source.supply (source_of l.problems)) (reader_of l.problems);
       source : source.is_failed (source_of l.problems) ≡ false;
       sink : sink.is_failed l.sink ≡ false;
-      limit : l.solver.limit ≡ l.initial.solver.limit;
-      still : searches l.settings.command ≡ false → l.solver.expanded ≡ 0;
+      count : Counted l.initial.solver l.solver;
+      still : searches l.settings.command ≡ false → l.solver.expanded ≡ l.initial.solver.expanded;
       read : l.summary.problems ≡ (reader_of l.problems).handed;
       shown : l.summary.shown ≤ l.summary.problems;
       refused : l.summary.refused ≤ l.summary.shown;
