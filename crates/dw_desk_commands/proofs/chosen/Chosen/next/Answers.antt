@@ -1,4 +1,4 @@
-use Rattle.std.proofs.Common.{◌∙◌, cond, [], ◌∷◌, ◌++◌, sym, subst, arith}
+use Rattle.std.proofs.Common.{◌∙◌, cond, [], ◌∷◌, ◌++◌, sym, subst, arith, refl}
 use Rattle.dw_desk_commands.specs.inner.Choosing.{AreToCome, ComesNext, MayBe}
 use Rattle.dw_games.specs.GameReading.{numbered_game}
 use Rattle.dw_desk_commands.proofs.ChosenLemmas.{GoesOn-next, GoesOn-refl, less_left, none_comes, none_left, some_come}
