@@ -4,7 +4,8 @@
 ghost use Rattle.std.specs.Prelude.{◌≡◌, ◌⊎◌, [], false};
 ghost use Rattle.dw_desk_commands.specs.Commands.{Obeys};
 ghost use Rattle.dw_desk_commands.specs.Ending.{FailsForCause};
-ghost use Rattle.dw_notation.specs.Endpoints.{told_by, read_from, has_read_all, accepted_by, has_write_failed};
+ghost use Rattle.dw_notation.specs.Endpoints.{told_by, read_from, has_read_all, has_read_failed};
+ghost use Rattle.dw_notation.specs.Endpoints.{accepted_by, has_write_failed};
 
 mod progress;
 
@@ -95,7 +96,7 @@ fn run_between<'a, B: Board, P: DeskWatcher, R: Read, W: Write>(
           coming = R.remaining (read_from result.source);
           has_ended = has_read_all result.source;
         }) [] (accepted_by result.sink) result.ending }
-    ensures fails { FailsForCause (has_write_failed result.sink) result.ending }
+    ensures fails { FailsForCause (has_read_failed result.source) (has_write_failed result.sink) result.ending }
 {
     let mut source = Reading::new(reader);
     let mut sink = Writing::new(writer);

@@ -294,7 +294,7 @@ pub some_come : {B S : Type 0} (g : Geometry) (supply : S → Supply) (portion :
     → (games : List NumberedGame) × AreComing g supply portion left new whole games
 some_come g supply portion left old new game whole next (rest, is) =
     let all = (next.comes rest is.may).1 in
-    (up_to portion (take left all.0), rest, is, inr (all.0, all.1, refl))
+    (up_to portion (take left all.0), (rest, is, inr (all.0, all.1, refl)))
 
 -- what a call for the next game answered
 pub is_next : {B S : Type 0} (g : Geometry) (supply : S → Supply) (old new : Chosen B S) (found : Option (Game B))

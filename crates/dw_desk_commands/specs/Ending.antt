@@ -25,8 +25,7 @@ HasCause source_failed sink_failed (faults.Stopped why expanded) =
 HasCause source_failed sink_failed faults.Read = source_failed ≡ true
 HasCause source_failed sink_failed faults.Write = sink_failed ≡ true
 
--- a program that fails to write, or at a limit, has a cause for it; of a failed read nothing is said
-abbrev pub FailsForCause : {T : Type 0} → (sink_failed : Bool) → Ending T → Type 0
-FailsForCause sink_failed (end.Failed faults.Read) = ⊤
-FailsForCause sink_failed (end.Failed fault) = HasCause false sink_failed fault
-FailsForCause sink_failed other = ⊤
+-- a program that fails has a cause for it
+abbrev pub FailsForCause : {T : Type 0} → (source_failed sink_failed : Bool) → Ending T → Type 0
+FailsForCause source_failed sink_failed (end.Failed fault) = HasCause source_failed sink_failed fault
+FailsForCause source_failed sink_failed other = ⊤

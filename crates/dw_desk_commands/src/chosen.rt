@@ -44,6 +44,15 @@ impl<'a, B: Board, S: Source> Chosen<'a, B, S> {
         }
     }
 
+    /// Returns the reference to the source. Chosen problems that are dropped do not tell their caller what was read.
+    pub(crate) fn into_source(self) -> &'a mut S
+        ensures lender { result.ghost_name ≡ lender self.entry.text }
+        ensures source { result.now ≡ source_of self.entry.text }
+    {
+        let Chosen { text, .. } = self;
+        text.into_source()
+    }
+
     /// Returns the number of the first problem of the portion.
     pub(crate) fn first(&self) -> u32
         ensures { result ≡ self.now.portion.first }
@@ -134,6 +143,17 @@ impl<'a, B: Board, S: Source> Text<'a, B, S> {
         match form {
             Form::Fens => Text::Fens(Problems::new(source, form)),
             Form::Pdn => Text::Pdn(Games::new(alloc, source)),
+        }
+    }
+
+    /// Returns the reference to the source.
+    fn into_source(self) -> &'a mut S
+        ensures lender { result.ghost_name ≡ lender self.entry }
+        ensures source { result.now ≡ source_of self.entry }
+    {
+        match self {
+            Text::Fens(problems) => problems.into_source(),
+            Text::Pdn(games) => games.into_source(),
         }
     }
 

@@ -176,7 +176,7 @@ pub fn run_on<'a, B: Board, W: DeskWatcher, S: Source, K: Sink>(
     requires sink { K.is_failed sink.old ≡ false }
     ensures obeys { Obeys B.geometry args.now (S.supply source.old) (S.supply source.new) (K.accepted sink.old)
         (K.accepted sink.new) result }
-    ensures fails { FailsForCause (K.is_failed sink.new) result }
+    ensures fails { FailsForCause (S.is_failed source.new) (K.is_failed sink.new) result }
 {
     let Ok(mut desk) = Desk::<B>::new(alloc, args) else {
         return Ending::no_memory();
@@ -201,11 +201,14 @@ fn dispatch<'a, B: Board, W: DeskWatcher, S: Source, K: Sink>(
     ensures does { IfOk result (DoesIt B.geometry args.now (S.supply source.old) (S.supply source.new)
         (K.accepted sink.old) (K.accepted sink.new)) }
     ensures told { IfOk result FailsForMemory }
-    ensures fails { (read_failed : Bool) × IfErr result (λ fault.
-        HasCause read_failed (K.is_failed sink.new) (run_fault fault desk.new.solver.expanded)) }
+    ensures fails { IfErr result (λ fault. HasCause (S.is_failed source.new) (K.is_failed sink.new)
+        (run_fault fault desk.new.solver.expanded)) }
 {
     let mut chosen = Chosen::<B, S>::new(desk.alloc, source, form_of(args), args.portion);
-    do_with(desk, slices, args, &mut chosen, sink)
+    let result = do_with(desk, slices, args, &mut chosen, sink);
+    // Chosen problems that are dropped would not tell how much was read.
+    let _ = chosen.into_source();
+    result
 }
 
 /// Runs a command on the chosen problems, unless something stops it.

@@ -222,6 +222,15 @@ impl<'a, B: Board, S: Source> Games<'a, B, S> {
         }
     }
 
+    /// Returns the reference to the source. A reader that is dropped does not tell its caller what it read.
+    pub fn into_source(self) -> &'a mut S
+        ensures lender { result.ghost_name ≡ lender self.entry }
+        ensures source { result.now ≡ source_of self.entry }
+    {
+        let Games { source, .. } = self;
+        source
+    }
+
     /// Returns the next game, or `None` if the text has no more. It reads up to the next section, or to the end of the
     /// text.
     ///

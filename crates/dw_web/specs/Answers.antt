@@ -78,7 +78,8 @@ pub record DesksOn (g : Geometry) (args : DeskArgs) (input before after : List �
     (ending : Ending (Bor (List ℕ))) : Type 0 where
   pub left : Supply
   pub obeys : Obeys g args (unread input) left before after ending
-  pub cause : FailsForCause full ending
+  pub read_failed : Bool
+  pub cause : FailsForCause read_failed full ending
 
 -- `dw-desk` with these arguments
 abbrev pub Desks : DeskArgs → (input before after : List ℕ) → (full : Bool)

@@ -198,6 +198,15 @@ impl<'a, B: Board, S: Source> Problems<'a, B, S> {
         Some(self.numbers.hand_out(found?))
     }
 
+    /// Returns the reference to the source. A reader that is dropped does not tell its caller what it read.
+    pub fn into_source(self) -> &'a mut S
+        ensures lender { result.ghost_name ≡ lender self.entry }
+        ensures source { result.now ≡ source_of self.entry }
+    {
+        let Problems { source, .. } = self;
+        source
+    }
+
     /// Returns the next problem, or `None` if the text has no more. `Failed` is the source's fault: no problem that was
     /// read whole is lost by it, and each later call returns `Failed` too.
     #[tactic(auto, unfolding(crate::specs::inner::Readers::reader_of))]

@@ -24,8 +24,8 @@ returns-in-Find-clause-does g c =
     let One = λ (game : NumberedGame). IsFindOf geo c.in-Find.query (problem_of game) in
     does_all geo g.S.Source.supply args c.args.chosen.now c.report_all.new.chosen
     (g.K.Sink.accepted c.args.sink.now) (g.K.Sink.accepted c.report_all.new.sink) One
-    c.in_ok-report_all.field-0 c.ending.result c.requires.fresh c.in_ok-report_all.ensures.on
-    c.in_ok-report_all.ensures.report c.ending.ensures
+    c.in_ok-report_all-in-Find.field-0 c.ending.result c.requires.fresh c.in_ok-report_all-in-Find.ensures.on
+    c.in_ok-report_all-in-Find.ensures.report c.ending.ensures
     (λ games text all. subst (λ t. Tells geo args.portion t games c.ending.result text) (sym c.in-Find.is) all)
 
 pub returns-in-Check-clause-does : goal.returns-in-Check-clause-does
