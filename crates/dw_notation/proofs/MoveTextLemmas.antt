@@ -1,13 +1,27 @@
 -- Lemmas on the texts of moves.
-use Rattle.std.proofs.Common.{◌≡◌, ◌≤◌, ◌<◌, ◌+◌, ◌*◌, ℕ, List, [], ◌∷◌, ◌++◌, length, length-append, append_assoc}
-use Rattle.std.proofs.Common.{append-nil, get_or, drop, sym, ap, ◌∙◌, arith, decimal}
-use Rattle.std.proofs.lemmas.Fmt.{length-decimal-le}
+use Rattle.std.proofs.Common.{◌≡◌, ◌≤◌, ◌<◌, ◌+◌, ◌*◌, ◌/◌, ◌%◌, ℕ, List, [], ◌∷◌, ◌++◌, length, length-append}
+use Rattle.std.proofs.Common.{append_assoc, append-nil, get_or, drop, sym, ap, ◌∙◌, arith, decimal}
+use Rattle.std.proofs.lemmas.Fmt.{decimal_digit, decimal_step, length-decimal-le}
 use Rattle.std.proofs.lemmas.List.{drop_more, drop_all}
 use Rattle.dw_notation.specs.Text.{squares_text}
 
 -- a number of two digits
 pub two_digits : (n : ℕ) → n ≤ 50 → length (decimal n) ≤ 2
 two_digits n small = length-decimal-le 2 n (omega arith) (omega (arith, small)) (omega (arith, small))
+
+-- a number of one digit, and one of two digits, was written
+pub one_written : (n : ℕ) (a c : List ℕ) → n < 10 → c ≡ a ++ (48 + n % 10) ∷ [] → c ≡ a ++ decimal n
+one_written n a c low e =
+    let same : n % 10 ≡ n = omega (arith, low) in
+    e ∙ ap (λ z. a ++ z) (ap (λ z. (48 + z) ∷ []) same ∙ sym (decimal_digit n low))
+
+pub two_written : (n : ℕ) (a b c : List ℕ) → 10 ≤ n → n < 100 → b ≡ a ++ (48 + n / 10) ∷ []
+    → c ≡ b ++ (48 + n % 10) ∷ [] → c ≡ a ++ decimal n
+two_written n a b c low high first last =
+    let tens : decimal n ≡ (48 + n / 10) ∷ (48 + n % 10) ∷ [] = decimal_step n low (omega (arith, high))
+    ∙ ap (λ z. z ++ (48 + n % 10) ∷ []) (decimal_digit (n / 10) (omega (arith, high))) in
+    last ∙ (ap (λ z. z ++ (48 + n % 10) ∷ []) first ∙ (append_assoc a ((48 + n / 10) ∷ []) ((48 + n % 10) ∷ [])
+    ∙ ap (λ z. a ++ z) (sym tens)))
 
 -- each of these squares with the mark before it
 abbrev pub behind : ℕ → List ℕ → List ℕ

@@ -1,18 +1,17 @@
 //! The texts of lines.
 ghost use Rattle.std.specs.Prelude.{◌≡◌, ◌≤◌, ◌<◌, ◌+◌, ◌++◌, [], ◌∷◌, length, take, IfOk, OnOk, OnErr, ◌%◌, ◌*◌};
-ghost use Rattle.std.specs.Prelude.{ℕ};
+ghost use Rattle.std.specs.Prelude.{ℕ, List};
 ghost use Rattle.arrayvec.specs.ArrayString.{array_string_len};
 ghost use Rattle.dw_moves.specs.Moves.{Legal};
 ghost use Rattle.dw_notation.specs.Text.{IsLineText, ArePlayable, numbered};
-ghost use Rattle.dw_notation.specs.inner.LineWords.{onto};
+ghost use Rattle.dw_notation.specs.inner.LineWords.{onto, IsPushed};
 ghost use Rattle.dw_notation.specs.inner.WrittenMoves.{after_moves, len_to, end_from};
 
-use crate::move_text::{MOVE_ROOM, text_in};
+use crate::move_text::{MOVE_ROOM, listed_text, mark_of, push_number, push_square};
 use arrayvec::{ArrayString, ArrayVec};
 use dw_board::{Board, Position, Side};
 use dw_moves::play::play as played;
 use dw_moves::{Move, same_move};
-use itoa::Buffer;
 use std::alloc::{AllocError, Global};
 use std::marker::Model;
 
@@ -138,8 +137,7 @@ impl<B: Board> LineText<B> {
         ensures same { OnErr result (self.new ≡ self.old) }
     {
         let current = end_of(&self.start, self.plies.as_slice());
-        let word = text_in(alloc, &current, mv)?;
-        push_words(&mut self.text, self.plies.len(), &word);
+        push_move(alloc, &mut self.text, self.plies.len(), &current, mv)?;
         self.plies.push(WrittenMove {
             mv: *mv,
             after: played(&current, mv),
@@ -194,20 +192,52 @@ pub fn line_text<B: Board>(
     Ok(text.text)
 }
 
-/// Appends the text of the move at a ply, with its number before it if it is the attacker's.
-fn push_words(text: &mut ArrayString<LINE_ROOM>, ply: usize, word: &ArrayString<MOVE_ROOM>)
+/// Appends the text of a legal move at a ply, with its number before it if it is the attacker's. If out of memory, it
+/// changes nothing.
+#[inline(always)]
+fn push_move<B: Board>(
+    alloc: Global,
+    text: &mut ArrayString<LINE_ROOM>,
+    ply: usize,
+    position: &Position<B>,
+    mv: &Move<B>,
+) -> Result<(), AllocError>
+    requires legal { Legal B.geometry position.now mv.now }
     requires room { array_string_len text.old ≤ 65 * ply + 2 * (ply % 2) }
     requires few { ply < 39 }
-    requires short { length word.now.bytes ≤ 62 }
-    ensures { text.new.bytes ≡ text.old.bytes ++ onto ply (numbered ply (word.now.bytes ∷ [])) }
+    ensures ok { OnOk result (IsPushed B.geometry position.now ply mv.now text.old.bytes text.new.bytes) }
+    ensures err { OnErr result (text.new ≡ text.old) }
+{
+    match mark_of(position, mv) {
+        Some(mark) => {
+            push_lead(text, ply);
+            push_square(text, mv.from);
+            text.push(mark);
+            push_square(text, mv.to);
+        }
+        None => {
+            let word = listed_text(alloc, position, mv)?;
+            push_lead(text, ply);
+            text.push_str(word.as_str());
+        }
+    }
+    Ok(())
+}
+
+/// Appends what stands before the text of a move at a ply: a blank after other moves, and the number of an attacker's
+/// move.
+#[inline(always)]
+fn push_lead(text: &mut ArrayString<LINE_ROOM>, ply: usize)
+    requires room { array_string_len text.old ≤ 65 * ply + 2 * (ply % 2) }
+    requires few { ply < 39 }
+    ensures lead { (word : List ℕ) → text.new.bytes ++ word ≡ text.old.bytes ++ onto ply (numbered ply (word ∷ [])) }
+    ensures short { array_string_len text.new ≤ array_string_len text.old + 5 }
 {
     if ply > 0 {
         text.push(' ');
     }
     if ply % 2 == 0 {
-        let mut digits = Buffer::new();
-        text.push_str(digits.format(ply / 2 + 1));
+        push_number(text, (ply / 2 + 1) as u8);
         text.push_str(". ");
     }
-    text.push_str(word.as_str());
 }

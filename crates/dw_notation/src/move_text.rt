@@ -1,5 +1,5 @@
 //! The texts of moves.
-ghost use Rattle.std.specs.Prelude.{◌≡◌, ◌≤◌, ◌<◌, ◌+◌, ◌++◌, [], ◌∷◌, length, decimal, HoldsAt, IfOk};
+ghost use Rattle.std.specs.Prelude.{◌≡◌, ◌≤◌, ◌<◌, ◌+◌, ◌++◌, [], ◌∷◌, length, decimal, HoldsAt, IfOk, IfSome};
 ghost use Rattle.arrayvec.specs.ArrayString.{array_string_len};
 ghost use Rattle.dw_moves.specs.Moves.{Legal};
 ghost use Rattle.dw_notation.specs.Text.{IsMoveText, squares_text, text_among, shares_ends as are_shared};
@@ -9,7 +9,6 @@ use arrayvec::ArrayString;
 use dw_board::{Board, Position, Square};
 use dw_moves::listed::listed;
 use dw_moves::{LONGEST_PATH, Listed, Move, shares_ends};
-use itoa::Buffer;
 use std::alloc::{AllocError, Global};
 
 /// The most bytes of a move's text, 62: two digits for each square of a path, and a sign between each two of them.
@@ -50,18 +49,32 @@ pub fn text_in<B: Board>(
     ensures text { IfOk result (λ text. IsMoveText B.geometry position.now mv.now text.bytes) }
     ensures short { IfOk result (λ text. length text.bytes ≤ 62) }
 {
+    match mark_of(position, mv) {
+        Some(mark) => Ok(squares_text(&[mv.from, mv.to], mark)),
+        None => listed_text(alloc, position, mv),
+    }
+}
+
+/// Returns the mark between start and end of a move, which must be legal, or `None` if its text has all squares of its
+/// path, because another capture shares its ends.
+#[inline(always)]
+pub(crate) fn mark_of<B: Board>(position: &Position<B>, mv: &Move<B>) -> Option<char>
+    requires { Legal B.geometry position.now mv.now }
+    ensures text { IfSome result (λ mark.
+        IsMoveText B.geometry position.now mv.now (squares_text mark (mv.now.from ∷ mv.now.to ∷ []))) }
+    ensures ascii { IfSome result (λ mark. mark < 128) }
+{
     crate::laws::ends_tell();
-    let squares = [mv.from, mv.to];
     match mv.taken.count() {
-        0 => Ok(squares_text(&squares, '-')),
-        1 => Ok(squares_text(&squares, 'x')),
-        _ if shares_ends(position, mv) => listed_text(alloc, position, mv),
-        _ => Ok(squares_text(&squares, 'x')),
+        0 => Some('-'),
+        1 => Some('x'),
+        _ if shares_ends(position, mv) => None,
+        _ => Some('x'),
     }
 }
 
 /// Returns the text of a legal move, as it is written among all legal moves.
-fn listed_text<B: Board>(
+pub(crate) fn listed_text<B: Board>(
     alloc: Global,
     position: &Position<B>,
     mv: &Move<B>,
@@ -124,11 +137,28 @@ fn squares_text<B: Board>(squares: &[Square<B>], mark: char) -> ArrayString<MOVE
 }
 
 /// Appends the number of a square, of at most two digits.
-fn push_square<B: Board>(text: &mut ArrayString<MOVE_ROOM>, square: Square<B>)
-    requires room { array_string_len text.old + 2 ≤ 64 }
+#[inline(always)]
+pub(crate) fn push_square<B: Board, const CAP: usize>(
+    text: &mut ArrayString<CAP>,
+    square: Square<B>,
+)
+    requires room { array_string_len text.old + 2 ≤ CAP }
     ensures bytes { text.new.bytes ≡ text.old.bytes ++ decimal square }
     ensures few { array_string_len text.new ≤ array_string_len text.old + 2 }
 {
-    let mut digits = Buffer::new();
-    text.push_str(digits.format(square.number()));
+    push_number(text, square.number());
+}
+
+/// Appends a number of at most two digits.
+#[inline(always)]
+pub(crate) fn push_number<const CAP: usize>(text: &mut ArrayString<CAP>, number: u8)
+    requires room { array_string_len text.old + 2 ≤ CAP }
+    requires two { number < 100 }
+    ensures bytes { text.new.bytes ≡ text.old.bytes ++ decimal number }
+    ensures few { array_string_len text.new ≤ array_string_len text.old + 2 }
+{
+    if number >= 10 {
+        text.push(char::from(b'0' + number / 10));
+    }
+    text.push(char::from(b'0' + number % 10));
 }

@@ -307,7 +307,7 @@ fn known_loss<B: Board, M: Memo<B>, G>(
 }
 
 /// Returns whether the side to move has lost, with one move of the attacker left.
-fn loses_last<B: Board, M: Memo<B>, G>(
+pub(crate) fn loses_last<B: Board, M: Memo<B>, G>(
     search: &mut Search<M, G>,
     plies: &mut [Ply<B>],
     position: &Position<B>,

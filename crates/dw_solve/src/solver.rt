@@ -15,7 +15,7 @@ use crate::guide::Guide;
 use crate::history::History;
 use crate::lineup::Lineup;
 use crate::ply::Ply;
-use crate::search::{Search, expand, known, loses_at_root};
+use crate::search::{Search, expand, known, loses_at_root, loses_last};
 use crate::stop::Stop;
 use dw_board::{Board, Position};
 use dw_memo::Memo;
@@ -185,6 +185,15 @@ impl<B: Board, M: Memo<B>, G: Guide<B>> Solver<B, M, G> {
         answer
     }
 
+    /// Returns the same as `loses` within one move. It does not look for an answer before it searches, so it is faster
+    /// once the memo has lost entries, and may count positions that `loses` does not.
+    pub fn loses_last(&mut self, alloc: Global, position: &Position<B>) -> Result<bool, Stop>
+        ensures answer { IfOk result (λ yes. IsTrue yes ↔ Lost B.geometry position.now 1) }
+        ensures asked { Asked B.geometry M.content M.dropped 1 self.old self.new result }
+    {
+        ask_loses_last(&mut self.search, &mut self.plies, alloc, position)
+    }
+
     /// Returns the least number of moves, from 1 to `most`, within which the side to move wins, or `None` if it has no
     /// such win. `most` must be at most 20. This takes no memory and no expansion if the memo decides each of these
     /// numbers.
@@ -285,6 +294,23 @@ fn ask_loses<B: Board, M: Memo<B>, G: Guide<B>>(
     let mut plies = prepared(alloc, spare.take(), needed)?;
     search.history.forget();
     let answer = loses_at_root(search, plies.as_mut_slice(), position, moves);
+    *spare = Some(plies);
+    answer
+}
+
+/// Answers `Solver::loses_last`.
+fn ask_loses_last<B: Board, M: Memo<B>, G: Guide<B>>(
+    search: &mut Search<M, G>,
+    spare: &mut Option<Vec<Ply<B>>>,
+    alloc: Global,
+    position: &Position<B>,
+) -> Result<bool, Stop>
+    requires ready { CanSearch B.geometry M.content search.old }
+    ensures answer { IfOk result (λ yes. IsTrue yes ↔ Lost B.geometry position.now 1) }
+    ensures searched { HasSearched B.geometry M.content M.dropped 1 search.old search.new result }
+{
+    let mut plies = prepared(alloc, spare.take(), PLIES)?;
+    let answer = loses_last(search, plies.as_mut_slice(), position);
     *spare = Some(plies);
     answer
 }

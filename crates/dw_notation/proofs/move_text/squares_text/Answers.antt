@@ -22,7 +22,7 @@ push_square-requires-in-rest g c =
     let one = ap length (c.push.ensures.ascii c.requires.ascii)
     ∙ length-append c.rest.text.bytes (c.args.mark ∷ []) in
     let all = ap length c.in-Some.ensures.cases.0 in
-    record { room = omega (arith, one, all, c.requires.few, c.rest.invariant.short, c.rest-test.true) }
+    (omega arith, omega (arith, one, all, c.requires.few, c.rest.invariant.short, c.rest-test.true))
 
 pub rest-preserved : goal.rest-preserved
 rest-preserved g c =
