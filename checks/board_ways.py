@@ -1,13 +1,16 @@
 #!/usr/bin/env python3
-"""board_ways.py: goes ten ways of a composer through board.html, with the mouse, a finger or the keyboard alone.
+"""board_ways.py: goes the ways of a composer through board.html, with the mouse, a finger or the keyboard alone.
 
-    checks/board_ways.py [--page FILE] [--browser NAME] [--printed docs/printed.png]
+    checks/board_ways.py [--page FILE] [--browser NAME] [--printed docs/printed.png] [--way NAME ..]
 
 Each way begins with the page as a new reader finds it, in Chromium and in Firefox, and takes nothing but what one sees:
 pieces are placed by clicks, texts are typed, files are opened. A dual is mended; a FEN text has a fault; a telephone;
 no mouse; a file of contributed problems becomes a printed page; a printed solution is compared; a long search is
 stopped and asked for less; a link is shared; Black plays; the board has 8 rows. With --printed the first page of the
 printed problems becomes a picture.
+
+Then come the ways of who has used it for a week. A problem gets a name, which goes with it into the link and the game
+that is copied; cards are edited, moved, deleted, and saved as they are shown; the list is kept in a file of one's own.
 """
 import argparse
 import base64
@@ -29,6 +32,51 @@ CONTRIBUTED = """W:W27,45:B16 W:W27,32:B18 W:W27,32,38:B18 B:W43:B24,29 W:W10,16
 W:W3:B20 W:W28,33:B23 W:W38,43:B32""".split()
 # Where the page says how far a question is.
 SOLVED = "document.querySelector('#state').dataset.state === 'done'"
+
+
+# What is copied is kept for the check to read.
+COPIES = """
+window.copied = [];
+Object.defineProperty(navigator, 'clipboard', { configurable: true, value: {
+  writeText: async (text) => { window.copied.push(text); },
+  write: async (items) => { window.copied.push(...items); },
+} });
+0
+"""
+# A browser's form for a file, and the file that one chooses there: it is in the page's memory alone.
+FILE = """
+(() => {
+  window.disk = { text: '', asked: 0 };
+  const handle = {
+    name: 'archive.pdn',
+    getFile: async () => new File([disk.text], 'archive.pdn'),
+    createWritable: async () => ({ write: async (text) => { disk.text = text; }, close: async () => {} }),
+    requestPermission: async () => 'granted',
+  };
+  window.showSaveFilePicker = async () => { disk.asked += 1; return handle; };
+  window.showOpenFilePicker = async () => { disk.asked += 1; return [handle]; };
+})();
+0
+"""
+GAMES = """[Event "Spring"]
+[White "A. Composer"]
+[Site "Het Damspel"]
+[Date "1999.05.??"]
+[FEN "W:W27,32:B18"]
+
+1. 32-28 *
+
+[Event "Summer"]
+[FEN "W:W27,45:B16"]
+
+*
+
+[Event "Autumn"]
+[FEN "W:W27,32,38:B18"]
+
+*
+"""
+CARDS = "#list .card-title"
 
 
 def begin(browser, page, address=""):
@@ -380,7 +428,132 @@ def way_eight(browser, page):
     reads(browser, "#fault > *", "4 number at 4", "W:W33:B1", "A square from 1 to 32 has to stand here.")
 
 
+def opened(browser, page, folder):
+    """The page with a list of three problems."""
+    begin(browser, page)
+    file = folder / "three.pdn"
+    file.write_text(GAMES)
+    browser.click("#tab-collection")
+    browser.upload("#file", file)
+    reads(browser, CARDS, "1. Spring, A. Composer, Het Damspel, 1999.05", "2. Summer", "3. Autumn")
+
+
+def week_name(browser, page, folder):
+    """A problem is named, and the name goes with it: above the board, in the link, in the game, after a reload."""
+    opened(browser, page, folder)
+    browser.click("#list .card")
+    reads(browser, "#named-name", "Spring, A. Composer, Het Damspel, 1999.05")
+    browser.click("#naming summary")
+    assert value(browser, "#name-source") == "Het Damspel"
+    browser.replace("#name-title", "Spring & May")
+    reads(browser, "#named-name", "Spring & May, A. Composer, Het Damspel, 1999.05")
+    reads(browser, CARDS, "1. Spring & May, A. Composer, Het Damspel, 1999.05", "2. Summer", "3. Autumn")
+    browser.click("#tab-solve")
+    solve(browser, 4)
+    reads(browser, "#named-task", "White to play and win in 2")
+    browser.run(COPIES)
+    browser.click("#copy")
+    browser.wait("window.copied.length === 1", 20)
+    tags = ['[Event "Spring & May"]', '[White "A. Composer"]', '[Site "Het Damspel"]', '[Date "1999.05"]']
+    assert browser.run("window.copied[0]").splitlines()[:4] == tags, browser.run("window.copied[0]")
+    # Another position has no name, until it is given that of the one before.
+    browser.click('[data-square="50"]')
+    fen_is(browser, "W:W27,32,50:B18")
+    assert text(browser, "#named-name") == "" and value(browser, "#name-title") == ""
+    browser.click("#name-before")
+    reads(browser, "#named-name", "Spring & May, A. Composer, Het Damspel, 1999.05")
+    browser.click("#undo")
+    address = browser.run("location.href")
+    assert address.endswith("#fen=W:W27,32:B18&n=4&title=Spring+%26+May&author=A.+Composer&source=Het+Damspel"
+                            "&date=1999.05"), address
+    browser.run("localStorage.clear()")
+    open_page(browser, page, address[address.index("#"):])
+    reads(browser, "#named-name", "Spring & May, A. Composer, Het Damspel, 1999.05")
+    open_page(browser, page)
+    reads(browser, "#named-name", "Spring & May, A. Composer, Het Damspel, 1999.05")
+
+
+def week_cards(browser, page, folder):
+    """Cards are edited, put in another order, deleted and brought back, and the order stays."""
+    opened(browser, page, folder)
+    browser.click("#list .item:nth-child(2) .edit")
+    browser.wait("document.querySelector('#card-dialog').open", 10)
+    reads(browser, "#card-heading", "Edit problem 2")
+    browser.replace("#card-author", "B. Composer")
+    browser.replace("#card-number", "3")
+    browser.click("#card-keep")
+    first = "1. Spring, A. Composer, Het Damspel, 1999.05"
+    reads(browser, CARDS, first, "2. Autumn", "3. Summer, B. Composer")
+    browser.press("Delete")
+    reads(browser, CARDS, first, "2. Autumn")
+    browser.press("Delete")
+    reads(browser, CARDS, first)
+    reads(browser, "#bring-back", "Undo: bring 1 problem back")
+    browser.click("#bring-back")
+    reads(browser, CARDS, first, "2. Autumn")
+    browser.click("#bring-back")
+    reads(browser, CARDS, first, "2. Autumn", "3. Summer, B. Composer")
+    open_page(browser, page)
+    browser.click("#tab-collection")
+    reads(browser, CARDS, first, "2. Autumn", "3. Summer, B. Composer")
+    # The position on the board takes the place of that of a card.
+    browser.replace("#fen", "W:W32:B18")
+    browser.click("#list .item:nth-child(2) .edit")
+    browser.click("#card-position")
+    browser.click("#card-keep")
+    browser.wait("document.querySelector('#list .item:nth-child(2) .card').dataset.fen === 'W:W32:B18'", 10)
+
+
+def week_shown(browser, page, folder):
+    """Saving takes what is shown, in its order."""
+    opened(browser, page, folder)
+    browser.click("#judge-all")
+    browser.wait("document.querySelector('#list .card').dataset.state === 'dual' && "
+                 "!document.querySelector('#judge-all').disabled", 60)
+    browser.choose("#filter", "cooked")
+    reads(browser, "#saves", "Saves what is shown: 1 of 3 problems.")
+    browser.click("#save-pdn")
+    browser.wait("document.querySelector('#list').dataset.saved === 'problems.pdn'", 60)
+    saved = browser.saved("problems.pdn").read_text()
+    assert re.findall(r'Event "(\w+)"', saved) == ["Autumn"], saved
+
+
+def week_own(browser, page, folder):
+    """The list is kept in a file of one's own, which takes its place again; a file may replace the list."""
+    browser.preload(FILE)
+    try:
+        opened(browser, page, folder)
+        browser.choose("#rows", "8")
+        browser.replace("#fen", "W:W22,30:B14")
+        browser.click("#add summary")
+        browser.click("#add-go")
+        reads(browser, CARDS, "1. Spring, A. Composer, Het Damspel, 1999.05", "2. Summer", "3. Autumn", "4.")
+        before = browser.run("[...document.querySelectorAll('#list .card')].map((e) => e.dataset.fen)")
+        browser.click("#own-save")
+        browser.wait("document.querySelector('#list').dataset.saved === 'archive.pdn'", 20)
+        reads(browser, "#own-save", "Save to my file (archive.pdn)")
+        browser.click("#list .edit")
+        browser.click("#card-delete")
+        browser.wait("document.querySelector('#list').dataset.count === '3'", 20)
+        browser.click("#own-open")
+        browser.wait("document.querySelector('#list').dataset.count === '4'", 20)
+        reads(browser, CARDS, "1. Spring, A. Composer, Het Damspel, 1999.05", "2. Summer", "3. Autumn", "4.")
+        assert browser.run("[...document.querySelectorAll('#list .card')].map((e) => e.dataset.fen)") == before
+        assert browser.run("disk.asked") == 1, "one click, once the file is known"
+        browser.click("#list .item:nth-child(4) .card")
+        browser.wait("document.querySelector('#rows').value === '8'", 20)
+    finally:
+        browser.preload(None)
+    opened(browser, page, folder)
+    browser.choose("#file-way", "replace")
+    browser.upload("#file", folder / "three.pdn")
+    browser.wait("!document.querySelector('#bring-back').hidden", 20)
+    reads(browser, CARDS, "1. Spring, A. Composer, Het Damspel, 1999.05", "2. Summer", "3. Autumn")
+
+
 WAYS = [way_dual, way_fault, way_phone, way_keys, way_page, way_compare, way_stop, way_share, way_black, way_eight]
+# Those of a composer who has used it for a week.
+WEEK = [way for name, way in list(globals().items()) if name.startswith("week_")]
 
 
 def main():
@@ -388,14 +561,19 @@ def main():
     words.add_argument("--page", help="a page that is there; without it one is made")
     words.add_argument("--browser", choices=("chromium", "firefox"))
     words.add_argument("--printed", type=pathlib.Path, help="the file for the picture of a printed page")
+    words.add_argument("--way", nargs="*", choices=[way.__name__ for way in WAYS + WEEK], help="these ways alone")
     given = words.parse_args()
     with tempfile.TemporaryDirectory() as name:
         folder = pathlib.Path(name)
         page = made_page(given.page, folder)
         for kind in browsers_asked(given.browser):
             with kind() as browser:
-                for way in WAYS:
-                    if way is way_page:
+                for way in WAYS + WEEK:
+                    if given.way and way.__name__ not in given.way:
+                        continue
+                    if way in WEEK:
+                        way(browser, page, folder)
+                    elif way is way_page:
                         printed = given.printed or folder / "printed.png"
                         way(browser, page, folder, printed if browser.name == "chromium" else None)
                     else:

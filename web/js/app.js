@@ -2,6 +2,7 @@
 import { Book } from './book.js';
 import { History } from './history.js';
 import { textIn } from './languages.js';
+import { Names } from './naming.js';
 import { emptyBoard, fenOf, isSame, positionOf } from './position.js';
 import { Rules } from './rules.js';
 
@@ -11,8 +12,9 @@ import { Rules } from './rules.js';
  * @typedef {import('./languages.js').Language} Language
  * @typedef {import('./languages.js').Key} Key
  * @typedef {import('../../package/workers.js').Workers} Workers
- * @typedef {'edited' | 'looked' | 'spoken' | 'answered' | 'read'} Change The problem is another; the position on the
- *     board is; the language is; an answer is; a FEN text was read.
+ * @typedef {import('./naming.js').Naming} Naming
+ * @typedef {'edited' | 'looked' | 'spoken' | 'answered' | 'read' | 'named'} Change The problem is another; the position
+ *     on the board is; the language is; an answer is; a FEN text was read; the name of a position is another.
  */
 
 /** The state of the page. Whoever wants to know of a change listens to it. */
@@ -21,13 +23,15 @@ export class App extends EventTarget {
      * @param {Workers} searches Workers for much that may take long, as many as there are processors.
      * @param {Workers} solver Workers for the questions that the reader waits for.
      * @param {Workers} quick A worker for what is answered at once.
+     * @param {import('./keep.js').Store} store What the browser keeps.
      */
-    constructor(searches, solver, quick) {
+    constructor(searches, solver, quick, store) {
         super();
         this.searches = searches;
         this.solver = solver;
         this.rules = new Rules((words, input) => quick.ask(words, input));
         this.book = new Book();
+        this.names = new Names(store);
         /** @type {Language} */
         this.language = 'en';
         /** @type {History<Position>} The problem, and those before. */
@@ -98,6 +102,16 @@ export class App extends EventTarget {
         this.looked = null;
         this.history.put(position);
         this.tell('edited');
+    }
+
+    /**
+     * Gives a position a name.
+     * @param {Position} position
+     * @param {Naming} naming
+     */
+    name(position, naming) {
+        this.names.put(position, naming);
+        this.tell('named');
     }
 
     /** Takes back the last change of the problem, or does it again. */

@@ -5,6 +5,8 @@ import { Task } from './book.js';
 import { byId, control, fill, make, reveal, unbroken } from './dom.js';
 import { reportOf, textOf } from '../../package/engine.js';
 import { keyOf } from './languages.js';
+import { lineOfName, namingOf } from './naming.js';
+import { pasted } from './pasted.js';
 import { positionOf } from './position.js';
 import { boardOf } from './rules.js';
 
@@ -84,8 +86,9 @@ export class Comparing {
         }
         const problems = await app.rules.problems(text, rows);
         if (this.field.value !== text) return;
-        const fen = problems[0]?.fen;
+        const fen = problems[0]?.fen, naming = namingOf(pasted(text).tags);
         if (fen) app.edit(positionOf(fen, rows));
+        if (fen && lineOfName(naming)) app.name(app.history.now, naming);
         await this.compare(app.book.of(app.subject), text, { text, isOwn: false, count: problems.length });
     }
 

@@ -9,6 +9,7 @@ import { Store } from './keep.js';
 import { keyOf, languageOf } from './languages.js';
 import { Link } from './link.js';
 import { ListView } from './list.js';
+import { NamingView } from './naming_view.js';
 import { MovesField, movesIn } from './number.js';
 import { Play } from './play.js';
 import { Problems } from './problems.js';
@@ -114,12 +115,14 @@ function movesOfList(app, store) {
 export async function start() {
     const maker = makerOfWorkers(), store = new Store(() => localStorage);
     const processors = Math.max(1, navigator.hardwareConcurrency || 2);
-    const app = new App(new Workers(maker, processors), new Workers(maker, 2), new Workers(maker, 1));
+    const app = new App(new Workers(maker, processors), new Workers(maker, 2), new Workers(maker, 1),
+        store);
     chooseLanguage(app, store);
     await breathe();
     const most = new MovesField(app, 'most'), play = new Play(app), link = new Link(app, store, most);
     new SetUp(app, play);
     followText(app);
+    new NamingView(app);
     await breathe();
     const solving = new Solving(app, most);
     new AnswerView(app, solving);

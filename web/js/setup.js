@@ -141,7 +141,6 @@ export class SetUp {
         byId('drop-rows').textContent = app.say(position.rows === 8 ? 'rows8' : 'rows10');
         reveal('palette', !play.isOn);
         reveal('play-tools', play.isOn);
-        byId('side').textContent = app.say(position.turn === 'W' ? 'whiteToMove' : 'blackToMove');
         reveal('looked', app.looked !== null);
         const hint = matchMedia('(hover: none)').matches ? 'holdHint' : 'boardHint';
         byId('board-hint').textContent = app.say(play.isOn ? 'playHint' : app.isReplay ? 'replayHint' : hint);

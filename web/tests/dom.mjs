@@ -180,6 +180,10 @@ const KINDS = {
     button: class HTMLButtonElement extends Element {}, input: class HTMLInputElement extends Element {},
     select: class HTMLSelectElement extends Element {}, textarea: class HTMLTextAreaElement extends Element {},
     progress: class HTMLProgressElement extends Element {}, form: class HTMLFormElement extends Element {},
+    dialog: class HTMLDialogElement extends Element {
+        showModal() { this.flag('open', true); }
+        close() { this.flag('open', false); }
+    },
 };
 const EMPTY = new Set(['meta', 'link', 'input', 'path', 'circle', 'br']);
 
