@@ -77,6 +77,7 @@ GAMES = """[Event "Spring"]
 *
 """
 CARDS = "#list .card-title"
+TREE = "B:W43:B24,29"
 
 
 def begin(browser, page, address=""):
@@ -549,6 +550,82 @@ def week_own(browser, page, folder):
     browser.upload("#file", folder / "three.pdn")
     browser.wait("!document.querySelector('#bring-back').hidden", 20)
     reads(browser, CARDS, "1. Spring, A. Composer, Het Damspel, 1999.05", "2. Summer", "3. Autumn")
+
+
+def week_picture(browser, page, folder):
+    """A diagram is saved and copied as a picture, with numbers, title, task and solution or without them."""
+    opened(browser, page, folder)
+    browser.click("#list .card")
+    browser.click("#tab-solve")
+    solve(browser, 4)
+    browser.run(COPIES)
+    browser.click("#picture summary")
+    browser.click("#svg-save")
+    reads(browser, "#pictured", "Written: diagram.svg")
+    drawn = browser.saved("diagram.svg").read_text()
+    said = re.findall(r">([^<>]+)</text>", drawn)
+    assert drawn.count("<circle") == 9 and [str(square) for square in range(1, 51)] == said[2:52], said
+    assert said[:2] + said[52:] == ["Spring, A. Composer, Het Damspel,", "1999.05", "White to play and win in 2"], said
+    for box in ("#picture-numbers", "#picture-names", "#picture-solution"):
+        browser.click(box)
+    browser.click("#svg-copy")
+    reads(browser, "#pictured", "Copied.")
+    drawn = browser.run("copied[0]")
+    assert re.findall(r">([^<>]+)</text>", drawn) == ["1. 32-28 18-22 2. 27x18"], drawn
+    browser.click("#png-save")
+    reads(browser, "#pictured", "Written: diagram.png")
+    head = browser.saved("diagram.png").read_bytes()[:24]
+    width, height = (int.from_bytes(head[at : at + 4], "big") for at in (16, 20))
+    assert head[:8] == b"\x89PNG\r\n\x1a\n" and width == 3 * 424 and height > width, head
+    browser.click("#png-copy")
+    browser.wait("copied.length === 2 || document.querySelector('#pictured').textContent.endsWith('.png')", 20)
+    # What is written in a picture belongs to the position that it shows.
+    browser.click("#picture-names")
+    browser.click("#solution .move")
+    browser.click("#svg-copy")
+    browser.wait("typeof copied[copied.length - 1] === 'string' && copied.length > 1", 20)
+    drawn = browser.run("copied[copied.length - 1]")
+    assert re.findall(r">([^<>]+)</text>", drawn) == ["Black to play"], drawn
+
+
+def week_solution(browser, page, folder):
+    """A solution is read: the main line first, each variation on a line farther in, as deep as is chosen, by keys."""
+    del folder
+    begin(browser, page, f"#fen={TREE}&n=8")
+    solve(browser, 8)
+    lines = """[...document.querySelectorAll('#solution .line')].map((line) => [line.dataset.level,
+        [...line.querySelectorAll('.move')].map((e) => e.textContent).join(' ')])"""
+    every = browser.run(lines)
+    assert every[0] == ["0", "1... 29-33 2. 43-38 33x42"] and every[1] == ["1", "2. 43-39 33x44"], every
+    bold = browser.run("""[...document.querySelectorAll('#solution .move')].filter((e) =>
+        getComputedStyle(e).fontWeight >= 700).map((e) => e.dataset.move).join()""")
+    assert bold == "29-33,33x42,33x44", bold
+    left = browser.run("""[...document.querySelectorAll('#solution .line')].map((e) => e.getBoundingClientRect().left)""")
+    assert left[0] < left[1], left
+    # The keys work wherever the focus is not in a field.
+    browser.click("h1")
+    for key, fen in (("ArrowRight", "W:W43:B24,33"), ("ArrowRight", "B:W38:B24,33"), ("ArrowDown", "B:W39:B24,33"),
+                     ("End", "W:W:B24,44"), ("ArrowLeft", "B:W39:B24,33"), ("Home", TREE), ("End", "W:W:B24,42"),
+                     ("Escape", TREE)):
+        browser.press(key)
+        fen_is(browser, fen)
+    browser.press("End")
+    fen_is(browser, "W:W:B24,42")
+    browser.click("#most")
+    browser.press("ArrowLeft", "Home")
+    time.sleep(0.2)
+    fen_is(browser, "W:W:B24,42")
+    browser.click("#look-back")
+    browser.choose("#depth", "main")
+    assert browser.run(lines) == every[:1], browser.run(lines)
+    browser.choose("#depth", "longest")
+    assert browser.run(lines) == every, "both replies hold out as long"
+    open_page(browser, page)
+    assert value(browser, "#depth") == "longest"
+    roles = """[...new Set([...document.querySelectorAll('#solution, #solution > *, #solution > * > *')]
+        .map((e) => e.getAttribute('role')))].join()"""
+    solve(browser, 8)
+    assert browser.run(roles) == "tree,group,treeitem", browser.run(roles)
 
 
 WAYS = [way_dual, way_fault, way_phone, way_keys, way_page, way_compare, way_stop, way_share, way_black, way_eight]

@@ -2,6 +2,7 @@
 import { byId, control, fill, make, reveal, unbroken } from './dom.js';
 import { REASON } from '../../package/engine.js';
 import { SolutionView } from './solution.js';
+import { numbered } from './tree.js';
 
 /**
  * @typedef {import('./app.js').App} App
@@ -49,10 +50,25 @@ export class AnswerView {
         this.view = new SolutionView(byId('solution'), (node) => app.look(node.parent ? node.fen : null),
             (count) => app.say('unfold', count));
         for (const [id, step] of /** @type {const} */ ([
-            ['to-start', 'start'], ['previous-move', 'back'], ['next-move', 'on'],
+            ['to-start', 'start'], ['previous-move', 'back'], ['next-move', 'on'], ['to-end', 'end'],
         ])) byId(id).addEventListener('click', () => this.view.step(step));
+        byId('depth').addEventListener('change', () => this.draw());
         app.on(['edited', 'looked', 'spoken', 'answered', 'read'], () => this.draw());
         this.draw();
+    }
+
+    /** How much of the solution is shown. */
+    get depth() {
+        return /** @type {import('./tree.js').Depth} */ (control('depth', HTMLSelectElement).value);
+    }
+
+    /**
+     * Goes through the solution, if it is in sight. Answers whether there was such a step.
+     * @param {import('./solution.js').Step} where
+     */
+    step(where) {
+        const isShown = !byId('panel-solve').hidden && !byId('answer').hidden && !byId('solution-part').hidden;
+        return isShown && (where !== 'start' || this.app.looked !== null) && this.view.step(where);
     }
 
     draw() {
@@ -61,7 +77,7 @@ export class AnswerView {
         namePosition(app, 'answer-of', entry.solve ? entry : null);
         reveal('answer', Boolean(found));
         const tree = entry.solve?.result?.tree ?? null;
-        if (this.view.tree !== tree) this.view.show(tree);
+        if (this.view.tree !== tree || (tree && this.view.reading?.depth !== this.depth)) this.view.show(tree, this.depth);
         if (!app.looked) this.view.leave();
         if (!found) return;
         this.drawVerdict(entry, found);
@@ -158,7 +174,7 @@ export class AnswerView {
         reveal('dual', isDual);
         if (!isDual) return;
         fill('dual', [entry, found, this.app.language], () => [
-            ...unbroken(this.app.say('sayChoice', found.at.join(' '))), ' ',
+            ...unbroken(this.app.say('sayChoice', numbered(entry.fen, found.at))), ' ',
             ...found.choices.flatMap((move, i) => [i ? ' / ' : '', this.jump(entry, [...found.at, move])]),
         ]);
     }

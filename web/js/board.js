@@ -14,8 +14,8 @@ import { squareAt, squareBeside, squareCount } from './squares.js';
  *   place: (square: number, piece: Piece) => void,
  *   name: (square: number, piece: Piece | undefined) => string,
  * }} Actions
- * @typedef {{isTurned: boolean, isEdited: boolean, sources: Set<number>, targets: Set<number>, chosen: number,
- *   faulty: Set<number>}} Look
+ * @typedef {{isTurned: boolean, isEdited: boolean, isReplay: boolean, sources: Set<number>, targets: Set<number>,
+ *   chosen: number, faulty: Set<number>}} Look
  */
 
 /** The picture of a piece. */
@@ -40,7 +40,8 @@ export class BoardView {
         this.position = null;
         /** @type {Look} */
         this.look = {
-            isTurned: false, isEdited: true, sources: new Set(), targets: new Set(), chosen: 0, faulty: new Set(),
+            isTurned: false, isEdited: true, isReplay: false, sources: new Set(), targets: new Set(), chosen: 0,
+            faulty: new Set(),
         };
         this.cursor = 1;
         this.dragging = new Dragging(host, {
@@ -159,7 +160,9 @@ export class BoardView {
         const square = this.squareOf(event.target);
         if (!square || !this.position || event.ctrlKey || event.metaKey || event.altKey) return;
         const { key } = event;
-        if (key.startsWith('Arrow')) {
+        if (key.startsWith('Arrow') && this.look.isReplay) {
+            return;
+        } else if (key.startsWith('Arrow')) {
             this.squares.get(squareBeside(this.position.rows, square, key, this.look.isTurned))?.focus();
         } else if (!this.look.isEdited) {
             return;

@@ -9,6 +9,7 @@ import { lineOfName, namingOf } from './naming.js';
 import { pasted } from './pasted.js';
 import { positionOf } from './position.js';
 import { boardOf } from './rules.js';
+import { numbered } from './tree.js';
 
 /**
  * @typedef {import('./app.js').App} App
@@ -183,9 +184,9 @@ export class Comparing {
     }
 
     /** A remark as a sentence. */
-    sentence(/** @type {Remark} */ { kind, line, moves, refutation = '' }) {
-        const { app } = this, where = movesOf(line).length ? line : app.say('start');
-        if (kind === 'fails') return app.say('remarkFails', [line, ...moves].filter(Boolean).join(' '), refutation);
+    sentence(/** @type {Entry} */ { fen }, /** @type {Remark} */ { kind, line, moves, refutation = '' }) {
+        const { app } = this, played = movesOf(line), where = numbered(fen, played) || app.say('start');
+        if (kind === 'fails') return app.say('remarkFails', numbered(fen, [...played, ...moves]), refutation);
         if (kind === 'also') return app.say('remarkAlso', where, moves.join(', '));
         if (kind === 'open') return app.say('remarkOpen', where, moves.join(', '));
         return app.say('remarkEnds', where);
@@ -198,7 +199,7 @@ export class Comparing {
         const data = { 'data-kind': kind, 'data-line': line, 'data-moves': moves.join(', ') };
         const button = make('button', { type: 'button', class: `remark ${kind}`, ...data },
             make('span', { class: 'sign', 'aria-hidden': 'true' }, isBad ? '✗' : '!'), ' ',
-            make('span', {}, ...unbroken(this.sentence(remark))));
+            make('span', {}, ...unbroken(this.sentence(entry, remark))));
         button.addEventListener('click', () => void this.playOut(entry, path));
         return make('li', {}, button);
     }

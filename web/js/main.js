@@ -6,11 +6,13 @@ import { breathe, byId, chooseOne, control } from './dom.js';
 import { followText } from './fen_field.js';
 import { Improving } from './improve.js';
 import { Store } from './keep.js';
+import { listenToKeys } from './keys.js';
 import { keyOf, languageOf } from './languages.js';
 import { Link } from './link.js';
 import { ListView } from './list.js';
 import { NamingView } from './naming_view.js';
 import { MovesField, movesIn } from './number.js';
+import { PictureView } from './picture_view.js';
 import { Play } from './play.js';
 import { Problems } from './problems.js';
 import { SetUp } from './setup.js';
@@ -98,6 +100,16 @@ function chooseTab() {
 }
 
 /**
+ * How much of a solution is shown, which is kept.
+ * @param {Store} store
+ */
+function keepDepth(store) {
+    const field = control('depth', HTMLSelectElement), kept = store.get('settings')?.depth;
+    if (['main', 'longest'].includes(kept)) field.value = kept;
+    field.addEventListener('change', () => store.change('settings', { depth: field.value }));
+}
+
+/**
  * The number of moves of the collection, which is kept.
  * @param {App} app
  * @param {Store} store
@@ -120,12 +132,14 @@ export async function start() {
     chooseLanguage(app, store);
     await breathe();
     const most = new MovesField(app, 'most'), play = new Play(app), link = new Link(app, store, most);
-    new SetUp(app, play);
+    const setUp = new SetUp(app, play);
     followText(app);
     new NamingView(app);
+    new PictureView(app, () => setUp.isTurned);
     await breathe();
     const solving = new Solving(app, most);
-    new AnswerView(app, solving);
+    keepDepth(store);
+    listenToKeys(app, new AnswerView(app, solving), play);
     new Comparing(app);
     new Improving(app, new MovesField(app, 'mend-n'));
     new ListView(app, new Problems(() => localStorage), movesOfList(app, store));

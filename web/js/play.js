@@ -1,6 +1,7 @@
 /** Playing from the position on the board: legal moves are those that `dw` lists. */
 import { byId, control, make, reveal } from './dom.js';
 import { fenOf } from './position.js';
+import { numbered } from './tree.js';
 
 /**
  * @typedef {import('./app.js').App} App
@@ -130,6 +131,33 @@ export class Play {
         line.played = line.played.slice(0, kept);
     }
 
+    /**
+     * Goes some moves on, or back if they are fewer than none. Answers whether there was one.
+     * @param {number} count
+     */
+    step(count) {
+        const { line } = this;
+        if (count < 0 ? !this.canTakeBack : !this.canReplay) return false;
+        if (count < 0) {
+            this.goBack(-count);
+            return true;
+        }
+        const again = line.undone.slice(-count).reverse();
+        line.undone = line.undone.slice(0, line.undone.length - again.length);
+        line.played = [...line.played, ...again];
+        this.app.look(endOfLine(line));
+        return true;
+    }
+
+    /** Leaves the piece alone that was chosen. Answers whether there was one. */
+    cancel() {
+        if (!this.isOn || !this.chosen) return false;
+        this.chosen = 0;
+        reveal('choice', false);
+        this.app.tell('answered');
+        return true;
+    }
+
     /** Plays the move again that was taken back last. */
     replay() {
         const { undone } = this.line, move = undone[undone.length - 1];
@@ -180,12 +208,8 @@ export class Play {
         if (!this.isOn) return;
         const { app } = this, { first, played } = this.line, side = app.position.turn === 'W' ? 'white' : 'black';
         const isOver = this.legalIn === app.fen && this.legal?.length === 0;
-        const start = first.startsWith('B') ? 1 : 0;
-        const text = played.map(({ move }, i) => {
-            const ply = i + start;
-            return `${ply % 2 ? (i ? '' : `${(ply + 1) / 2}... `) : `${ply / 2 + 1}. `}${move}`;
-        });
-        byId('played').textContent = [...text, ...(isOver ? [app.say('noMoves', app.say(side))] : [])].join(' ');
+        const text = numbered(first, played.map(({ move }) => move));
+        byId('played').textContent = [text, isOver ? app.say('noMoves', app.say(side)) : ''].filter(Boolean).join(' ');
         control('take-back', HTMLButtonElement).disabled = played.length === 0;
         control('play-start', HTMLButtonElement).disabled = played.length === 0;
     }

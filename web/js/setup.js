@@ -82,7 +82,7 @@ export class SetUp {
         on('look-back', () => app.look(null));
         on('flip', () => {
             this.isTurned = !this.isTurned;
-            this.draw();
+            app.tell('answered');
         });
         byId('skip').addEventListener('click', (event) => {
             event.preventDefault();
@@ -134,7 +134,8 @@ export class SetUp {
     draw() {
         const { app, play } = this, { position } = app, isEdited = !play.isOn && !app.isReplay;
         const faulty = new Set(this.faulty());
-        this.view.show(position, { isTurned: this.isTurned, isEdited, faulty, ...play.marks() });
+        const { isTurned } = this, { isReplay } = app;
+        this.view.show(position, { isTurned, isEdited, isReplay, faulty, ...play.marks() });
         control('turn', HTMLSelectElement).value = position.turn;
         control('rows', HTMLSelectElement).value = String(position.rows);
         for (const id of EDITORS) byId(id).toggleAttribute('disabled', app.isReplay);

@@ -117,7 +117,7 @@ test('a problem is solved; its solution is gone through; each first move is told
     await until(() => at('state').dataset.state === 'done');
     assert.equal(at('verdict').dataset.line, 'dual in 2: 1. 32-28 18-22 2. 27x18 / 28x17');
     const moves = at('solution').querySelectorAll('.move');
-    assert.deepEqual(moves.map(({ dataset }) => dataset.move), ['32-28', '18-22', '18-23', '28x19', '27x18', '28x17']);
+    assert.deepEqual(moves.map(({ dataset }) => dataset.move), ['32-28', '18-22', '27x18', '18-23', '28x19', '28x17']);
     moves[1].click();
     await fenIs('W:W27,28:B22');
     assert.equal(at('looked').hidden, false);
