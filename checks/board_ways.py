@@ -565,7 +565,7 @@ def week_picture(browser, page, folder):
     drawn = browser.saved("diagram.svg").read_text()
     said = re.findall(r">([^<>]+)</text>", drawn)
     assert drawn.count("<circle") == 9 and [str(square) for square in range(1, 51)] == said[2:52], said
-    assert said[:2] + said[52:] == ["Spring, A. Composer, Het Damspel,", "1999.05", "White to play and win in 2"], said
+    assert said[:2] + said[52:] == ["Spring, A. Composer, Het", "Damspel, 1999.05", "White to play and win in 2"], said
     for box in ("#picture-numbers", "#picture-names", "#picture-solution"):
         browser.click(box)
     browser.click("#svg-copy")
@@ -600,7 +600,8 @@ def week_solution(browser, page, folder):
     bold = browser.run("""[...document.querySelectorAll('#solution .move')].filter((e) =>
         getComputedStyle(e).fontWeight >= 700).map((e) => e.dataset.move).join()""")
     assert bold == "29-33,33x42,33x44", bold
-    left = browser.run("""[...document.querySelectorAll('#solution .line')].map((e) => e.getBoundingClientRect().left)""")
+    left = browser.run("""[...document.querySelectorAll('#solution .line')]
+        .map((e) => e.getBoundingClientRect().left)""")
     assert left[0] < left[1], left
     # The keys work wherever the focus is not in a field.
     browser.click("h1")
@@ -626,6 +627,63 @@ def week_solution(browser, page, folder):
         .map((e) => e.getAttribute('role')))].join()"""
     solve(browser, 8)
     assert browser.run(roles) == "tree,group,treeitem", browser.run(roles)
+
+
+def week_play(browser, page, folder):
+    """Moves are played by dragging; the last one is marked, and glides; the board stays; one click solves what is there."""
+    del folder
+    begin(browser, page, "#fen=W:W27,32:B18&n=4")
+    solve(browser, 4)
+    top = "Math.round(document.querySelector('#board').getBoundingClientRect().top)"
+    before = browser.run(top)
+    browser.click("#mode-play")
+    browser.wait("document.querySelectorAll('.dark.source').length === 2", 20)
+    glides = """new Promise((resolve) => {
+        const until = performance.now() + 1500;
+        const look = () => {
+            const found = document.getAnimations().some(({ effect }) => effect?.target?.matches?.('.piece'));
+            if (found || performance.now() > until) resolve(found);
+            else setTimeout(look, 3);
+        };
+        look();
+    })"""
+    browser.run(f"window.glided = {glides}; 0")
+    browser.drag(*middles(browser, 32, 28))
+    fen_is(browser, "B:W27,28:B18")
+    assert browser.run("window.glided"), "the piece that has moved glides"
+    marked = "[...document.querySelectorAll('.dark.last')].map((e) => e.dataset.square).join()"
+    assert browser.run(marked) == "28,32", browser.run(marked)
+    # What is dragged to a square where it cannot go stays where it was.
+    browser.drag(*middles(browser, 18, 12))
+    browser.drag(*middles(browser, 27, 22))
+    fen_is(browser, "B:W27,28:B18")
+    browser.drag(*middles(browser, 18, 22))
+    browser.drag(*middles(browser, 27, 18))
+    reads(browser, "#played", "1. 32-28 18-22 2. 27x18 Black has no move left and has lost.")
+    browser.press("ArrowLeft", "ArrowLeft")
+    fen_is(browser, "B:W27,28:B18")
+    browser.press("End")
+    fen_is(browser, "B:W18,28:B")
+    browser.press("Home", "ArrowRight")
+    fen_is(browser, "B:W27,28:B18")
+    assert browser.run(f"scrollTo(0, 0), {top}") == before, "the board stays where it is"
+    reads(browser, "#answer-of", "The verdict is that of the starting position, W:W27,32:B18")
+    browser.click("#solve-here")
+    browser.wait("document.querySelector('#answer-of').dataset.fen === 'B:W27,28:B18'", 20)
+    browser.wait(SOLVED, 20)
+    assert text(browser, "#verdict").startswith("∅ No win: Black to play"), text(browser, "#verdict")
+    assert browser.run("document.querySelector('#solve-here').hidden")
+    if browser.name == "chromium":
+        browser.ask("Emulation.setEmulatedMedia", browser.session,
+                    features=[{"name": "prefers-reduced-motion", "value": "reduce"}])
+        browser.wait("document.getAnimations().length === 0", 10)
+        browser.run(f"window.glided = {glides}; 0")
+        browser.press("ArrowLeft", "ArrowRight")
+        fen_is(browser, "B:W27,28:B18")
+        assert not browser.run("window.glided"), "nothing moves for whom that is too much"
+        browser.ask("Emulation.setEmulatedMedia", browser.session, features=[])
+    browser.press("Escape")
+    fen_is(browser, "W:W27,32:B18")
 
 
 WAYS = [way_dual, way_fault, way_phone, way_keys, way_page, way_compare, way_stop, way_share, way_black, way_eight]

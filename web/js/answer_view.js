@@ -29,13 +29,14 @@ export function failureText(app, why) {
  * @param {App} app
  * @param {string} id
  * @param {Entry | null} entry
+ * @param {import('./languages.js').Key} elsewhere How it is said if the board shows another.
  */
-export function namePosition(app, id, entry) {
+export function namePosition(app, id, entry, elsewhere = 'answerElsewhere') {
     const place = byId(id), isElsewhere = entry !== null && !app.isOnBoard(entry);
     place.hidden = entry === null;
     place.dataset.fen = entry?.fen ?? '';
     place.classList.toggle('elsewhere', isElsewhere);
-    place.textContent = entry ? app.say(isElsewhere ? 'answerElsewhere' : 'answerOf', entry.fen) : '';
+    place.textContent = entry ? app.say(isElsewhere ? elsewhere : 'answerOf', entry.fen) : '';
 }
 
 /** Draws the panel of answers. It keeps no answer: what it draws depends on the board and on the book alone. */
@@ -47,7 +48,7 @@ export class AnswerView {
     constructor(app, solving) {
         this.app = app;
         this.solving = solving;
-        this.view = new SolutionView(byId('solution'), (node) => app.look(node.parent ? node.fen : null),
+        this.view = new SolutionView(byId('solution'), (node) => app.look(node.parent ? node.fen : null, node.move),
             (count) => app.say('unfold', count));
         for (const [id, step] of /** @type {const} */ ([
             ['to-start', 'start'], ['previous-move', 'back'], ['next-move', 'on'], ['to-end', 'end'],
@@ -74,10 +75,12 @@ export class AnswerView {
     draw() {
         const { app } = this, { entry } = this.solving, found = entry.solve?.result?.found ?? null;
         this.drawState(entry);
-        namePosition(app, 'answer-of', entry.solve ? entry : null);
+        namePosition(app, 'answer-of', entry.solve ? entry : null, 'answerOfStart');
+        reveal('solve-here', entry.solve !== null && !app.isOnBoard(entry));
         reveal('answer', Boolean(found));
         const tree = entry.solve?.result?.tree ?? null;
-        if (this.view.tree !== tree || (tree && this.view.reading?.depth !== this.depth)) this.view.show(tree, this.depth);
+        const isOther = this.view.tree !== tree || (tree && this.view.reading?.depth !== this.depth);
+        if (isOther) this.view.show(tree, this.depth);
         if (!app.looked) this.view.leave();
         if (!found) return;
         this.drawVerdict(entry, found);
@@ -228,6 +231,7 @@ export class AnswerView {
     async playOut(entry, moves) {
         const { app } = this, played = await app.rules.follow(entry.fen, moves, entry.position.rows);
         const isStill = app.shown((one) => one.solve) === entry;
-        if (isStill) app.look(played[played.length - 1]?.fen ?? null);
+        const last = played[played.length - 1];
+        if (isStill) app.look(last?.fen ?? null, last?.move);
     }
 }

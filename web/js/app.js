@@ -38,6 +38,8 @@ export class App extends EventTarget {
         this.history = new History(emptyBoard(10), isSame);
         /** @type {Position | null} A later position on the board: one of a solution or of a play. */
         this.looked = null;
+        /** The move that led to it, if one did. */
+        this.lastMove = '';
         /** Whether moves are played on the board. */
         this.isPlaying = false;
         /** Why `dw` refuses what stands in the field of the FEN text, or an empty text. */
@@ -99,7 +101,7 @@ export class App extends EventTarget {
      * @param {Position} position
      */
     edit(position) {
-        this.looked = null;
+        this.leave();
         this.history.put(position);
         this.tell('edited');
     }
@@ -114,15 +116,21 @@ export class App extends EventTarget {
         this.tell('named');
     }
 
+    /** The board shows the problem. */
+    leave() {
+        this.looked = null;
+        this.lastMove = '';
+    }
+
     /** Takes back the last change of the problem, or does it again. */
     undo() {
-        this.looked = null;
+        this.leave();
         this.history.undo();
         this.tell('edited');
     }
 
     redo() {
-        this.looked = null;
+        this.leave();
         this.history.redo();
         this.tell('edited');
     }
@@ -130,10 +138,12 @@ export class App extends EventTarget {
     /**
      * Shows a position of a solution or of a play on the board, or the problem again.
      * @param {string | null} fen
+     * @param {string} move The move that led to it, if one did.
      */
-    look(fen) {
+    look(fen, move = '') {
         const position = fen === null ? null : positionOf(fen, this.history.now.rows);
         this.looked = position && !isSame(position, this.history.now) ? position : null;
+        this.lastMove = this.looked ? move : '';
         this.tell('looked');
     }
 

@@ -207,6 +207,7 @@ export class Comparing {
     /** @param {Entry} entry @param {string[]} moves */
     async playOut(entry, moves) {
         const { app } = this, played = await app.rules.follow(entry.fen, moves, entry.position.rows);
-        if (this.entry === entry) app.look(played[played.length - 1]?.fen ?? null);
+        const last = played[played.length - 1];
+        if (this.entry === entry) app.look(last?.fen ?? null, last?.move);
     }
 }

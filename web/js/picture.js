@@ -8,18 +8,18 @@ import { placeOf, squareCount } from './squares.js';
  */
 
 /** The side of a square, the frame around the board, the space around text. */
-const SQUARE_SIDE = 40, FRAME_WIDTH = 4, MARGIN = 8;
+const CELL = 40, RIM = 4, MARGIN = 8;
 
 /** The radius of a piece, which leaves the number of its square free, and those of the rings on it. */
 const RADIUS = 15, RINGS = [11, 7];
 
 /** The sizes of texts, the height of a line, and how wide a letter is at most on average, in parts of the size. */
-const TITLE_SIZE = 19, TEXT_SIZE = 17, NUMBER_SIZE = 8, LINE_HEIGHT = 1.35, LETTER_WIDTH = 0.56, BOLD_WIDTH = 0.66;
+const TITLE_SIZE = 19, TEXT_SIZE = 17, SMALL_SIZE = 8, LINE_HEIGHT = 1.35, LETTER_WIDTH = 0.56, BOLD_WIDTH = 0.66;
 
 /** The outline of a king's crown around the middle of its square. */
 const CROWN_LINE = 'm-8 5v-10l4 4 4-7 4 7 4-4v10z';
 
-const PICTURE_COLOURS = {
+const PALETTE = {
     light: '#f0dfc3', dark: '#b07d4f', frame: '#6d4a2b', ink: '#000', ground: '#fff',
     white: ['#fdfaf2', '#5d5648', '#2b2620'], black: ['#26221f', '#a59c8f', '#f3ede1'],
 };
@@ -64,22 +64,22 @@ function written(lines, { size, top, middle, weight }) {
  * @param {Look} look
  */
 function boardText({ rows, pieces }, { isTurned, hasNumbers }) {
-    const last = rows - 1, edge = rows * SQUARE_SIDE;
+    const last = rows - 1, edge = rows * CELL;
     const corner = (/** @type {number} */ square) => {
         const { row, column } = placeOf(rows, square);
-        return isTurned ? [(last - column) * SQUARE_SIDE, (last - row) * SQUARE_SIDE] : [column * SQUARE_SIDE, row * SQUARE_SIDE];
+        return isTurned ? [(last - column) * CELL, (last - row) * CELL] : [column * CELL, row * CELL];
     };
     const squares = Array.from({ length: squareCount(rows) }, (_, i) => i + 1);
-    const path = squares.map((square) => `M${corner(square).join(' ')}h${SQUARE_SIDE}v${SQUARE_SIDE}h-${SQUARE_SIDE}z`).join('');
+    const path = squares.map((square) => `M${corner(square).join(' ')}h${CELL}v${CELL}h-${CELL}z`).join('');
     const parts = [
-        `<rect x="-${FRAME_WIDTH}" y="-${FRAME_WIDTH}" width="${edge + 2 * FRAME_WIDTH}" height="${edge + 2 * FRAME_WIDTH}" `
-            + `fill="${PICTURE_COLOURS.frame}"/>`,
-        `<rect width="${edge}" height="${edge}" fill="${PICTURE_COLOURS.light}"/>`,
-        `<path d="${path}" fill="${PICTURE_COLOURS.dark}" shape-rendering="crispEdges"/>`,
+        `<rect x="-${RIM}" y="-${RIM}" width="${edge + 2 * RIM}" height="${edge + 2 * RIM}" `
+            + `fill="${PALETTE.frame}"/>`,
+        `<rect width="${edge}" height="${edge}" fill="${PALETTE.light}"/>`,
+        `<path d="${path}" fill="${PALETTE.dark}" shape-rendering="crispEdges"/>`,
     ];
     for (const [square, piece] of pieces) {
-        const [x, y] = corner(square).map((side) => side + SQUARE_SIDE / 2), man = piece.toLowerCase();
-        const [fill, line, crown] = man === 'w' ? PICTURE_COLOURS.white : PICTURE_COLOURS.black;
+        const [x, y] = corner(square).map((side) => side + CELL / 2), man = piece.toLowerCase();
+        const [fill, line, crown] = man === 'w' ? PALETTE.white : PALETTE.black;
         const ring = (/** @type {number} */ radius, /** @type {number} */ width) =>
             `<circle cx="${x}" cy="${y}" r="${radius}" fill="${fill}" stroke="${line}" stroke-width="${width}"/>`;
         const inside = piece === man ? RINGS.map((radius) => ring(radius, 1)).join('')
@@ -89,7 +89,7 @@ function boardText({ rows, pieces }, { isTurned, hasNumbers }) {
     if (hasNumbers) {
         parts.push(...squares.map((square) => {
             const [x, y] = corner(square);
-            return `<text x="${x + 1.5}" y="${y + NUMBER_SIZE - 1}" font-size="${NUMBER_SIZE}">${square}</text>`;
+            return `<text x="${x + 1.5}" y="${y + SMALL_SIZE - 1}" font-size="${SMALL_SIZE}">${square}</text>`;
         }));
     }
     return parts.join('');
@@ -101,21 +101,22 @@ function boardText({ rows, pieces }, { isTurned, hasNumbers }) {
  * @param {Look} look
  */
 export function pictureOf(position, look) {
-    const edge = position.rows * SQUARE_SIDE + 2 * FRAME_WIDTH, width = edge + 2 * MARGIN, middle = width / 2;
+    const edge = position.rows * CELL + 2 * RIM, width = edge + 2 * MARGIN, middle = width / 2;
     const title = wrapped(look.above, TITLE_SIZE * BOLD_WIDTH, edge);
     const above = written(title, { size: TITLE_SIZE, top: MARGIN, middle, weight: 'bold' });
-    const top = above.bottom + (look.above ? MARGIN / 2 : 0) + FRAME_WIDTH;
-    let bottom = top + position.rows * SQUARE_SIDE + FRAME_WIDTH;
+    const top = above.bottom + (look.above ? MARGIN / 2 : 0) + RIM;
+    let bottom = top + position.rows * CELL + RIM;
     const texts = look.below.map((text) => {
-        const part = written(wrapped(text, TEXT_SIZE * LETTER_WIDTH, edge), { size: TEXT_SIZE, top: bottom + MARGIN / 2, middle, weight: 'normal' });
+        const lines = wrapped(text, TEXT_SIZE * LETTER_WIDTH, edge), under = bottom + MARGIN / 2;
+        const part = written(lines, { size: TEXT_SIZE, top: under, middle, weight: 'normal' });
         bottom = part.bottom;
         return part.text;
     });
     const height = Math.ceil(bottom + MARGIN), board = boardText(position, look);
     const svg = `<svg xmlns="http://www.w3.org/2000/svg" width="${width}" height="${height}" `
-        + `viewBox="0 0 ${width} ${height}" font-family="Helvetica, Arial, sans-serif" fill="${PICTURE_COLOURS.ink}">`
-        + `<rect width="${width}" height="${height}" fill="${PICTURE_COLOURS.ground}"/>${above.text}`
-        + `<g transform="translate(${MARGIN + FRAME_WIDTH} ${top.toFixed(1)})">${board}</g>${texts.join('')}</svg>\n`;
+        + `viewBox="0 0 ${width} ${height}" font-family="Helvetica, Arial, sans-serif" fill="${PALETTE.ink}">`
+        + `<rect width="${width}" height="${height}" fill="${PALETTE.ground}"/>${above.text}`
+        + `<g transform="translate(${MARGIN + RIM} ${top.toFixed(1)})">${board}</g>${texts.join('')}</svg>\n`;
     return { svg, width, height };
 }
 

@@ -6,6 +6,7 @@ import {
     emptyBoard, exchanged, mirrored, onBoard, opening, withMoved, withPiece,
 } from './position.js';
 import { keyOf } from './languages.js';
+import { squaresIn } from './play.js';
 import { squareCount } from './squares.js';
 
 /**
@@ -37,7 +38,8 @@ export class SetUp {
         this.isTurned = false;
         this.view = new BoardView(byId('board'), {
             click: (square) => (play.isOn ? play.click(square) : this.put(square)),
-            move: (from, to) => app.edit(withMoved(app.position, from, to)),
+            lift: (square) => { if (play.isOn) play.lift(square); },
+            move: (from, to) => (play.isOn ? play.drop(from, to) : app.edit(withMoved(app.position, from, to))),
             erase: (square) => app.edit(withPiece(app.position, square, null)),
             place: (square, piece) => app.edit(withPiece(app.position, square, piece)),
             name: (square, piece) => `${app.say('square', square)}, ${app.say(piece ? NAMES[piece] : 'emptySquare')}`,
@@ -135,7 +137,8 @@ export class SetUp {
         const { app, play } = this, { position } = app, isEdited = !play.isOn && !app.isReplay;
         const faulty = new Set(this.faulty());
         const { isTurned } = this, { isReplay } = app;
-        this.view.show(position, { isTurned, isEdited, isReplay, faulty, ...play.marks() });
+        const path = app.lastMove ? squaresIn(app.lastMove) : [];
+        this.view.show(position, { isTurned, isEdited, isReplay, faulty, path, ...play.marks() });
         control('turn', HTMLSelectElement).value = position.turn;
         control('rows', HTMLSelectElement).value = String(position.rows);
         for (const id of EDITORS) byId(id).toggleAttribute('disabled', app.isReplay);

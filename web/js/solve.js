@@ -42,6 +42,7 @@ export class Solving {
             void this.solve();
         });
         const on = (/** @type {string} */ id, /** @type {() => void} */ act) => byId(id).addEventListener('click', act);
+        on('solve-here', () => void this.solve());
         on('stop', () => this.stop());
         on('copy', () => void this.copy());
         on('certificate', () => void this.certify());

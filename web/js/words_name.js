@@ -55,6 +55,18 @@ export const NAME_WORDS = {
     pngSave: ['Save as PNG', 'Bewaar als PNG', 'Enregistrer en PNG', 'Сохранить PNG'],
     svgCopy: ['Copy as SVG', 'Kopieer als SVG', 'Copier en SVG', 'Копировать SVG'],
     svgSave: ['Save as SVG', 'Bewaar als SVG', 'Enregistrer en SVG', 'Сохранить SVG'],
+    answerOfStart: [
+        'The verdict is that of the starting position, #',
+        'Het oordeel is dat van de beginstand van het spel, #',
+        'Le verdict est celui de la position de départ, #',
+        'Вердикт относится к исходной позиции, #',
+    ],
+    solveHere: [
+        'Solve the position on the board',
+        'Los de stand op het bord op',
+        'Résoudre la position du damier',
+        'Решить позицию на доске',
+    ],
     ownSave: ['Save to my file', 'Bewaar in mijn bestand', 'Enregistrer dans mon fichier', 'Сохранить в мой файл'],
     ownOpen: ['Open my file', 'Open mijn bestand', 'Ouvrir mon fichier', 'Открыть мой файл'],
     ownOther: ['Another file', 'Een ander bestand', 'Un autre fichier', 'Другой файл'],

@@ -40,7 +40,8 @@ test('the texts of a picture are escaped, and broken between words', () => {
 test('the main line is the one that holds out longest, and the quickest of the attacker', () => {
     const steps = [[1, 'a'], [2, 'b'], [3, 'c'], [2, 'd'], [3, 'e'], [4, 'f'], [5, 'g'], [3, 'h'], [4, 'i'], [5, 'j'],
         [4, 'k'], [5, 'l'], [6, 'm'], [7, 'n'], [2, 'o'], [3, 'p'], [4, 'q'], [5, 'r']];
-    const tree = treeOf('W:W1:B2', steps.map(([depth, move]) => ({ depth: Number(depth), move: String(move), fen: '' })));
+    const made = steps.map(([depth, move]) => ({ depth: Number(depth), move: String(move), fen: '' }));
+    const tree = treeOf('W:W1:B2', made);
     assert.equal(lengthsOf(tree).get(tree), 3);
     assert.equal(mainLine(tree), '1. a d 2. e f 3. g');
     const moves = (/** @type {import('../js/tree.js').Depth} */ depth) => {
