@@ -148,7 +148,7 @@ def way_dual(browser, page):
     assert solve(browser, 2) == "≈ Dual: White to play and win in 2 by 32-28, but later there is a choice."
     browser.click("#dual .move:last-child")
     fen_is(browser, "B:W17,27:B")
-    reads(browser, "#looked span", "This is a later position.")
+    reads(browser, "#named-task", "Later position: Black to play")
     browser.click("#tab-improve")
     assert value(browser, "#mend-n") == "2"
     browser.click("#mend-go")
@@ -630,7 +630,7 @@ def week_solution(browser, page, folder):
 
 
 def week_play(browser, page, folder):
-    """Moves are played by dragging; the last one is marked, and glides; the board stays; one click solves what is there."""
+    """Moves are played by dragging; the last one is marked, and glides; the board stays; one click solves it."""
     del folder
     begin(browser, page, "#fen=W:W27,32:B18&n=4")
     solve(browser, 4)
@@ -684,6 +684,57 @@ def week_play(browser, page, folder):
         browser.ask("Emulation.setEmulatedMedia", browser.session, features=[])
     browser.press("Escape")
     fen_is(browser, "W:W27,32:B18")
+
+
+def week_windows(browser, page, folder):
+    """Small windows: one asks without scrolling, the whole board is seen, and nothing jumps below a finger."""
+    del folder
+    for width, height, is_phone in ((PHONE, HEIGHT, True), (1366, 650, False)):
+        for language in ("en", "nl", "fr", "ru"):
+            begin(browser, page, f"#fen={TREE}&n=8&title=Spring&author=A.+Composer&source=Het+Damspel&date=1999")
+            browser.resize(width, height, is_phone)
+            browser.run(f"""(() => {{
+                const field = document.querySelector('#language');
+                field.value = '{language}';
+                field.dispatchEvent(new Event('change'));
+                scrollTo(0, 0);
+            }})()""")
+            assert is_seen(browser, "#solve") and is_seen(browser, "#board"), (width, language)
+            assert browser.run("document.documentElement.scrollWidth <= innerWidth"), (width, language)
+    begin(browser, page, f"#fen={TREE}&n=8")
+    browser.resize(HEIGHT, PHONE, True)
+    browser.run("scrollTo(0, 0)")
+    assert is_seen(browser, "#board"), "the whole board in a low window"
+    browser.resize(PHONE, HEIGHT, True)
+    place_of = "document.querySelector({}).getBoundingClientRect().top"
+    # A man on the last row is a fault, which is told without moving the square.
+    square = json.dumps('[data-square="3"]')
+    browser.tap('[data-square="3"]')
+    before = browser.run(place_of.format(square))
+    browser.wait("!document.querySelector('#board-fault').hidden", 20)
+    assert browser.run(place_of.format(square)) == before, "a fault moves the board"
+    browser.tap('[data-square="3"]')
+    fen_is(browser, TREE)
+    browser.tap("#solve")
+    browser.wait(SOLVED, 60)
+    for line, move in ((1, 1), (1, 2), (2, 1), (1, 3)):
+        name = f"#solution .line:nth-child({line}) .move:nth-of-type({move})"
+        browser.middle(name)
+        before = browser.run(place_of.format(json.dumps(name)))
+        browser.tap(name)
+        browser.wait(f"document.querySelector({json.dumps(name)}).matches('.here')", 10)
+        time.sleep(0.1)
+        assert browser.run(place_of.format(json.dumps(name))) == before, (line, move)
+        assert is_seen(browser, "#look-back") and is_seen(browser, "#board"), "the way back stands beside the board"
+    if browser.name == "chromium":
+        small = """[...document.querySelectorAll('button, select, summary, label.button, label.check, input')]
+            .filter((e) => e.checkVisibility() && !e.matches('.dark, .file, [type=checkbox]')).map((e) =>
+            [e.id || e.className || e.tagName, Math.round(e.getBoundingClientRect().height)])
+            .filter(([, height]) => height < 44)"""
+        for tab in ("solve", "compare", "improve", "collection"):
+            browser.tap(f"#tab-{tab}")
+            assert not browser.run(small), (tab, browser.run(small))
+    browser.resize(1200, 900)
 
 
 WAYS = [way_dual, way_fault, way_phone, way_keys, way_page, way_compare, way_stop, way_share, way_black, way_eight]

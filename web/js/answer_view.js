@@ -36,7 +36,9 @@ export function namePosition(app, id, entry, elsewhere = 'answerElsewhere') {
     place.hidden = entry === null;
     place.dataset.fen = entry?.fen ?? '';
     place.classList.toggle('elsewhere', isElsewhere);
-    place.textContent = entry ? app.say(isElsewhere ? elsewhere : 'answerOf', entry.fen) : '';
+    // (the two lines stand apart, so that nothing moves when the board shows another position)
+    const says = app.say(isElsewhere ? elsewhere : 'answerOf', '').trim();
+    fill(id, [entry, says], () => (entry ? [make('span', {}, says), ' ', make('code', {}, entry.fen)] : []));
 }
 
 /** Draws the panel of answers. It keeps no answer: what it draws depends on the board and on the book alone. */

@@ -156,6 +156,8 @@ export class Cards {
         card.dataset.state = state;
         const word = app.say(STATES[state]);
         const turn = app.say(item.fen.startsWith('B') ? 'blackToMove' : 'whiteToMove');
-        place.textContent = item.refused ? `${word}: ${item.refused}` : `${turn}. ${word}${n ? ` (${n})` : ''}`;
+        // (the reason is in the words of `dw`)
+        const why = item.refused ? [`${word}: `, make('span', { lang: 'en' }, item.refused)] : null;
+        place.replaceChildren(...why ?? [`${turn}. ${word}${n ? ` (${n})` : ''}`]);
     }
 }

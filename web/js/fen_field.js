@@ -123,7 +123,7 @@ function showFault(app, text, refused) {
     while (end < bytes.length && (bytes[end] & 0xc0) === 0x80) end += 1;
     const why = keyOf(`fault${fault.number}`);
     place.append(
-        make('strong', {}, `${fault.number} ${fault.name} at ${fault.place}`),
+        make('strong', { lang: 'en' }, `${fault.number} ${fault.name} at ${fault.place}`),
         make('code', {}, cut(0, fault.place - 1), make('mark', {}, cut(fault.place - 1, end) || '␣'),
             cut(end, bytes.length)),
         make('span', {}, why ? app.say(why, squareCount(app.position.rows)) : ''),

@@ -8,6 +8,7 @@ import { Improving } from './improve.js';
 import { Store } from './keep.js';
 import { listenToKeys } from './keys.js';
 import { keyOf, languageOf } from './languages.js';
+import { followWindow } from './layout.js';
 import { Link } from './link.js';
 import { ListView } from './list.js';
 import { NamingView } from './naming_view.js';
@@ -129,6 +130,7 @@ export async function start() {
     const processors = Math.max(1, navigator.hardwareConcurrency || 2);
     const app = new App(new Workers(maker, processors), new Workers(maker, 2), new Workers(maker, 1),
         store);
+    followWindow();
     chooseLanguage(app, store);
     await breathe();
     const most = new MovesField(app, 'most'), play = new Play(app), link = new Link(app, store, most);

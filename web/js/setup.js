@@ -146,11 +146,13 @@ export class SetUp {
         reveal('palette', !play.isOn);
         reveal('play-tools', play.isOn);
         reveal('looked', app.looked !== null);
+        reveal('turn-field', app.looked === null);
         const hint = matchMedia('(hover: none)').matches ? 'holdHint' : 'boardHint';
         byId('board-hint').textContent = app.say(play.isOn ? 'playHint' : app.isReplay ? 'replayHint' : hint);
         const fault = faulty.size ? faultOf(app.refused) : null, why = keyOf(`fault${fault?.number}`);
         byId('board-fault').textContent = why ? app.say(why, squareCount(position.rows)) : '';
         reveal('board-fault', faulty.size > 0);
+        reveal('named', faulty.size === 0);
         control('undo', HTMLButtonElement).disabled = !play.canTakeBack && app.history.before.length === 0;
         control('redo', HTMLButtonElement).disabled = !play.canReplay && app.history.after.length === 0;
     }

@@ -87,7 +87,8 @@ export class SolutionView {
         const rest = nodesOf(node).length;
         if (budget.left > 0 || rest === 0) return this.lines(node, level, budget);
         const host = this.row(level);
-        const fold = make('button', { type: 'button', class: 'fold' }, this.nameFold(rest));
+        const data = { role: 'treeitem', 'aria-expanded': 'false', 'aria-level': String(level + 1) };
+        const fold = make('button', { type: 'button', class: 'fold', ...data }, this.nameFold(rest));
         fold.addEventListener('click', () => {
             for (const line of this.lines(node, level, { left: FOLD })) this.host.insertBefore(line, host);
             host.remove();

@@ -57,7 +57,7 @@ export const NAME_WORDS = {
     svgSave: ['Save as SVG', 'Bewaar als SVG', 'Enregistrer en SVG', 'Сохранить SVG'],
     answerOfStart: [
         'The verdict is that of the starting position, #',
-        'Het oordeel is dat van de beginstand van het spel, #',
+        'Het oordeel is dat van de uitgangsstand, #',
         'Le verdict est celui de la position de départ, #',
         'Вердикт относится к исходной позиции, #',
     ],
