@@ -737,6 +737,44 @@ def week_windows(browser, page, folder):
     browser.resize(1200, 900)
 
 
+def week_paper(browser, page, folder):
+    """A sheet has one's own heading, the name, the main line and the replies that hold out longest, and its bound."""
+    begin(browser, page, "#fen=B:W21,26:BK5,14,22,23&n=8&title=Spring&author=A.+Composer&date=1999")
+    browser.click("#paper summary")
+    browser.replace("#heading", "Club evening")
+    solve(browser, 8)
+
+    def printed():
+        """The text of the sheet, and its diagram as the elements of the page stand when it is printed."""
+        if browser.name == "chromium":
+            said = browser.ask("Page.printToPDF", browser.session, preferCSSPageSize=True)
+        else:
+            said = browser.ask("browsingContext.print", context=browser.context)
+        (folder / "sheet.pdf").write_bytes(base64.b64decode(said["data"]))
+        ran = subprocess.run(["pdftotext", "-layout", folder / "sheet.pdf", "-"], capture_output=True, text=True,
+                             check=True)
+        return " ".join(ran.stdout.split())
+    said = printed()
+    for wanted in ("Club evening", "Spring, A. Composer, 1999. Black to play and win in 5",
+                   "Solution, with the replies that hold out longest: 1 line.",
+                   "1... 22-27 2. 21x32 23-28 3. 32x23 14-19 4. 23x14 5x32 5. 26-21 32x16"):
+        assert wanted in said, (wanted, said)
+    assert "Draughts problems" not in said and "all variations" not in said, said
+    # Also the squares below pieces have their numbers.
+    assert all(re.search(rf"\b{square}\b", said.split("Sound")[0]) for square in (5, 14, 21, 22, 23, 26)), said
+    browser.replace("#fen", "W:WK2,K17,K27,K32:BK20,K21")
+    solve(browser, 4)
+    said = printed()
+    assert re.search(r"hold out longest: the \S+ 15 of 16 lines\.", said), said
+    browser.click("#tab-collection")
+    browser.click("#add summary")
+    browser.click("#add-go")
+    browser.wait("document.querySelector('#list').dataset.count === '1'", 20)
+    browser.click("#save-page")
+    browser.wait("document.querySelector('#list').dataset.saved === 'problems.html'", 60)
+    assert "Club evening" in browser.saved("problems.html").read_text()
+
+
 WAYS = [way_dual, way_fault, way_phone, way_keys, way_page, way_compare, way_stop, way_share, way_black, way_eight]
 # Those of a composer who has used it for a week.
 WEEK = [way for name, way in list(globals().items()) if name.startswith("week_")]

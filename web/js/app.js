@@ -46,6 +46,8 @@ export class App extends EventTarget {
         this.refused = '';
         /** @type {() => Promise<string>} The same, once `dw` has read what stands there now. */
         this.fault = () => Promise.resolve('');
+        /** The heading of what is printed, or an empty text. */
+        this.heading = () => '';
         /** @type {(position: Position) => string | null} The collection's game of this position, if any. */
         this.gameOf = () => null;
     }

@@ -13,6 +13,7 @@ import { Link } from './link.js';
 import { ListView } from './list.js';
 import { NamingView } from './naming_view.js';
 import { MovesField, movesIn } from './number.js';
+import { Paper } from './paper.js';
 import { PictureView } from './picture_view.js';
 import { Play } from './play.js';
 import { Problems } from './problems.js';
@@ -142,6 +143,7 @@ export async function start() {
     const solving = new Solving(app, most);
     keepDepth(store);
     listenToKeys(app, new AnswerView(app, solving), play);
+    new Paper(app, solving, store);
     new Comparing(app);
     new Improving(app, new MovesField(app, 'mend-n'));
     new ListView(app, new Problems(() => localStorage), movesOfList(app, store));

@@ -82,7 +82,7 @@ export function pageFiles(app, items, signal) {
     return Promise.all(byBoard(decided(items)).map(async ({ rows, items: own }, i) => {
         const most = Math.max(...own.map((item) => item.row?.n ?? 1));
         const words = ['dw-desk', 'page', '--pdn', ...boardOf(rows), '--most', String(most), '--lang', app.language,
-            '--title', app.say('title'), '--numbers'];
+            '--title', app.heading() || app.say('title'), '--numbers'];
         const games = own.map((item) => gameOf(tagsOf(item), '*')).join('');
         const content = reportOf(await app.searches.ask(words, games, signal));
         return { name: fileName('html', i, rows), content, type: 'text/html' };

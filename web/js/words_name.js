@@ -67,6 +67,31 @@ export const NAME_WORDS = {
         'Résoudre la position du damier',
         'Решить позицию на доске',
     ],
+    paper: ['Paper', 'Papier', 'Papier', 'Печать'],
+    heading: ['Heading', 'Kop', 'En-tête', 'Заголовок'],
+    paperHint: [
+        'Stands above what you print, and above the saved page. The solution is printed with the replies that hold out '
+            + 'longest, up to 15 lines.',
+        'Staat boven wat u afdrukt, en boven de bewaarde pagina. De oplossing wordt afgedrukt met de antwoorden die '
+            + 'het langst standhouden, tot 15 regels.',
+        'Figure au-dessus de ce que vous imprimez et de la page enregistrée. La solution est imprimée avec les '
+            + 'réponses qui tiennent le plus longtemps, jusqu’à 15 lignes.',
+        'Стоит над тем, что вы печатаете, и над сохранённой страницей. Решение печатается с ответами самого долгого '
+            + 'сопротивления, до 15 строк.',
+    ],
+    paperBound: [
+        'Solution, with the replies that hold out longest: the first # of # lines.',
+        'Oplossing, met de antwoorden die het langst standhouden: de eerste # van # regels.',
+        'Solution, avec les réponses qui tiennent le plus longtemps : les # premières lignes sur #.',
+        'Решение, с ответами самого долгого сопротивления: первые # из # строк.',
+    ],
+    paperAll: [
+        'Solution, with the replies that hold out longest: # {line|lines}.',
+        'Oplossing, met de antwoorden die het langst standhouden: # {regel|regels}.',
+        'Solution, avec les réponses qui tiennent le plus longtemps : # {ligne|lignes}.',
+        'Решение, с ответами самого долгого сопротивления: # {строка|строки|строк}.',
+    ],
+    print: ['Print', 'Afdrukken', 'Imprimer', 'Печатать'],
     ownSave: ['Save to my file', 'Bewaar in mijn bestand', 'Enregistrer dans mon fichier', 'Сохранить в мой файл'],
     ownOpen: ['Open my file', 'Open mijn bestand', 'Ouvrir mon fichier', 'Открыть мой файл'],
     ownOther: ['Another file', 'Een ander bestand', 'Un autre fichier', 'Другой файл'],
