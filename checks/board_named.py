@@ -386,5 +386,149 @@ def way_early(browser, page, _):
     browser.preload(None)
 
 
+# What of the page is hard to see: texts below 4.5 to 1 (large ones below 3), borders of controls and marks on the board
+# below 3, squares with lines between them, items of a tree outside one.
+CONTRAST = r"""
+(() => {
+  const found = [];
+  const context = Object.assign(document.createElement('canvas'), { width: 1, height: 1 })
+    .getContext('2d', { willReadFrequently: true });
+  const parts = (colour) => {
+    context.clearRect(0, 0, 1, 1);
+    context.fillStyle = colour;
+    context.fillRect(0, 0, 1, 1);
+    return [...context.getImageData(0, 0, 1, 1).data];
+  };
+  const over = (top, below) => top.slice(0, 3).map((part, i) => (part * top[3] + below[i] * (255 - top[3])) / 255);
+  const light = (colour) => {
+    const [r, g, b] = colour.map((part) => part / 255)
+      .map((part) => (part <= 0.04045 ? part / 12.92 : ((part + 0.055) / 1.055) ** 2.4));
+    return 0.2126 * r + 0.7152 * g + 0.0722 * b;
+  };
+  const ratio = (a, b) => {
+    const [one, other] = [light(a), light(b)];
+    return (Math.max(one, other) + 0.05) / (Math.min(one, other) + 0.05);
+  };
+  const ground = (element) => {
+    const above = element.parentElement ? ground(element.parentElement) : [255, 255, 255];
+    return over(parts(getComputedStyle(element).backgroundColor), above);
+  };
+  const note = (element, what, value, least) => {
+    if (value < least) {
+      found.push(`${what} ${element.id || element.className?.baseVal || element.className || element.tagName} `
+        + `"${(element.textContent ?? '').trim().slice(0, 20)}": ${value.toFixed(2)}`);
+    }
+  };
+  const isSeen = (element) => element.checkVisibility({ visibilityProperty: true })
+    && element.getBoundingClientRect().width > 1 && !element.closest(':disabled, .hidden, .skip');
+  const all = [...document.body.querySelectorAll('*')].filter((element) => !element.closest('svg') && isSeen(element));
+  for (const element of all) {
+    const style = getComputedStyle(element), hasText = [...element.childNodes]
+      .some((node) => node.nodeType === 3 && node.textContent.trim());
+    if (hasText || (element.matches('input[type=text], textarea, select') && element.value)) {
+      const size = parseFloat(style.fontSize), isLarge = size >= 24 || (size >= 18.66 && style.fontWeight >= 700);
+      note(element, 'text', ratio(over(parts(style.color), ground(element)), ground(element)), isLarge ? 3 : 4.5);
+    }
+    if (element.matches('button:not(.move, .dark), .button, select, textarea, input[type=text], input[type=number], '
+        + '.drop, dialog')) {
+      const outside = ground(element.parentElement), border = over(parts(style.borderBottomColor), outside);
+      const isBordered = parseFloat(style.borderBottomWidth) > 0;
+      note(element, 'border', Math.max(isBordered ? ratio(border, outside) : 1, ratio(ground(element), outside)), 3);
+    }
+    if (element.matches('.move') && !element.closest('[role=tree]')) {
+      note(element, 'move', /underline/.test(style.textDecorationLine) ? 3 : 1, 3);
+    }
+  }
+  for (const square of document.querySelectorAll('.board .dark')) {
+    const under = ground(square), style = getComputedStyle(square);
+    const ring = /rgba?\([^)]*\)/.exec(style.boxShadow)?.[0];
+    if (square.matches('.source, .last, .faulty') && ring) note(square, 'ring', ratio(over(parts(ring), under), under), 3);
+    if (square.matches('.target')) {
+      note(square, 'target', ratio(parts(getComputedStyle(square, '::after').backgroundColor), under), 3);
+    }
+    const edge = square.querySelector('.piece use');
+    if (edge) {
+      const [fill, line] = ['--fill', '--stroke'].map((name) => parts(getComputedStyle(edge).getPropertyValue(name)));
+      note(square, 'piece', Math.max(ratio(fill, under), ratio(line, under)), 3);
+    }
+    const number = square.querySelector('.number');
+    if (isSeen(number)) note(square, 'number', ratio(parts(getComputedStyle(number).color), under), 4.5);
+  }
+  note(document.body, 'focus', ratio(parts(getComputedStyle(document.documentElement).getPropertyValue('--main')),
+    ground(document.querySelector('.panels'))), 3);
+  const cells = [...document.querySelector('#board').children].map((cell) => cell.getBoundingClientRect());
+  const rows = Math.sqrt(cells.length);
+  cells.forEach((cell, i) => {
+    const beside = i % rows ? cells[i - 1].right : cell.left;
+    if (Math.abs(cell.width - Math.round(cell.width)) > 0.01 || Math.abs(cell.left - beside) > 0.01) {
+      found.push(`square ${i}: ${cell.left} to ${cell.right}`);
+    }
+  });
+  for (const item of document.querySelectorAll('[role=treeitem]')) {
+    if (!item.closest('[role=tree]')) found.push(`an item outside a tree: ${item.textContent}`);
+  }
+  for (const part of document.querySelectorAll('[role=tree] > *')) {
+    const items = [...part.children];
+    if (part.getAttribute('role') !== 'group' || !items.every((item) => item.getAttribute('role') === 'treeitem')) {
+      found.push(`a tree with other parts: ${part.outerHTML.slice(0, 80)}`);
+    }
+  }
+  return [...new Set(found)];
+})()
+"""
+
+
+def look_of(browser):
+    """The states in which all is looked at, each after the one before."""
+    yield "problem"
+    read(browser, "W:W27,K32,31:B18,K13,7")
+    yield "pieces"
+    read(browser, "W:W3,K27:B18")
+    browser.wait("!t.at('#fault').hidden", 10)
+    yield "fault"
+    read(browser, START)
+    browser.run("t.all('details').forEach((one) => { one.open = true; })")
+    browser.run(call("solve", 4))
+    browser.run("t.at('#ask-firsts').click()")
+    browser.wait("t.all('#firsts li').length === 3", 20)
+    browser.run("t.all('#solution .move')[1].click()")
+    yield "answer"
+    browser.run("t.at('#look-back').click(); t.at('#mode-play').click()")
+    browser.wait("t.all('.dark.source').length === 2", 10)
+    browser.run("t.at('[data-square=\"32\"]').click(); t.at('[data-square=\"28\"]').click()")
+    browser.wait("t.at('[data-square=\"18\"]').matches('.source')", 10)
+    browser.run("t.at('[data-square=\"18\"]').click()")
+    yield "play"
+    browser.run("t.at('#mode-setup').click(); t.at('#look-back').click(); t.at('#tab-compare').click()")
+    browser.run("t.set('#movetext', '1. 32-28 18-22 2. 27x18'); t.at('#compare').click()")
+    browser.wait("t.all('#remarks .remark').length === 2", 20)
+    yield "compare"
+    browser.run("t.at('#tab-improve').click(); t.set('#mend-n', '2'); t.at('#mend-go').click()")
+    browser.wait("t.at('#mend').dataset.state === 'done'", 60)
+    yield "improve"
+    browser.run("t.at('#tab-collection').click(); t.at('#add-go').click()")
+    browser.wait("t.all('#list .card').length === 1 && t.at('#list').dataset.state === 'done'", 10)
+    yield "collection"
+    browser.run("t.at('.edit').click()")
+    yield "form"
+
+
+def way_seen(browser, page, _):
+    """Texts, borders and marks are seen, light and dark; squares have no lines between them; a tree has its items."""
+    faults = []
+    for scheme in ("light", "dark") if browser.name == "chromium" else ("light",):
+        begin(browser, page, f"#fen={START}&n=4&title=Spring")
+        if browser.name == "chromium":
+            browser.colours(scheme)
+        for state in look_of(browser):
+            for width, height in ((1366, 768), (800, 900), (PHONE, 740)):
+                browser.resize(width, height, width == PHONE)
+                faults += [f"{scheme} {state} {width}: {fault}" for fault in browser.run(CONTRAST)]
+    browser.resize(1200, 900)
+    if browser.name == "chromium":
+        browser.colours("light")
+    assert not faults, "\n".join(faults[:60])
+
+
 WAYS = [value for name, value in list(globals().items()) if name.startswith("way_")]
 assert pathlib.Path(__file__).name == "board_named.py"

@@ -28,7 +28,7 @@ OWN = ("file:", "blob:", "data:", "about:", "chrome:", "resource:", "moz-extensi
 KEYS = {"Enter": ("\ue006", 13), "Backspace": ("\ue003", 8),
         "Tab": ("\ue004", 9), "ArrowLeft": ("\ue012", 37), "ArrowUp": ("\ue013", 38),
         "ArrowRight": ("\ue014", 39), "ArrowDown": ("\ue015", 40), "Delete": ("\ue017", 46), " ": (" ", 32),
-        "Home": ("\ue011", 36)}
+        "Home": ("\ue011", 36), "End": ("\ue010", 35), "Escape": ("\ue00c", 27)}
 
 
 class WebSocket:

@@ -2,6 +2,7 @@
 import { byId, control, fill, make, reveal, unbroken } from './dom.js';
 import { REASON } from '../../package/engine.js';
 import { SolutionView } from './solution.js';
+import { numbered } from './tree.js';
 
 /**
  * @typedef {import('./app.js').App} App
@@ -28,13 +29,16 @@ export function failureText(app, why) {
  * @param {App} app
  * @param {string} id
  * @param {Entry | null} entry
+ * @param {import('./languages.js').Key} elsewhere How it is said if the board shows another.
  */
-export function namePosition(app, id, entry) {
+export function namePosition(app, id, entry, elsewhere = 'answerElsewhere') {
     const place = byId(id), isElsewhere = entry !== null && !app.isOnBoard(entry);
     place.hidden = entry === null;
     place.dataset.fen = entry?.fen ?? '';
     place.classList.toggle('elsewhere', isElsewhere);
-    place.textContent = entry ? app.say(isElsewhere ? 'answerElsewhere' : 'answerOf', entry.fen) : '';
+    // (the two lines stand apart, so that nothing moves when the board shows another position)
+    const says = app.say(isElsewhere ? elsewhere : 'answerOf', '').trim();
+    fill(id, [entry, says], () => (entry ? [make('span', {}, says), ' ', make('code', {}, entry.fen)] : []));
 }
 
 /** Draws the panel of answers. It keeps no answer: what it draws depends on the board and on the book alone. */
@@ -46,22 +50,39 @@ export class AnswerView {
     constructor(app, solving) {
         this.app = app;
         this.solving = solving;
-        this.view = new SolutionView(byId('solution'), (node) => app.look(node.parent ? node.fen : null),
+        this.view = new SolutionView(byId('solution'), (node) => app.look(node.parent ? node.fen : null, node.move),
             (count) => app.say('unfold', count));
         for (const [id, step] of /** @type {const} */ ([
-            ['to-start', 'start'], ['previous-move', 'back'], ['next-move', 'on'],
+            ['to-start', 'start'], ['previous-move', 'back'], ['next-move', 'on'], ['to-end', 'end'],
         ])) byId(id).addEventListener('click', () => this.view.step(step));
+        byId('depth').addEventListener('change', () => this.draw());
         app.on(['edited', 'looked', 'spoken', 'answered', 'read'], () => this.draw());
         this.draw();
+    }
+
+    /** How much of the solution is shown. */
+    get depth() {
+        return /** @type {import('./tree.js').Depth} */ (control('depth', HTMLSelectElement).value);
+    }
+
+    /**
+     * Goes through the solution, if it is in sight. Answers whether there was such a step.
+     * @param {import('./solution.js').Step} where
+     */
+    step(where) {
+        const isShown = !byId('panel-solve').hidden && !byId('answer').hidden && !byId('solution-part').hidden;
+        return isShown && (where !== 'start' || this.app.looked !== null) && this.view.step(where);
     }
 
     draw() {
         const { app } = this, { entry } = this.solving, found = entry.solve?.result?.found ?? null;
         this.drawState(entry);
-        namePosition(app, 'answer-of', entry.solve ? entry : null);
+        namePosition(app, 'answer-of', entry.solve ? entry : null, 'answerOfStart');
+        reveal('solve-here', entry.solve !== null && !app.isOnBoard(entry));
         reveal('answer', Boolean(found));
         const tree = entry.solve?.result?.tree ?? null;
-        if (this.view.tree !== tree) this.view.show(tree);
+        const isOther = this.view.tree !== tree || (tree && this.view.reading?.depth !== this.depth);
+        if (isOther) this.view.show(tree, this.depth);
         if (!app.looked) this.view.leave();
         if (!found) return;
         this.drawVerdict(entry, found);
@@ -158,7 +179,7 @@ export class AnswerView {
         reveal('dual', isDual);
         if (!isDual) return;
         fill('dual', [entry, found, this.app.language], () => [
-            ...unbroken(this.app.say('sayChoice', found.at.join(' '))), ' ',
+            ...unbroken(this.app.say('sayChoice', numbered(entry.fen, found.at))), ' ',
             ...found.choices.flatMap((move, i) => [i ? ' / ' : '', this.jump(entry, [...found.at, move])]),
         ]);
     }
@@ -212,6 +233,7 @@ export class AnswerView {
     async playOut(entry, moves) {
         const { app } = this, played = await app.rules.follow(entry.fen, moves, entry.position.rows);
         const isStill = app.shown((one) => one.solve) === entry;
-        if (isStill) app.look(played[played.length - 1]?.fen ?? null);
+        const last = played[played.length - 1];
+        if (isStill) app.look(last?.fen ?? null, last?.move);
     }
 }

@@ -2,6 +2,7 @@
 import { Book } from './book.js';
 import { History } from './history.js';
 import { textIn } from './languages.js';
+import { Names } from './naming.js';
 import { emptyBoard, fenOf, isSame, positionOf } from './position.js';
 import { Rules } from './rules.js';
 
@@ -11,8 +12,9 @@ import { Rules } from './rules.js';
  * @typedef {import('./languages.js').Language} Language
  * @typedef {import('./languages.js').Key} Key
  * @typedef {import('../../package/workers.js').Workers} Workers
- * @typedef {'edited' | 'looked' | 'spoken' | 'answered' | 'read'} Change The problem is another; the position on the
- *     board is; the language is; an answer is; a FEN text was read.
+ * @typedef {import('./naming.js').Naming} Naming
+ * @typedef {'edited' | 'looked' | 'spoken' | 'answered' | 'read' | 'named'} Change The problem is another; the position
+ *     on the board is; the language is; an answer is; a FEN text was read; the name of a position is another.
  */
 
 /** The state of the page. Whoever wants to know of a change listens to it. */
@@ -21,25 +23,31 @@ export class App extends EventTarget {
      * @param {Workers} searches Workers for much that may take long, as many as there are processors.
      * @param {Workers} solver Workers for the questions that the reader waits for.
      * @param {Workers} quick A worker for what is answered at once.
+     * @param {import('./keep.js').Store} store What the browser keeps.
      */
-    constructor(searches, solver, quick) {
+    constructor(searches, solver, quick, store) {
         super();
         this.searches = searches;
         this.solver = solver;
         this.rules = new Rules((words, input) => quick.ask(words, input));
         this.book = new Book();
+        this.names = new Names(store);
         /** @type {Language} */
         this.language = 'en';
         /** @type {History<Position>} The problem, and those before. */
         this.history = new History(emptyBoard(10), isSame);
         /** @type {Position | null} A later position on the board: one of a solution or of a play. */
         this.looked = null;
+        /** The move that led to it, if one did. */
+        this.lastMove = '';
         /** Whether moves are played on the board. */
         this.isPlaying = false;
         /** Why `dw` refuses what stands in the field of the FEN text, or an empty text. */
         this.refused = '';
         /** @type {() => Promise<string>} The same, once `dw` has read what stands there now. */
         this.fault = () => Promise.resolve('');
+        /** The heading of what is printed, or an empty text. */
+        this.heading = () => '';
         /** @type {(position: Position) => string | null} The collection's game of this position, if any. */
         this.gameOf = () => null;
     }
@@ -95,20 +103,36 @@ export class App extends EventTarget {
      * @param {Position} position
      */
     edit(position) {
-        this.looked = null;
+        this.leave();
         this.history.put(position);
         this.tell('edited');
     }
 
+    /**
+     * Gives a position a name.
+     * @param {Position} position
+     * @param {Naming} naming
+     */
+    name(position, naming) {
+        this.names.put(position, naming);
+        this.tell('named');
+    }
+
+    /** The board shows the problem. */
+    leave() {
+        this.looked = null;
+        this.lastMove = '';
+    }
+
     /** Takes back the last change of the problem, or does it again. */
     undo() {
-        this.looked = null;
+        this.leave();
         this.history.undo();
         this.tell('edited');
     }
 
     redo() {
-        this.looked = null;
+        this.leave();
         this.history.redo();
         this.tell('edited');
     }
@@ -116,10 +140,12 @@ export class App extends EventTarget {
     /**
      * Shows a position of a solution or of a play on the board, or the problem again.
      * @param {string | null} fen
+     * @param {string} move The move that led to it, if one did.
      */
-    look(fen) {
+    look(fen, move = '') {
         const position = fen === null ? null : positionOf(fen, this.history.now.rows);
         this.looked = position && !isSame(position, this.history.now) ? position : null;
+        this.lastMove = this.looked ? move : '';
         this.tell('looked');
     }
 

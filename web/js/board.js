@@ -9,14 +9,18 @@ import { squareAt, squareBeside, squareCount } from './squares.js';
  * @typedef {import('./squares.js').Rows} Rows
  * @typedef {{
  *   click: (square: number) => void,
+ *   lift: (square: number) => void,
  *   move: (from: number, to: number) => void,
  *   erase: (square: number) => void,
  *   place: (square: number, piece: Piece) => void,
  *   name: (square: number, piece: Piece | undefined) => string,
  * }} Actions
- * @typedef {{isTurned: boolean, isEdited: boolean, sources: Set<number>, targets: Set<number>, chosen: number,
- *   faulty: Set<number>}} Look
+ * @typedef {{isTurned: boolean, isEdited: boolean, isReplay: boolean, sources: Set<number>, targets: Set<number>,
+ *   chosen: number, faulty: Set<number>, path: number[]}} Look `path` has the squares of the last move.
  */
+
+/** For how long a piece glides from square to square, and at most, in milliseconds. */
+const GLIDE = 160, LONGEST_GLIDE = 480;
 
 /** The picture of a piece. */
 export function pieceOf(/** @type {Piece} */ piece) {
@@ -40,9 +44,11 @@ export class BoardView {
         this.position = null;
         /** @type {Look} */
         this.look = {
-            isTurned: false, isEdited: true, sources: new Set(), targets: new Set(), chosen: 0, faulty: new Set(),
+            isTurned: false, isEdited: true, isReplay: false, sources: new Set(), targets: new Set(), chosen: 0,
+            faulty: new Set(), path: [],
         };
         this.cursor = 1;
+        this.isPointed = false;
         this.dragging = new Dragging(host, {
             pieceAt: (target) => this.pieceAt(target),
             lift: (square) => this.lift(square),
@@ -52,6 +58,9 @@ export class BoardView {
         host.addEventListener('contextmenu', (event) => this.onErase(event));
         host.addEventListener('keydown', (event) => this.onKey(event));
         host.addEventListener('focusin', ({ target }) => this.moveCursor(this.squareOf(target)));
+        // (whoever plays by pointer has the arrow keys for the moves, and not for the cursor)
+        host.addEventListener('pointerdown', () => { this.isPointed = true; });
+        document.addEventListener('keydown', ({ key }) => { this.isPointed &&= key !== 'Tab'; });
     }
 
     /** The keys go to the square of the cursor. */
@@ -74,9 +83,28 @@ export class BoardView {
         if (this.position?.rows !== position.rows || this.look.isTurned !== look.isTurned) {
             this.build(position.rows, look.isTurned);
         }
+        const before = this.position, [from] = look.path, to = look.path[look.path.length - 1];
         this.position = position;
         this.look = look;
         for (const [square, element] of this.squares) this.showSquare(square, element);
+        const isMoved = before !== position && before?.pieces.has(from) && !before.pieces.has(to);
+        if (isMoved && position.pieces.has(to)) this.glide(look.path);
+    }
+
+    /**
+     * The piece that has moved glides to where it stands, over the squares of its move.
+     * @param {number[]} path
+     */
+    glide(path) {
+        const end = this.squares.get(path[path.length - 1]), piece = end?.querySelector('.piece');
+        if (!end || !piece?.animate || matchMedia('(prefers-reduced-motion: reduce)').matches) return;
+        const there = end.getBoundingClientRect();
+        const frames = path.flatMap((square) => {
+            const place = this.squares.get(square)?.getBoundingClientRect();
+            return place ? { transform: `translate(${place.left - there.left}px, ${place.top - there.top}px)` } : [];
+        });
+        const duration = Math.min(GLIDE * (path.length - 1), LONGEST_GLIDE);
+        piece.animate(frames, { duration, easing: 'ease-in-out' });
     }
 
     /**
@@ -84,7 +112,8 @@ export class BoardView {
      * @param {HTMLElement} element
      */
     showSquare(square, element) {
-        const piece = this.position?.pieces.get(square), { sources, targets, chosen, isEdited, faulty } = this.look;
+        const piece = this.position?.pieces.get(square);
+        const { sources, targets, chosen, isEdited, faulty, path } = this.look;
         if (element.dataset.piece !== piece) {
             element.querySelector('.piece')?.remove();
             if (piece) {
@@ -99,6 +128,7 @@ export class BoardView {
         element.classList.toggle('target', targets.has(square));
         element.classList.toggle('chosen', chosen === square);
         element.classList.toggle('faulty', faulty.has(square));
+        element.classList.toggle('last', path.length > 0 && (path[0] === square || path[path.length - 1] === square));
         if (faulty.has(square)) element.setAttribute('aria-invalid', 'true');
         else element.removeAttribute('aria-invalid');
         element.setAttribute('aria-label', this.actions.name(square, piece));
@@ -159,7 +189,9 @@ export class BoardView {
         const square = this.squareOf(event.target);
         if (!square || !this.position || event.ctrlKey || event.metaKey || event.altKey) return;
         const { key } = event;
-        if (key.startsWith('Arrow')) {
+        if (key.startsWith('Arrow') && !this.look.isEdited && (this.look.isReplay || this.isPointed)) {
+            return;
+        } else if (key.startsWith('Arrow')) {
             this.squares.get(squareBeside(this.position.rows, square, key, this.look.isTurned))?.focus();
         } else if (!this.look.isEdited) {
             return;
@@ -179,7 +211,8 @@ export class BoardView {
      */
     pieceAt(target) {
         const square = this.squareOf(target);
-        return this.look.isEdited && this.position?.pieces.has(square) ? square : 0;
+        const { isEdited, sources } = this.look;
+        return sources.has(square) || (isEdited && this.position?.pieces.has(square)) ? square : 0;
     }
 
     /**
@@ -188,6 +221,7 @@ export class BoardView {
      */
     lift(from) {
         const square = /** @type {HTMLElement} */ (this.squares.get(from));
+        this.actions.lift(from);
         square.classList.add('lifted');
         const shadow = pieceOf(/** @type {Piece} */ (square.dataset.piece));
         shadow.classList.add('shadow');
@@ -203,8 +237,12 @@ export class BoardView {
      */
     drop(from, at) {
         this.squares.get(from)?.classList.remove('lifted');
-        if (!at || !this.look.isEdited) return;
+        if (!at) return;
         const to = this.squareOf(document.elementFromPoint(at.clientX, at.clientY));
+        if (!this.look.isEdited) {
+            this.actions.move(from, to);
+            return;
+        }
         const box = this.host.getBoundingClientRect();
         const isBeside = at.clientX < box.left || at.clientX > box.right;
         const isOff = isBeside || at.clientY < box.top || at.clientY > box.bottom;

@@ -116,8 +116,8 @@ export class Entry {
         this.note = null;
         /** @type {Line | null} The moves that were played from the position. */
         this.line = null;
-        /** The problem and its solution as a game of PDN, once it was asked for. */
-        this.game = '';
+        /** The problem and its solution as a game of PDN, once it was asked for, with the game without moves. */
+        this.game = { asked: '', text: '' };
         /** The number of moves that was typed for improvements, if one was. */
         this.mendMoves = '';
     }
@@ -175,5 +175,8 @@ export class Book {
     }
 }
 
-/** @param {Position} position */
-const nameOf = (position) => `${position.rows} ${fenOf(position)}`;
+/**
+ * The name under which a position is known.
+ * @param {Position} position
+ */
+export const nameOf = (position) => `${position.rows} ${fenOf(position)}`;

@@ -7,6 +7,8 @@ import { positionOf } from './position.js';
 /**
  * @typedef {import('./app.js').App} App
  * @typedef {import('./collection.js').Item} Item
+ * @typedef {{choose: (item: Item) => void, edit: (item: Item) => void,
+ *     key: (item: Item, event: KeyboardEvent) => void}} Acts What is done with a card.
  */
 
 /** How many problems are shown at first and with each further call, and how many at a stroke. */
@@ -22,11 +24,11 @@ const STATES = /** @type {const} */ ({
 export class Cards {
     /**
      * @param {App} app
-     * @param {(item: Item) => void} choose
+     * @param {Acts} acts
      */
-    constructor(app, choose) {
+    constructor(app, acts) {
         this.app = app;
-        this.choose = choose;
+        this.acts = acts;
         this.host = byId('list');
         /** @type {Item[]} */
         this.items = [];
@@ -39,6 +41,12 @@ export class Cards {
         for (const id of ['filter', 'sort']) byId(id).addEventListener('change', () => this.show(this.items));
         app.on(['spoken'], () => this.show(this.items));
         app.on(['edited'], () => markCards(this.host, app.fen));
+    }
+
+    /** The items that are shown, in order. */
+    get chosen() {
+        const filter = control('filter', HTMLSelectElement).value, sort = control('sort', HTMLSelectElement).value;
+        return chosen(this.items, filter, sort);
     }
 
     /**
@@ -71,8 +79,7 @@ export class Cards {
      */
     async draw(from) {
         const drawing = ++this.drawing;
-        const filter = control('filter', HTMLSelectElement).value, sort = control('sort', HTMLSelectElement).value;
-        const items = chosen(this.items, filter, sort), shown = items.slice(0, this.shown);
+        const items = this.chosen, shown = items.slice(0, this.shown);
         for (let at = from; at < shown.length; at += STROKE) {
             this.host.append(...shown.slice(at, at + STROKE).map((item) => this.card(item)));
             await breathe();
@@ -110,10 +117,32 @@ export class Cards {
         else body.append(diagramOf(positionOf(item.fen, item.rows), item.fen));
         body.append(make('span', { class: 'card-title' }, `${number}. ${titleOf(item)}`),
             make('span', { class: 'card-state' }));
-        body.addEventListener('click', () => this.choose(item));
+        body.addEventListener('click', () => this.acts.choose(item));
+        body.addEventListener('keydown', (event) => this.acts.key(item, event));
         this.cards.set(item.id, body);
         this.showState(item);
-        return body;
+        const label = this.app.say('editCard', number);
+        const edit = make('button', { type: 'button', class: 'edit', title: label, 'aria-label': label }, '…');
+        edit.addEventListener('click', () => this.acts.edit(item));
+        return make('div', { class: 'item' }, body, edit);
+    }
+
+    /**
+     * The keys go to the card of a problem, if there is one.
+     * @param {Item | undefined} item
+     */
+    focus(item) {
+        const card = item && this.cards.get(item.id);
+        if (card instanceof HTMLButtonElement && !card.disabled) card.focus();
+    }
+
+    /**
+     * Shows the name of a problem.
+     * @param {Item} item
+     */
+    showTitle(item) {
+        const place = this.cards.get(item.id)?.querySelector('.card-title');
+        if (place) place.textContent = `${this.numbers.get(item.id) ?? 0}. ${titleOf(item)}`;
     }
 
     /**
@@ -127,6 +156,8 @@ export class Cards {
         card.dataset.state = state;
         const word = app.say(STATES[state]);
         const turn = app.say(item.fen.startsWith('B') ? 'blackToMove' : 'whiteToMove');
-        place.textContent = item.refused ? `${word}: ${item.refused}` : `${turn}. ${word}${n ? ` (${n})` : ''}`;
+        // (the reason is in the words of `dw`)
+        const why = item.refused ? [`${word}: `, make('span', { lang: 'en' }, item.refused)] : null;
+        place.replaceChildren(...why ?? [`${turn}. ${word}${n ? ` (${n})` : ''}`]);
     }
 }

@@ -1,5 +1,5 @@
 /** A list of problems: what is in it, and in which order it is shown. */
-import { valueOf } from './pdn.js';
+import { lineOfName, namingOf } from './naming.js';
 
 /**
  * @typedef {import('./pdn.js').Tag} Tag
@@ -21,11 +21,10 @@ const ORDER = ['sound', 'dual', 'cooked', 'unsolvable', 'undecided', 'open', 're
 export const stateOf = (item) => (item.refused ? 'refused' : item.row?.verdict ?? 'open');
 
 /**
- * The title of an item: what its tags say of event, author and date.
+ * The title of an item: what its tags say of its name.
  * @param {Item} item
  */
-export const titleOf = ({ tags }) =>
-    ['Event', 'White', 'Date'].map((name) => valueOf(tags, name)).filter(Boolean).join(', ');
+export const titleOf = ({ tags }) => lineOfName(namingOf(tags));
 
 /**
  * The items that are shown, in order.

@@ -5,8 +5,11 @@ import { Task } from './book.js';
 import { byId, control, fill, make, reveal, unbroken } from './dom.js';
 import { reportOf, textOf } from '../../package/engine.js';
 import { keyOf } from './languages.js';
+import { lineOfName, namingOf } from './naming.js';
+import { pasted } from './pasted.js';
 import { positionOf } from './position.js';
 import { boardOf } from './rules.js';
+import { numbered } from './tree.js';
 
 /**
  * @typedef {import('./app.js').App} App
@@ -84,8 +87,9 @@ export class Comparing {
         }
         const problems = await app.rules.problems(text, rows);
         if (this.field.value !== text) return;
-        const fen = problems[0]?.fen;
+        const fen = problems[0]?.fen, naming = namingOf(pasted(text).tags);
         if (fen) app.edit(positionOf(fen, rows));
+        if (fen && lineOfName(naming)) app.name(app.history.now, naming);
         await this.compare(app.book.of(app.subject), text, { text, isOwn: false, count: problems.length });
     }
 
@@ -180,9 +184,9 @@ export class Comparing {
     }
 
     /** A remark as a sentence. */
-    sentence(/** @type {Remark} */ { kind, line, moves, refutation = '' }) {
-        const { app } = this, where = movesOf(line).length ? line : app.say('start');
-        if (kind === 'fails') return app.say('remarkFails', [line, ...moves].filter(Boolean).join(' '), refutation);
+    sentence(/** @type {Entry} */ { fen }, /** @type {Remark} */ { kind, line, moves, refutation = '' }) {
+        const { app } = this, played = movesOf(line), where = numbered(fen, played) || app.say('start');
+        if (kind === 'fails') return app.say('remarkFails', numbered(fen, [...played, ...moves]), refutation);
         if (kind === 'also') return app.say('remarkAlso', where, moves.join(', '));
         if (kind === 'open') return app.say('remarkOpen', where, moves.join(', '));
         return app.say('remarkEnds', where);
@@ -195,7 +199,7 @@ export class Comparing {
         const data = { 'data-kind': kind, 'data-line': line, 'data-moves': moves.join(', ') };
         const button = make('button', { type: 'button', class: `remark ${kind}`, ...data },
             make('span', { class: 'sign', 'aria-hidden': 'true' }, isBad ? '✗' : '!'), ' ',
-            make('span', {}, ...unbroken(this.sentence(remark))));
+            make('span', {}, ...unbroken(this.sentence(entry, remark))));
         button.addEventListener('click', () => void this.playOut(entry, path));
         return make('li', {}, button);
     }
@@ -203,6 +207,7 @@ export class Comparing {
     /** @param {Entry} entry @param {string[]} moves */
     async playOut(entry, moves) {
         const { app } = this, played = await app.rules.follow(entry.fen, moves, entry.position.rows);
-        if (this.entry === entry) app.look(played[played.length - 1]?.fen ?? null);
+        const last = played[played.length - 1];
+        if (this.entry === entry) app.look(last?.fen ?? null, last?.move);
     }
 }

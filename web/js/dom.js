@@ -114,7 +114,7 @@ export async function piecewise(items, act) {
 /**
  * Lets the browser save a file.
  * @param {string} name
- * @param {string | Uint8Array} content
+ * @param {string | Uint8Array | Blob} content
  * @param {string} type
  */
 export function save(name, content, type) {

@@ -2,6 +2,7 @@
 import { faultOf } from './answers.js';
 import { byId, control, make } from './dom.js';
 import { keyOf } from './languages.js';
+import { lineOfName, namingOf } from './naming.js';
 import { pasted } from './pasted.js';
 import { isSame, positionOf } from './position.js';
 import { squareCount } from './squares.js';
@@ -28,6 +29,8 @@ function put(field, text) {
 export function followText(app) {
     const field = control('fen', HTMLInputElement);
     let asked = 0, timer = 0, isTyping = false, isPending = false, isOwn = false, fault = Promise.resolve('');
+    /** @type {{fen: string, tags: import('./pdn.js').Tag[]}} The text of a game that was pasted, and its tags. */
+    let game = { fen: '', tags: [] };
 
     /** Writes the text of the position as the program does, once nobody types. */
     function tidy() {
@@ -50,6 +53,8 @@ export function followText(app) {
         isOwn = true;
         if (!isSame(position, app.position)) app.edit(position);
         isOwn = false;
+        const naming = namingOf(game.fen === text && !refused ? game.tags : []);
+        if (lineOfName(naming)) app.name(position, naming);
         tidy();
         app.tell('read');
         return refused;
@@ -68,9 +73,10 @@ export function followText(app) {
         timer = window.setTimeout(() => readNow(field.value), PATIENCE);
     });
     field.addEventListener('paste', (event) => {
-        const text = event.clipboardData?.getData('text') ?? '', { fen, movetext } = pasted(text);
+        const text = event.clipboardData?.getData('text') ?? '', { fen, movetext, tags } = pasted(text);
         if (fen === text) return;
         event.preventDefault();
+        game = { fen, tags };
         put(field, fen);
         if (movetext) put(control('movetext', HTMLTextAreaElement), movetext);
     });
@@ -117,7 +123,7 @@ function showFault(app, text, refused) {
     while (end < bytes.length && (bytes[end] & 0xc0) === 0x80) end += 1;
     const why = keyOf(`fault${fault.number}`);
     place.append(
-        make('strong', {}, `${fault.number} ${fault.name} at ${fault.place}`),
+        make('strong', { lang: 'en' }, `${fault.number} ${fault.name} at ${fault.place}`),
         make('code', {}, cut(0, fault.place - 1), make('mark', {}, cut(fault.place - 1, end) || '␣'),
             cut(end, bytes.length)),
         make('span', {}, why ? app.say(why, squareCount(app.position.rows)) : ''),

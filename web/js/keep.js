@@ -1,10 +1,14 @@
-/** What is kept: the position in the address, the settings in the browser. */
+/** What is kept: the position and its name in the address, the settings in the browser. */
 import { movesIn } from './number.js';
 
 /**
  * @typedef {import('./squares.js').Rows} Rows
- * @typedef {{fen: string, n: number, rows: Rows}} Address
+ * @typedef {{fen: string, n: number, rows: Rows, title?: string, author?: string, source?: string, date?: string}}
+ *     Address
  */
+
+/** The parts of a name that an address may have. */
+const NAMED = /** @type {const} */ (['title', 'author', 'source', 'date']);
 
 /**
  * What an address says after its `#`.
@@ -19,6 +23,7 @@ export function addressIn(hash) {
         if (part.startsWith('fen=')) said.fen = value;
         if (part.startsWith('n=')) said.n = movesIn(value) || undefined;
         if (part.startsWith('rows=')) said.rows = value === '8' ? 8 : 10;
+        for (const name of NAMED) if (part.startsWith(`${name}=`)) said[name] = value;
     }
     return said;
 }
@@ -36,7 +41,12 @@ function decoded(text) {
  * The part of an address after its `#`.
  * @param {Address} address
  */
-export const addressOf = ({ fen, n, rows }) => `#fen=${fen}&n=${n}${rows === 8 ? '&rows=8' : ''}`;
+export function addressOf(address) {
+    const { fen, n, rows } = address;
+    const named = NAMED.filter((name) => address[name]).map((name) =>
+        `&${name}=${encodeURIComponent(address[name] ?? '').replaceAll('%20', '+')}`);
+    return `#fen=${fen}&n=${n}${rows === 8 ? '&rows=8' : ''}${named.join('')}`;
+}
 
 /** What a browser lets the page keep. */
 export class Store {

@@ -2,6 +2,7 @@
 import { ANSWER_WORDS } from './words_answer.js';
 import { BOARD_WORDS } from './words_board.js';
 import { LIST_WORDS } from './words_list.js';
+import { NAME_WORDS } from './words_name.js';
 
 /** @typedef {'en' | 'nl' | 'fr' | 'ru'} Language */
 
@@ -9,7 +10,7 @@ import { LIST_WORDS } from './words_list.js';
 export const LANGUAGES = ['en', 'nl', 'fr', 'ru'];
 
 /** Each text in English, Dutch, French and Russian. A number or a text stands for `#`. */
-const TEXTS = { ...BOARD_WORDS, ...ANSWER_WORDS, ...LIST_WORDS };
+const TEXTS = { ...BOARD_WORDS, ...ANSWER_WORDS, ...LIST_WORDS, ...NAME_WORDS };
 
 /** @typedef {keyof typeof TEXTS} Key */
 

@@ -1,6 +1,7 @@
 /** The problem in the address and in the browser, and the link that shares it. */
 import { byId, control, copyText } from './dom.js';
 import { addressIn, addressOf } from './keep.js';
+import { lineOfName, NO_NAME, NAME_PARTS } from './naming.js';
 import { fenOf, positionOf } from './position.js';
 
 /**
@@ -31,14 +32,14 @@ export class Link {
         });
         byId('share').addEventListener('click', () => void this.share());
         app.on(['edited', 'looked', 'spoken'], () => { byId('shared').hidden = true; });
-        app.on(['edited', 'looked', 'answered'], () => this.keep());
+        app.on(['edited', 'looked', 'answered', 'named'], () => this.keep());
         byId('most').addEventListener('change', () => this.keep());
     }
 
     /** The address of the problem. */
     get address() {
-        const { subject } = this.app;
-        return { fen: fenOf(subject), n: this.most.value || EXAMPLE_MOVES, rows: subject.rows };
+        const { subject, names } = this.app;
+        return { fen: fenOf(subject), n: this.most.value || EXAMPLE_MOVES, rows: subject.rows, ...names.of(subject) };
     }
 
     /** Takes the position, the number of moves and the board of the address, before those that were kept. */
@@ -47,7 +48,9 @@ export class Link {
         const asked = said.fen === undefined ? { ...kept, ...said } : said, rows = asked.rows === 8 ? 8 : 10;
         if (asked.n) this.most.set(asked.n);
         const text = asked.fen ?? EXAMPLE, { fen, refused } = await app.rules.read(text, rows);
-        const position = positionOf(refused ? 'W:W:B' : fen, rows);
+        const position = positionOf(refused ? 'W:W:B' : fen, rows), naming = { ...NO_NAME };
+        for (const [part] of NAME_PARTS) naming[part] = said[part] ?? '';
+        if (!refused && lineOfName(naming)) app.names.put(position, naming);
         if (!this.isBegun) app.history.now = position;
         this.isBegun = true;
         app.edit(position);

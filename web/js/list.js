@@ -1,12 +1,14 @@
-/** The collection on the page: opened, judged, saved. */
+/** The collection on the page: what is in it, opened, added to, judged. */
 import { Cards } from './cards.js';
-import { decided, stateOf } from './collection.js';
-import { byId, control, reveal, save } from './dom.js';
+import { byId, control, reveal } from './dom.js';
 import { judgeAll } from './judging.js';
+import { CardForm } from './list_edit.js';
+import { ListFiles } from './list_files.js';
+import { lineOfName, namedTags, namingOf } from './naming.js';
 import { isPdn, problemsIn } from './open.js';
 import { hasMoves } from './pdn.js';
 import { fenOf, positionOf } from './position.js';
-import { gameFiles, ownGame, pageFiles, rowFiles } from './saving.js';
+import { ownGame } from './saving.js';
 import { Work } from './work.js';
 
 /**
@@ -14,7 +16,6 @@ import { Work } from './work.js';
  * @typedef {import('./collection.js').Item} Item
  * @typedef {import('./number.js').MovesField} MovesField
  * @typedef {import('./problems.js').Problems} Problems
- * @typedef {import('./saving.js').SavedFile} SavedFile
  */
 
 /** The largest file, in bytes. */
@@ -41,7 +42,13 @@ export class ListView {
         this.work = new Work(app, () => this.showState());
         /** @type {string} The name of the card that was clicked last. */
         this.chosen = '';
-        this.cards = new Cards(app, (item) => this.choose(item));
+        this.form = new CardForm(app, this);
+        this.cards = new Cards(app, {
+            choose: (item) => this.choose(item), edit: (item) => this.form.open(item),
+            key: (item, event) => this.form.onKey(item, event),
+        });
+        this.cards.items = this.items;
+        this.files = new ListFiles(app, this);
         app.gameOf = (position) => {
             const fen = fenOf(position);
             const fits = this.items.filter((item) => item.fen === fen && hasMoves(item.movetext));
@@ -51,16 +58,19 @@ export class ListView {
         this.listen();
         this.listenToOthers();
         app.on(['spoken'], () => this.showState());
+        app.on(['edited', 'looked', 'named'], () => this.fillForm());
         void this.show();
     }
 
     listen() {
         const on = (/** @type {string} */ id, /** @type {() => void} */ act) => byId(id).addEventListener('click', act);
-        const file = control('file', HTMLInputElement);
-        file.addEventListener('change', () => {
-            if (file.files?.[0]) void this.open(file.files[0]);
-            file.value = '';
-        });
+        for (const id of ['file', 'own-file']) {
+            const file = control(id, HTMLInputElement);
+            file.addEventListener('change', () => {
+                if (file.files?.[0]) void this.open(file.files[0], id === 'own-file');
+                file.value = '';
+            });
+        }
         document.addEventListener('dragenter', (event) => event.preventDefault());
         document.addEventListener('dragover', (event) => event.preventDefault());
         document.addEventListener('drop', (event) => {
@@ -74,13 +84,9 @@ export class ListView {
         });
         on('judge-all', () => void this.judge());
         on('judge-stop', () => this.work.stop());
-        on('save-pdn', () => void this.save((signal) =>
-            gameFiles(this.app, this.items, { keepsMoves: control('keep-moves', HTMLInputElement).checked, signal })));
-        on('save-page', () => void this.save((signal) => pageFiles(this.app, this.items, signal),
-            this.items.length));
-        on('save-json', () => void this.save(async () => rowFiles(this.items)));
         on('forget', () => void this.forget());
         on('bring-back', () => void this.bringBack());
+        for (const id of ['filter', 'sort']) byId(id).addEventListener('change', () => this.files.draw());
     }
 
     /** Takes over what other windows do to the list. */
@@ -109,15 +115,28 @@ export class ListView {
         const { app } = this, position = positionOf(item.fen, item.rows), entry = app.book.of(position);
         this.chosen = item.id;
         if (item.row?.n && !entry.moves) entry.mendMoves = String(item.row.n);
+        const naming = namingOf(item.tags);
+        if (lineOfName(naming)) app.names.put(position, naming);
         app.edit(position);
         byId('board').scrollIntoView({ block: 'nearest' });
+    }
+
+    /** The form by which the position on the board is added has its name. */
+    fillForm() {
+        const naming = this.app.names.of(this.app.position);
+        for (const part of /** @type {const} */ (['title', 'author'])) {
+            const field = control(`add-${part}`, HTMLInputElement);
+            if (document.activeElement !== field) field.value = naming[part];
+        }
     }
 
     /**
      * Takes the problems of a file to the list. The program reads them; what it refuses is shown at its place.
      * @param {File} file
+     * @param {boolean} [isOwn] Whether it is one's own file, whose problems are the list.
      */
-    async open(file) {
+    async open(file, isOwn = false) {
+        const isAll = isOwn || control('file-way', HTMLSelectElement).value === 'replace';
         byId('tab-collection').click();
         if (file.size > LARGEST) {
             this.work.tell('tooLarge');
@@ -129,34 +148,34 @@ export class ListView {
             const bytes = new Uint8Array(await file.arrayBuffer());
             const content = { bytes, isGames: isPdn(file.name, bytes) };
             const found = await problemsIn(this.app, content, this.problems.namer());
+            if (isAll && this.items.length) await this.forget();
             this.work.tell();
-            await this.take(found);
+            await this.put(found);
         } catch (error) {
             this.work.tellFailure(error);
         }
     }
 
-    /** Adds the position that questions are about, with a title and an author. */
+    /** Adds the position on the board, with its name. */
     async add() {
         const { app } = this;
         const value = (/** @type {string} */ id) => control(id, HTMLInputElement).value.trim();
-        const tags = /** @type {import('./pdn.js').Tag[]} */ ([['Event', value('add-title')],
-            ['White', value('add-author')]].filter(([, text]) => text));
         if (await app.fault()) {
             this.work.tell('faultFirst');
             return;
         }
-        control('add-title', HTMLInputElement).value = '';
+        const naming = { ...app.names.of(app.position), title: value('add-title'), author: value('add-author') };
+        app.name(app.position, naming);
         this.work.tell();
-        const { rows } = app.position, id = this.problems.namer()();
-        await this.take([{ id, rows, fen: app.fen, tags, movetext: '', refused: '', row: null }]);
+        const { rows } = app.position, id = this.problems.namer()(), tags = namedTags([], naming);
+        await this.put([{ id, rows, fen: app.fen, tags, movetext: '', refused: '', row: null }]);
     }
 
     /**
      * Adds problems to the list.
      * @param {Item[]} more
      */
-    async take(more) {
+    async put(more) {
         this.items = this.items.concat(more);
         const shown = this.show();
         await this.problems.add(more);
@@ -169,21 +188,21 @@ export class ListView {
         const { items } = this;
         this.work.stop();
         this.items = [];
-        const emptied = this.problems.empty(items);
+        const emptied = this.problems.putAside(items, true);
         this.work.tell();
         await Promise.all([emptied, this.show()]);
         this.showState();
     }
 
-    /** Brings the list back that was emptied last. */
+    /** Brings back what was deleted last: a problem, or the whole list. */
     async bringBack() {
         const back = await this.problems.restore();
-        this.items = [...back, ...this.items].sort((a, b) => (a.id < b.id ? -1 : 1));
+        this.items = this.problems.sorted([...back, ...this.items]);
         await this.show();
     }
 
-    /** Judges all problems of which more may be told. Answers whether that was not stopped. */
-    async judge() {
+    /** Judges problems of which more may be told. Answers whether that was not stopped. */
+    async judge(items = this.items) {
         const most = this.most.ask();
         if (!most) return false;
         const told = (/** @type {Item} */ item, /** @type {NonNullable<Item['row']>} */ row) => {
@@ -195,26 +214,9 @@ export class ListView {
         };
         byId('list').dataset.state = 'judging';
         const isDone = await this.work.run('searching', (signal) =>
-            judgeAll(this.app, this.items, { most, signal, told }));
+            judgeAll(this.app, items, { most, signal, told }));
         await this.show();
         return isDone;
-    }
-
-    /**
-     * Saves files, once all problems are judged.
-     * @param {(signal: AbortSignal) => Promise<SavedFile[]>} write
-     * @param {number} [count] How many problems there should be in them, if those that are left out are to be told.
-     */
-    async save(write, count = 0) {
-        if (this.items.some((item) => stateOf(item) === 'open') && !await this.judge()) return;
-        /** @type {SavedFile[]} */
-        let files = [];
-        if (!await this.work.run('saving', async (signal) => { files = await write(signal); })) return;
-        for (const { name, content, type } of files) save(name, content, type);
-        const names = files.map(({ name }) => name).join(', '), left = count ? count - decided(this.items).length : 0;
-        byId('list').dataset.saved = files[0]?.name ?? '';
-        this.work.say(() => [names ? this.app.say('saved', names) : '', left ? this.app.say('leftOut', left) : '']
-            .filter(Boolean).join('. '));
     }
 
     /** Shows the list anew. */
@@ -238,6 +240,9 @@ export class ListView {
         const kept = items.filter(({ id }) => problems.kept.has(id)).length;
         byId('kept').textContent = kept === count && (count || problems.isAllowed) ? app.say('kept')
             : kept ? app.say('fullStore', kept, count) : app.say('notKept');
-        reveal('bring-back', problems.hasEmptied);
+        const { countEmptied, isListAside } = problems;
+        reveal('bring-back', countEmptied > 0);
+        byId('bring-back').textContent = isListAside ? app.say('bringBack') : app.say('bringOneBack', countEmptied);
+        this.files.draw();
     }
 }

@@ -6,10 +6,15 @@ import { breathe, byId, chooseOne, control } from './dom.js';
 import { followText } from './fen_field.js';
 import { Improving } from './improve.js';
 import { Store } from './keep.js';
+import { listenToKeys } from './keys.js';
 import { keyOf, languageOf } from './languages.js';
+import { followWindow } from './layout.js';
 import { Link } from './link.js';
 import { ListView } from './list.js';
+import { NamingView } from './naming_view.js';
 import { MovesField, movesIn } from './number.js';
+import { Paper } from './paper.js';
+import { PictureView } from './picture_view.js';
 import { Play } from './play.js';
 import { Problems } from './problems.js';
 import { SetUp } from './setup.js';
@@ -97,6 +102,16 @@ function chooseTab() {
 }
 
 /**
+ * How much of a solution is shown, which is kept.
+ * @param {Store} store
+ */
+function keepDepth(store) {
+    const field = control('depth', HTMLSelectElement), kept = store.get('settings')?.depth;
+    if (['main', 'longest'].includes(kept)) field.value = kept;
+    field.addEventListener('change', () => store.change('settings', { depth: field.value }));
+}
+
+/**
  * The number of moves of the collection, which is kept.
  * @param {App} app
  * @param {Store} store
@@ -114,15 +129,21 @@ function movesOfList(app, store) {
 export async function start() {
     const maker = makerOfWorkers(), store = new Store(() => localStorage);
     const processors = Math.max(1, navigator.hardwareConcurrency || 2);
-    const app = new App(new Workers(maker, processors), new Workers(maker, 2), new Workers(maker, 1));
+    const app = new App(new Workers(maker, processors), new Workers(maker, 2), new Workers(maker, 1),
+        store);
+    followWindow();
     chooseLanguage(app, store);
     await breathe();
     const most = new MovesField(app, 'most'), play = new Play(app), link = new Link(app, store, most);
-    new SetUp(app, play);
+    const setUp = new SetUp(app, play);
     followText(app);
+    new NamingView(app);
+    new PictureView(app, () => setUp.isTurned);
     await breathe();
     const solving = new Solving(app, most);
-    new AnswerView(app, solving);
+    keepDepth(store);
+    listenToKeys(app, new AnswerView(app, solving), play);
+    new Paper(app, solving, store);
     new Comparing(app);
     new Improving(app, new MovesField(app, 'mend-n'));
     new ListView(app, new Problems(() => localStorage), movesOfList(app, store));

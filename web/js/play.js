@@ -1,6 +1,7 @@
 /** Playing from the position on the board: legal moves are those that `dw` lists. */
 import { byId, control, make, reveal } from './dom.js';
 import { fenOf } from './position.js';
+import { numbered } from './tree.js';
 
 /**
  * @typedef {import('./app.js').App} App
@@ -12,7 +13,7 @@ import { fenOf } from './position.js';
  * The squares that a move's text names: where it begins, perhaps those of its captures, where it ends.
  * @param {string} move
  */
-const squaresIn = (move) => move.split(/[-x]/).map(Number);
+export const squaresIn = (move) => move.split(/[-x]/).map(Number);
 
 /** @param {Legal} legal */
 const startOf = ({ move }) => squaresIn(move)[0];
@@ -22,6 +23,9 @@ const endOf = ({ move }) => squaresIn(move)[squaresIn(move).length - 1];
 
 /** @param {Line} line */
 const endOfLine = ({ first, played }) => played[played.length - 1]?.fen ?? first;
+
+/** @param {Line} line */
+const lastOfLine = ({ played }) => played[played.length - 1]?.move ?? '';
 
 /** A play, move by move. The moves are kept with the problem. */
 export class Play {
@@ -57,7 +61,7 @@ export class Play {
     turn(isOn) {
         const { app } = this;
         app.isPlaying = isOn;
-        if (isOn && !app.looked) app.look(endOfLine(this.line));
+        if (isOn && !app.looked) app.look(endOfLine(this.line), lastOfLine(this.line));
         else app.tell('looked');
     }
 
@@ -98,7 +102,7 @@ export class Play {
         const { line } = this, again = line.undone[line.undone.length - 1];
         line.undone = again?.fen === legal.fen ? line.undone.slice(0, -1) : [];
         line.played = [...line.played, legal];
-        this.app.look(legal.fen);
+        this.app.look(legal.fen, legal.move);
     }
 
     /** Whether a move can be taken back, or played again. */
@@ -120,7 +124,7 @@ export class Play {
      */
     goBack(count) {
         this.takeMovesBack(count);
-        this.app.look(endOfLine(this.line));
+        this.app.look(endOfLine(this.line), lastOfLine(this.line));
     }
 
     /** @param {number} count */
@@ -128,6 +132,33 @@ export class Play {
         const { line } = this, kept = Math.max(line.played.length - count, 0);
         line.undone = [...line.undone, ...line.played.slice(kept).reverse()];
         line.played = line.played.slice(0, kept);
+    }
+
+    /**
+     * Goes some moves on, or back if they are fewer than none. Answers whether there was one.
+     * @param {number} count
+     */
+    step(count) {
+        const { line } = this;
+        if (count < 0 ? !this.canTakeBack : !this.canReplay) return false;
+        if (count < 0) {
+            this.goBack(-count);
+            return true;
+        }
+        const again = line.undone.slice(-count).reverse();
+        line.undone = line.undone.slice(0, line.undone.length - again.length);
+        line.played = [...line.played, ...again];
+        this.app.look(endOfLine(line), lastOfLine(line));
+        return true;
+    }
+
+    /** Leaves the piece alone that was chosen. Answers whether there was one. */
+    cancel() {
+        if (!this.isOn || !this.chosen) return false;
+        this.chosen = 0;
+        reveal('choice', false);
+        this.app.tell('answered');
+        return true;
     }
 
     /** Plays the move again that was taken back last. */
@@ -145,6 +176,28 @@ export class Play {
 
     fromChosen() {
         return this.isOn && this.chosen ? (this.legal ?? []).filter((legal) => startOf(legal) === this.chosen) : [];
+    }
+
+    /**
+     * A piece is dragged: it is chosen, as by a click.
+     * @param {number} square
+     */
+    lift(square) {
+        if (!this.legal?.some((legal) => startOf(legal) === square)) return;
+        this.chosen = square;
+        reveal('choice', false);
+        this.app.tell('answered');
+    }
+
+    /**
+     * A piece that was dragged is put down: a move is played if it is one.
+     * @param {number} from
+     * @param {number} to
+     */
+    drop(from, to) {
+        if (this.chosen !== from) return;
+        if (this.fromChosen().some((legal) => endOf(legal) === to)) this.click(to);
+        else this.cancel();
     }
 
     /** @param {number} square */
@@ -177,15 +230,12 @@ export class Play {
 
     /** Shows what was played. */
     show() {
+        reveal('played', this.isOn);
         if (!this.isOn) return;
         const { app } = this, { first, played } = this.line, side = app.position.turn === 'W' ? 'white' : 'black';
         const isOver = this.legalIn === app.fen && this.legal?.length === 0;
-        const start = first.startsWith('B') ? 1 : 0;
-        const text = played.map(({ move }, i) => {
-            const ply = i + start;
-            return `${ply % 2 ? (i ? '' : `${(ply + 1) / 2}... `) : `${ply / 2 + 1}. `}${move}`;
-        });
-        byId('played').textContent = [...text, ...(isOver ? [app.say('noMoves', app.say(side))] : [])].join(' ');
+        const text = numbered(first, played.map(({ move }) => move));
+        byId('played').textContent = [text, isOver ? app.say('noMoves', app.say(side)) : ''].filter(Boolean).join(' ');
         control('take-back', HTMLButtonElement).disabled = played.length === 0;
         control('play-start', HTMLButtonElement).disabled = played.length === 0;
     }

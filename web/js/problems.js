@@ -5,10 +5,17 @@
 
 import { piecewise } from './dom.js';
 
-/** @typedef {import('./collection.js').Item} Item */
+/**
+ * @typedef {import('./collection.js').Item} Item
+ * @typedef {Item & {aside?: number, isWhole?: boolean}} Aside A problem that was put aside: when, and whether with the
+ *     whole list.
+ */
 
 /** What the names begin with: of problems in the list, of those of the list that was emptied last. */
 const LISTED = 'dw-board problem ', EMPTIED = 'dw-board emptied ';
+
+/** The name of the order of the list. */
+const LIST_ORDER = 'dw-board order';
 
 /** A name under which nothing stays. */
 const PROBE = 'dw-board probe';
@@ -26,8 +33,9 @@ export class Problems {
         this.storage = storage;
         /** The names of the problems that are kept. */
         this.kept = new Set();
-        /** Whether there is a list that was emptied. */
-        this.hasEmptied = false;
+        /** How many problems can be brought back, and whether they are a whole list. */
+        this.countEmptied = 0;
+        this.isListAside = false;
         /** Whether the browser let the page keep what it tried to keep last. */
         this.isAllowed = true;
         /** What is being kept. */
@@ -88,11 +96,41 @@ export class Problems {
 
     /** The list. */
     load() {
-        const items = this.read(LISTED);
+        const items = this.sorted(this.read(LISTED));
         this.kept = new Set(items.map(({ id }) => id));
-        this.hasEmptied = this.emptied().length > 0;
+        this.countAside();
         this.probe();
         return items;
+    }
+
+    /** The order in which the problems were put by hand: their names. Those that came later are not in it. */
+    order() {
+        /** @type {string[]} */
+        let order = [];
+        this.attempt((storage) => { order = JSON.parse(storage.getItem(LIST_ORDER) ?? '[]'); });
+        return order;
+    }
+
+    /**
+     * Keeps the order of the list. The names of problems that were put aside stay where they were.
+     * @param {string[]} names
+     */
+    arrange(names) {
+        const inList = new Set(names), before = this.order(), put = [...names];
+        before.forEach((name, i) => {
+            if (!inList.has(name)) put.splice(put.indexOf(before[i - 1]) + 1, 0, name);
+        });
+        this.attempt((storage) => storage.setItem(LIST_ORDER, JSON.stringify(put)));
+    }
+
+    /**
+     * Problems in the order of the list.
+     * @param {Item[]} items
+     */
+    sorted(items) {
+        const places = new Map(this.order().map((name, i) => [name, i]));
+        const place = (/** @type {Item} */ { id }) => places.get(id) ?? places.size;
+        return [...items].sort((a, b) => place(a) - place(b) || (a.id < b.id ? -1 : 1));
     }
 
     /** Tries whether the browser lets the page keep something. */
@@ -103,9 +141,17 @@ export class Problems {
         });
     }
 
-    /** The list that was emptied last. */
-    emptied() {
-        return this.read(EMPTIED);
+    /** The problems that were put aside last, and can be brought back. */
+    aside() {
+        const items = /** @type {Aside[]} */ (this.read(EMPTIED));
+        const last = Math.max(...items.map(({ aside = 0 }) => aside));
+        return items.filter(({ aside = 0 }) => aside === last);
+    }
+
+    countAside() {
+        const items = this.aside();
+        this.countEmptied = items.length;
+        this.isListAside = items.some(({ isWhole = true }) => isWhole);
     }
 
     /**
@@ -138,33 +184,37 @@ export class Problems {
     }
 
     /**
-     * Puts the list aside, in place of the one that was before.
+     * Puts problems aside, so that they can be brought back. The whole list takes the place of all that was put aside.
      * @param {Item[]} items
+     * @param {boolean} isWhole Whether they are the whole list.
      */
-    empty(items) {
+    putAside(items, isWhole) {
         return this.follow(async () => {
-            const kept = items.filter(({ id }) => this.kept.has(id));
-            this.kept.clear();
+            const kept = items.filter(({ id }) => this.kept.has(id)), aside = Date.now();
+            for (const { id } of items) this.kept.delete(id);
             this.probe();
-            await this.forget(EMPTIED);
+            if (isWhole) await this.forget(EMPTIED);
             await piecewise(kept, (item) => {
                 this.attempt((storage) => {
                     storage.removeItem(LISTED + item.id);
-                    storage.setItem(EMPTIED + item.id, JSON.stringify(item));
+                    storage.setItem(EMPTIED + item.id, JSON.stringify({ ...item, aside, isWhole }));
                 });
             });
-            this.hasEmptied = kept.length > 0;
+            this.countAside();
         });
     }
 
-    /** Puts the list back that was put aside, and answers it. */
+    /** Puts the problems back that were put aside last, and answers them. */
     async restore() {
         await this.last;
-        const items = this.emptied();
-        this.hasEmptied = false;
-        await this.follow(() => this.forget(EMPTIED));
-        await this.add(items);
-        return items;
+        const items = this.aside();
+        await this.follow(() => piecewise(items, ({ id }) => {
+            this.attempt((storage) => storage.removeItem(EMPTIED + id));
+        }));
+        const back = items.map(({ aside: _, isWhole: __, ...item }) => item);
+        await this.add(back);
+        this.countAside();
+        return back;
     }
 
     /** @param {string} front */
@@ -181,7 +231,7 @@ export class Problems {
      */
     onChange(act) {
         addEventListener('storage', ({ key }) => {
-            if (key === null || key.startsWith(LISTED)) act();
+            if (key === null || key === LIST_ORDER || key.startsWith(LISTED)) act();
         });
     }
 }

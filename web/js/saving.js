@@ -12,6 +12,9 @@ import { boardOf } from './rules.js';
  * @typedef {{name: string, content: string, type: string}} SavedFile
  */
 
+/** The tag of a game on 8 rows in one's own file. */
+const EIGHT = ['GameType', '26'];
+
 /**
  * The tags of a game that is written: those of the item, and those that say its board and its position.
  * @param {Item} item
@@ -26,6 +29,16 @@ function tagsOf({ rows, fen, tags }) {
  * @param {Item} item
  */
 export const ownGame = (item) => (item.refused ? `${closed(item.movetext)}\n\n` : gameOf(tagsOf(item), item.movetext));
+
+/**
+ * The whole list as one file, each problem as it stands. The tag of a game says that its board has 8 rows.
+ * @param {Item[]} items
+ */
+export const ownFile = (items) => items.map((item) => {
+    const isMarked = item.rows === 8 && !item.refused && valueOf(item.tags, 'GameType') === '';
+    const tags = isMarked ? [...item.tags, /** @type {Tag} */ (EIGHT)] : item.tags;
+    return ownGame({ ...item, tags });
+}).join('');
 
 /**
  * The game of an item with its solution. The comments of its file stay, in front.
@@ -69,7 +82,7 @@ export function pageFiles(app, items, signal) {
     return Promise.all(byBoard(decided(items)).map(async ({ rows, items: own }, i) => {
         const most = Math.max(...own.map((item) => item.row?.n ?? 1));
         const words = ['dw-desk', 'page', '--pdn', ...boardOf(rows), '--most', String(most), '--lang', app.language,
-            '--title', app.say('title'), '--numbers'];
+            '--title', app.heading() || app.say('title'), '--numbers'];
         const games = own.map((item) => gameOf(tagsOf(item), '*')).join('');
         const content = reportOf(await app.searches.ask(words, games, signal));
         return { name: fileName('html', i, rows), content, type: 'text/html' };

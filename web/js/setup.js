@@ -6,6 +6,7 @@ import {
     emptyBoard, exchanged, mirrored, onBoard, opening, withMoved, withPiece,
 } from './position.js';
 import { keyOf } from './languages.js';
+import { squaresIn } from './play.js';
 import { squareCount } from './squares.js';
 
 /**
@@ -37,7 +38,8 @@ export class SetUp {
         this.isTurned = false;
         this.view = new BoardView(byId('board'), {
             click: (square) => (play.isOn ? play.click(square) : this.put(square)),
-            move: (from, to) => app.edit(withMoved(app.position, from, to)),
+            lift: (square) => { if (play.isOn) play.lift(square); },
+            move: (from, to) => (play.isOn ? play.drop(from, to) : app.edit(withMoved(app.position, from, to))),
             erase: (square) => app.edit(withPiece(app.position, square, null)),
             place: (square, piece) => app.edit(withPiece(app.position, square, piece)),
             name: (square, piece) => `${app.say('square', square)}, ${app.say(piece ? NAMES[piece] : 'emptySquare')}`,
@@ -82,7 +84,7 @@ export class SetUp {
         on('look-back', () => app.look(null));
         on('flip', () => {
             this.isTurned = !this.isTurned;
-            this.draw();
+            app.tell('answered');
         });
         byId('skip').addEventListener('click', (event) => {
             event.preventDefault();
@@ -134,20 +136,23 @@ export class SetUp {
     draw() {
         const { app, play } = this, { position } = app, isEdited = !play.isOn && !app.isReplay;
         const faulty = new Set(this.faulty());
-        this.view.show(position, { isTurned: this.isTurned, isEdited, faulty, ...play.marks() });
+        const { isTurned } = this, { isReplay } = app;
+        const path = app.lastMove ? squaresIn(app.lastMove) : [];
+        this.view.show(position, { isTurned, isEdited, isReplay, faulty, path, ...play.marks() });
         control('turn', HTMLSelectElement).value = position.turn;
         control('rows', HTMLSelectElement).value = String(position.rows);
         for (const id of EDITORS) byId(id).toggleAttribute('disabled', app.isReplay);
         byId('drop-rows').textContent = app.say(position.rows === 8 ? 'rows8' : 'rows10');
         reveal('palette', !play.isOn);
         reveal('play-tools', play.isOn);
-        byId('side').textContent = app.say(position.turn === 'W' ? 'whiteToMove' : 'blackToMove');
         reveal('looked', app.looked !== null);
+        reveal('turn-field', app.looked === null);
         const hint = matchMedia('(hover: none)').matches ? 'holdHint' : 'boardHint';
         byId('board-hint').textContent = app.say(play.isOn ? 'playHint' : app.isReplay ? 'replayHint' : hint);
         const fault = faulty.size ? faultOf(app.refused) : null, why = keyOf(`fault${fault?.number}`);
         byId('board-fault').textContent = why ? app.say(why, squareCount(position.rows)) : '';
         reveal('board-fault', faulty.size > 0);
+        reveal('named', faulty.size === 0);
         control('undo', HTMLButtonElement).disabled = !play.canTakeBack && app.history.before.length === 0;
         control('redo', HTMLButtonElement).disabled = !play.canReplay && app.history.after.length === 0;
     }

@@ -1,11 +1,18 @@
-/** A solution as a tree of moves that one goes through by clicks and arrow keys. */
+/** A solution as a tree of moves: the main line first, then each variation on a line of its own, farther in. */
 import { make } from './dom.js';
-import { nodesOf, numberOf } from './tree.js';
+import { nodesOf, numberOf, Reading } from './tree.js';
 
-/** @typedef {import('./tree.js').Node} Node */
+/**
+ * @typedef {import('./tree.js').Node} Node
+ * @typedef {import('./tree.js').Depth} Depth
+ * @typedef {'back' | 'on' | 'before' | 'after' | 'start' | 'end'} Step
+ */
 
 /** How many moves are shown before variations are folded, and how many each fold shows. */
 const SHOWN = 400, FOLD = 200;
+
+/** How far in a line stands at most. */
+const DEEPEST = 6;
 
 /** The tree on the page. */
 export class SolutionView {
@@ -24,84 +31,83 @@ export class SolutionView {
         this.nodes = new WeakMap();
         /** @type {Node | null} */
         this.tree = null;
+        /** @type {Reading | null} */
+        this.reading = null;
         /** @type {Node | null} */
         this.here = null;
         host.addEventListener('click', ({ target }) => this.onClick(target));
-        host.addEventListener('keydown', (event) => this.onKey(event));
     }
 
     /**
-     * Shows a tree, or none.
+     * Shows a tree, or none, as deep as is asked for. The move whose position is on the board stays, if it is shown.
      * @param {Node | null} tree
+     * @param {Depth} depth
      */
-    show(tree) {
-        this.tree = this.here = tree;
+    show(tree, depth) {
+        if (this.tree !== tree) this.here = tree;
+        this.tree = tree;
+        this.reading = tree && new Reading(tree, depth);
         this.shown.clear();
-        this.host.replaceChildren();
-        if (tree) this.write(this.host, tree, { left: SHOWN });
+        const first = tree && this.reading?.next(tree)[0];
+        this.host.replaceChildren(...(first ? this.lines(first, 0, { left: SHOWN }, true) : []));
         this.mark();
     }
 
     /**
-     * Writes what follows a node: the move that goes on, the others in brackets, and then what follows the first.
-     * @param {HTMLElement} host
-     * @param {Node} from
+     * The line of a move, and those of its variations.
+     * @param {Node} first
+     * @param {number} level How far in they stand.
      * @param {{left: number}} budget
+     * @param {boolean} isMain Whether other first moves belong to it.
+     * @returns {HTMLElement[]}
      */
-    write(host, from, budget) {
-        let isBegun = true;
-        for (let node = from; node.next.length; node = node.next[0]) {
-            const [first, ...others] = node.next;
-            host.append(this.button(first, isBegun), ' ');
-            budget.left -= 1;
-            for (const other of others) this.branch(host, other, budget);
-            isBegun = others.length > 0;
-        }
+    lines(first, level, budget, isMain = false) {
+        const reading = /** @type {Reading} */ (this.reading), line = reading.line(first);
+        const host = this.row(level);
+        line.forEach((node, i) => host.append(...(i ? [' '] : []), this.button(node, i === 0, level)));
+        budget.left -= line.length;
+        const starts = isMain && first.parent ? [first.parent, ...line] : line;
+        const others = starts.flatMap((node) => reading.next(node).slice(1));
+        return [host, ...others.flatMap((other) => this.branch(other, level + 1, budget))];
+    }
+
+    /** @param {number} level */
+    row(level) {
+        const shown = String(Math.min(level, DEEPEST));
+        return make('div', { class: level ? 'line variation' : 'line', role: 'group', 'data-level': shown });
     }
 
     /**
-     * Writes a variation, or the button that unfolds it.
-     * @param {HTMLElement} host
+     * The lines of a variation, or the button that unfolds them.
      * @param {Node} node
+     * @param {number} level
      * @param {{left: number}} budget
      */
-    branch(host, node, budget) {
-        const place = make('span', { class: 'variation' }), rest = nodesOf(node).length;
-        host.append(place, ' ');
-        if (budget.left > 0 || rest === 0) {
-            this.fill(place, node, budget);
-            return;
-        }
-        const fold = make('button', { type: 'button', class: 'fold' }, this.nameFold(rest));
+    branch(node, level, budget) {
+        const rest = nodesOf(node).length;
+        if (budget.left > 0 || rest === 0) return this.lines(node, level, budget);
+        const host = this.row(level);
+        const data = { role: 'treeitem', 'aria-expanded': 'false', 'aria-level': String(level + 1) };
+        const fold = make('button', { type: 'button', class: 'fold', ...data }, this.nameFold(rest));
         fold.addEventListener('click', () => {
-            place.replaceChildren();
-            this.fill(place, node, { left: FOLD });
+            for (const line of this.lines(node, level, { left: FOLD })) this.host.insertBefore(line, host);
+            host.remove();
             this.go(node);
         });
-        place.append('(', this.button(node, true), ' ', fold, ')');
-    }
-
-    /**
-     * @param {HTMLElement} place
-     * @param {Node} node
-     * @param {{left: number}} budget
-     */
-    fill(place, node, budget) {
-        place.append('(', this.button(node, true), ' ');
-        budget.left -= 1;
-        this.write(place, node, budget);
-        if (place.lastChild?.textContent === ' ') place.lastChild.remove();
-        place.append(')');
+        host.append(this.button(node, true, level), ' ', fold);
+        return [host];
     }
 
     /**
      * @param {Node} node
      * @param {boolean} isBegun
+     * @param {number} level
      */
-    button(node, isBegun) {
-        const data = { 'data-fen': node.fen, 'data-move': node.move };
+    button(node, isBegun, level) {
+        const data = { 'data-fen': node.fen, 'data-move': node.move, 'aria-level': String(level + 1) };
+        const name = node.depth % 2 ? 'move attacker' : 'move';
         const text = `${numberOf(node, isBegun)}${node.move}`;
-        const made = make('button', { type: 'button', class: 'move', tabindex: '-1', ...data }, text);
+        const made = make('button', { type: 'button', class: name, role: 'treeitem', tabindex: '-1', ...data }, text);
         this.shown.set(node, made);
         this.nodes.set(made, node);
         return made;
@@ -113,31 +119,24 @@ export class SolutionView {
         if (node) this.go(node);
     }
 
-    /** @param {KeyboardEvent} event */
-    onKey(event) {
-        if (!this.here) return;
-        const { key } = event;
-        const act = { ArrowLeft: 'back', ArrowRight: 'on', ArrowUp: 'before', ArrowDown: 'after', Home: 'start' }[key];
-        if (!act) return;
-        event.preventDefault();
-        this.step(/** @type {'back' | 'on' | 'before' | 'after' | 'start'} */ (act));
-    }
-
     /**
-     * Goes to the move before or after, to the start, or to another move in place of this one.
-     * @param {'back' | 'on' | 'before' | 'after' | 'start'} where
+     * Goes to the move before or after, to the start or the end, or to another move in place of this one. Answers
+     * whether there is one.
+     * @param {Step} where
      */
     step(where) {
-        const { here, tree } = this;
-        if (!here || !tree) return;
-        if (where === 'start') this.go(tree);
-        else if (where === 'back') this.go(here.parent ?? here);
-        else if (where === 'on') this.go(here.next[0] ?? here);
-        else {
-            const beside = here.parent?.next ?? [here];
-            const at = beside.indexOf(here) + (where === 'after' ? 1 : -1);
-            this.go(beside[at] ?? here);
-        }
+        const { tree, reading } = this, here = this.here ?? tree;
+        if (!here || !tree || !reading) return false;
+        const line = reading.line(here), beside = here.parent ? reading.next(here.parent) : [here];
+        const at = beside.indexOf(here);
+        const to = {
+            start: tree, back: here.parent, on: line[1], end: line[line.length - 1],
+            before: beside[at - 1], after: beside[at + 1],
+        }[where];
+        // (the board may show what is in no line, as a try)
+        if (!to || (to === here && where !== 'start')) return false;
+        this.go(to);
+        return true;
     }
 
     /** Goes to the start, without a word to others. */
@@ -175,7 +174,8 @@ export class SolutionView {
             else button.removeAttribute('aria-current');
             button.tabIndex = isHere ? 0 : -1;
         }
-        const first = this.tree?.next[0];
-        if (first && (!this.here || !this.here.parent)) /** @type {HTMLElement} */ (this.shown.get(first)).tabIndex = 0;
+        const first = this.tree && this.reading?.next(this.tree)[0];
+        const isAtStart = !this.here?.parent || !this.shown.has(this.here);
+        if (first && isAtStart) /** @type {HTMLElement} */ (this.shown.get(first)).tabIndex = 0;
     }
 }

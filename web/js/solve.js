@@ -3,6 +3,8 @@ import { Task } from './book.js';
 import { byId, control, copyText, save } from './dom.js';
 import { reportOf } from '../../package/engine.js';
 import { rowsOf } from './answers.js';
+import { namedTags } from './naming.js';
+import { gameOf } from './pdn.js';
 import { boardOf } from './rules.js';
 import { find } from './search.js';
 
@@ -40,6 +42,7 @@ export class Solving {
             void this.solve();
         });
         const on = (/** @type {string} */ id, /** @type {() => void} */ act) => byId(id).addEventListener('click', act);
+        on('solve-here', () => void this.solve());
         on('stop', () => this.stop());
         on('copy', () => void this.copy());
         on('certificate', () => void this.certify());
@@ -102,7 +105,7 @@ export class Solving {
         const { solve, firsts, certificate } = entry;
         for (const task of [solve, firsts, certificate]) task?.stop();
         entry.solve = entry.firsts = entry.certificate = entry.note = null;
-        entry.game = '';
+        entry.game = { asked: '', text: '' };
     }
 
     /** Asks what each first move does, shared by all processors. */
@@ -151,10 +154,13 @@ export class Solving {
         const { app, entry } = this, n = entry.moves;
         if (!n) return;
         const board = boardOf(entry.position.rows), lines = ['--lines', String(LINES)];
-        const words = ['dw-desk', 'solution', ...board, '-n', String(n), ...lines];
-        entry.game ||= reportOf(await app.solver.ask(words, `${entry.fen}\n`));
-        const isCopied = await copyText(entry.game);
-        if (!isCopied) save('problem.pdn', entry.game, 'text/plain');
+        const words = ['dw-desk', 'solution', '--pdn', ...board, '-n', String(n), ...lines];
+        const asked = gameOf([...namedTags([], app.names.of(entry.position)), ['FEN', entry.fen]], '*');
+        if (entry.game.asked !== asked) {
+            entry.game = { asked, text: reportOf(await app.solver.ask(words, asked)) };
+        }
+        const { text } = entry.game, isCopied = await copyText(text);
+        if (!isCopied) save('problem.pdn', text, 'text/plain');
         entry.note = isCopied ? { key: 'copied', values: [] } : { key: 'saved', values: ['problem.pdn'] };
         app.tell('answered');
     }

@@ -61,12 +61,6 @@ export const BOARD_WORDS = {
     flip: ['Turn the board', 'Bord draaien', 'Tourner le damier', 'Повернуть доску'],
     mirror: ['Mirror', 'Spiegelen', 'Miroir', 'Отразить'],
     exchange: ['Exchange colours', 'Kleuren verwisselen', 'Inverser les couleurs', 'Сменить цвета'],
-    lookedAt: [
-        'This is a later position.',
-        'Dit is een latere stand.',
-        'Ceci est une position ultérieure.',
-        'Это более поздняя позиция.',
-    ],
     lookBack: ['Back to the problem', 'Terug naar het probleem', 'Retour au problème', 'Назад к композиции'],
     fault1: [
         'The text begins with W or B: the side to move.',

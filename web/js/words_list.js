@@ -26,8 +26,6 @@ export const LIST_WORDS = {
         'Ajouter la position du damier',
         'Добавить позицию с доски',
     ],
-    problemTitle: ['Title', 'Titel', 'Titre', 'Название'],
-    author: ['Author', 'Auteur', 'Auteur', 'Автор'],
     add: ['Add', 'Voeg toe', 'Ajouter', 'Добавить'],
     judgeAll: ['Judge all', 'Beoordeel alle', 'Tout juger', 'Проверить все'],
     show: ['Show', 'Toon', 'Afficher', 'Показать'],

@@ -180,8 +180,14 @@ const KINDS = {
     button: class HTMLButtonElement extends Element {}, input: class HTMLInputElement extends Element {},
     select: class HTMLSelectElement extends Element {}, textarea: class HTMLTextAreaElement extends Element {},
     progress: class HTMLProgressElement extends Element {}, form: class HTMLFormElement extends Element {},
+    details: class HTMLDetailsElement extends Element { get open() { return this.hasAttribute('open'); } },
+    img: class HTMLImageElement extends Element {},
+    dialog: class HTMLDialogElement extends Element {
+        showModal() { this.flag('open', true); }
+        close() { this.flag('open', false); }
+    },
 };
-const EMPTY = new Set(['meta', 'link', 'input', 'path', 'circle', 'br']);
+const EMPTY = new Set(['meta', 'link', 'input', 'path', 'circle', 'br', 'img']);
 
 const made = (tag) => new (KINDS[tag] ?? Element)(tag);
 

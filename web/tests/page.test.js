@@ -117,7 +117,7 @@ test('a problem is solved; its solution is gone through; each first move is told
     await until(() => at('state').dataset.state === 'done');
     assert.equal(at('verdict').dataset.line, 'dual in 2: 1. 32-28 18-22 2. 27x18 / 28x17');
     const moves = at('solution').querySelectorAll('.move');
-    assert.deepEqual(moves.map(({ dataset }) => dataset.move), ['32-28', '18-22', '18-23', '28x19', '27x18', '28x17']);
+    assert.deepEqual(moves.map(({ dataset }) => dataset.move), ['32-28', '18-22', '27x18', '18-23', '28x19', '28x17']);
     moves[1].click();
     await fenIs('W:W27,28:B22');
     assert.equal(at('looked').hidden, false);
@@ -205,18 +205,19 @@ test('a file of problems is listed, judged, saved, emptied and brought back', as
     at('file').files = [{ name: 'a.pdn', size: bytes.length, arrayBuffer: async () => bytes.buffer }];
     at('file').fire('change');
     await until(() => at('list').dataset.count === '2' && at('list').dataset.state === 'done');
-    assert.match(at('list').textContent, /^1\. <b>White to play. Not judged2\. Refused: 1 fen: 1 turn at 1$/);
+    const cards = () => at('list').querySelectorAll('.card');
+    assert.match(at('list').textContent, /^1\. <b>White to play. Not judged…2\. Refused: 1 fen: 1 turn at 1…$/);
     for (const [kind, name] of [['pdn', 'problems.pdn'], ['page', 'problems.html'], ['json', 'problems.json']]) {
         at(`save-${kind}`).click();
         await until(() => at('list').dataset.saved === name);
     }
-    assert.deepEqual(at('list').children.map((card) => card.dataset.state), ['dual', 'refused']);
+    assert.deepEqual(cards().map((card) => card.dataset.state), ['dual', 'refused']);
     assert.match(at('list-state').textContent, /2 problems, 2 judged$/);
     at('add-title').value = 'Mine';
     at('add-go').click();
     await until(() => at('list').dataset.count === '3');
     at('judge-all').click();
-    await until(() => at('list').children[2]?.dataset.state === 'dual' && !at('judge-all').disabled);
+    await until(() => cards()[2]?.dataset.state === 'dual' && !at('judge-all').disabled);
     set('filter', 'refused');
     await until(() => at('list').children.length === 1);
     set('filter', '');
@@ -229,6 +230,49 @@ test('a file of problems is listed, judged, saved, emptied and brought back', as
     at('file').files = [{ name: 'large.pdn', size: 10_000_001 }];
     at('file').fire('change');
     await until(() => /10 MB/.test(at('list-state').textContent));
+});
+
+test('the problem has a name, and its card takes it', async () => {
+    const named = () => [at('named-name').textContent, at('named-task').textContent];
+    assert.deepEqual(named(), ['<b>', 'White to play']);
+    set('name-author', ' A. Composer ', 'input');
+    assert.deepEqual(named(), ['<b>, A. Composer', 'White to play']);
+    assert.match(at('list').textContent, /^1\. <b>, A\. Composer/);
+    assert.equal(location.hash, `#fen=${DUAL}&n=4&title=%3Cb%3E&author=A.+Composer`);
+    square(50).click();
+    await fenIs('W:W27,32:B18,K50');
+    assert.deepEqual(named(), ['', 'White to play']);
+    assert.match(at('name-before').textContent, /<b>, A\. Composer$/);
+    at('undo').click();
+    await fenIs(DUAL);
+    assert.equal(at('name-author').value, 'A. Composer');
+});
+
+test('cards are edited, moved and deleted', async () => {
+    const titles = () => at('list').querySelectorAll('.card-title').map(({ textContent }) => textContent);
+    const edits = () => at('list').querySelectorAll('.edit');
+    await until(() => edits().length === 3);
+    edits()[2].click();
+    assert.ok(at('card-dialog').hasAttribute('open'));
+    assert.equal(at('card-title').value, 'Mine');
+    at('card-title').value = 'Spring';
+    at('card-number').value = '1';
+    at('card-keep').click();
+    await until(() => titles()[0] === '1. Spring');
+    assert.equal(titles()[1], '2. <b>, A. Composer');
+    const card = at('list').querySelectorAll('.card')[0];
+    card.fire('keydown', { key: 'ArrowDown', altKey: true });
+    await until(() => titles()[1] === '2. Spring');
+    at('list').querySelectorAll('.card')[1].fire('keydown', { key: 'Delete' });
+    await until(() => titles().length === 2 && /bring 1 problem back/.test(at('bring-back').textContent));
+    at('bring-back').click();
+    await until(() => titles()[1] === '2. Spring');
+    set('filter', 'refused');
+    await until(() => at('saves').textContent === 'Saves what is shown: 1 of 3 problems.');
+    set('filter', '');
+    at('own-save').click();
+    await until(() => at('list').dataset.saved === 'my-problems.pdn');
+    assert.match(await saved.at(-1).text(), /^\[Event "<b>"\]\n\[White "A\. Composer"\]\n.*\[Event "Spring"\]/s);
 });
 
 test('the link is copied, and another address is followed', async () => {

@@ -27,10 +27,11 @@ test('a position is found in what is pasted', () => {
     const fen = 'W:W27,32:B18', game = `[Event "x"]\n\n1. 2-0\n\n[fen "${fen}:H3:F10"]\n1. 32-28 18-22 *`;
     for (const text of [fen, ` ${fen}\n`, `${fen}:H0:F1`, `file:///home/board.html#fen=${encodeURIComponent(fen)}&n=2`,
         `https://lidraughts.org/editor/${fen}:H0:F1`, `https://x.org/?fen=${encodeURIComponent(fen)}&a=b`]) {
-        assert.deepEqual(pasted(text), { fen, movetext: '' }, text);
+        assert.deepEqual(pasted(text), { fen, movetext: '', tags: [] }, text);
     }
-    assert.deepEqual(pasted(game), { fen, movetext: '1. 32-28 18-22 *' });
-    assert.deepEqual(pasted(`[FEN "${fen}"] *`), { fen, movetext: '' });
+    assert.deepEqual(pasted(game), { fen, movetext: '1. 32-28 18-22 *', tags: [['fen', `${fen}:H3:F10`]] });
+    assert.deepEqual(pasted(`[White "A"] [FEN "${fen}"] *`).tags, [['White', 'A'], ['FEN', fen]]);
+    assert.deepEqual(pasted(`https://x.org/board.html#fen=${fen}&n=2&title=A+%26+b`).tags, [['Event', 'A & b']]);
     for (const text of ['', ',33', ' 33', ':F1', 'https://x.org/', 'https://x.org/%', '[Event "x"] 1. 32-28']) {
         assert.equal(pasted(text).fen.trim(), text.trim(), text);
     }
