@@ -1,5 +1,5 @@
 -- What a command does with the chosen games.
-use Rattle.std.proofs.Common.{◌≡◌, ℕ, Bool, List, [], ◌∷◌, Option, Some, None, refl, subst, ap}
+use Rattle.std.proofs.Common.{◌≡◌, ℕ, Bool, List, [], ◌∷◌, Option, Some, None, subst, ap}
 use Rattle.dw_board.specs.Geometry.{Geometry}
 use Rattle.dw_desk_commands.specs.Commands.{DoesIt, IsDone, Tells, form_for}
 use Rattle.dw_desk_commands.specs.Ending.{ending_after}

@@ -1,7 +1,7 @@
 -- The parts of a page.
 use Rattle.std.proofs.Common.{◌≡◌, ◌++◌, ◌∷◌, ◌∙◌, ◌+◌, ◌<◌, ◌≤◌, ap, refl, sym, subst, arith, ℕ, Bool, List, [], Bor}
 use Rattle.std.proofs.Common.{Option, Some, None, MatchOption, cond, flat_map, map, length, option_map, append-nil}
-use Rattle.std.proofs.Common.{Result, Ok, Err, IfOk, append_assoc, length-append, ◌⊎◌, inl, inr, true, false}
+use Rattle.std.proofs.Common.{append_assoc, length-append, ◌⊎◌, inl, inr, true, false}
 use Rattle.dw_notation.specs.Streams.{Appends}
 use Rattle.std.specs.List.{All, cons_option, count_by, filter_map}
 use Rattle.std.specs.Prelude.{codes}

@@ -1,5 +1,5 @@
 -- How the program ends after the problems that it reports, and if it fails.
-use Rattle.std.specs.Prelude.{◌≡◌, ℕ, ◌==◌, if◌then◌else◌, Bool, true, false, ⊤}
+use Rattle.std.specs.Prelude.{◌≡◌, ℕ, ◌==◌, if◌then◌else◌, Bool, true, ⊤}
 use Rattle.dw_arguments.specs.declared.portion.Portion.{Portion}
 use Rattle.dw_commands.specs.declared.ending.Ending.{Ending}
 use Rattle.dw_commands.specs.declared.ending.Ending.TheVariants as end

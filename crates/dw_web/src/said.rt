@@ -1,5 +1,5 @@
 //! The message of a program on standard error, written into a slice.
-ghost use Rattle.std.specs.Prelude.{◌≡◌, ◌≤◌, ℕ, List, Some, false, length};
+ghost use Rattle.std.specs.Prelude.{◌≡◌, ◌≤◌, ℕ, List, false, length};
 ghost use Rattle.std.specs.Borrow.{Bor};
 ghost use Rattle.dw_commands.specs.declared.ending.Ending.{Ending as AnyEnding};
 ghost use Rattle.dw_web.specs.Answers.{IsTold, Refuses, reason_number};
@@ -48,7 +48,7 @@ pub(crate) fn refuse<L: Limit>(
 ) -> Exited
     requires { room.old.has_failed ≡ false }
     ensures refuses { (ending : AnyEnding (Bor (List ℕ)))
-        × Refuses (Some room.old.bytes.items) (Some room.new.bytes.items) room.new.has_failed ending
+        × Refuses room.old.bytes.items room.new.bytes.items room.new.has_failed ending
         × IsTold ending result.status (reason_number result.reason) result.message }
     ensures fits { result.message ≤ length message.old }
 {

@@ -1,5 +1,5 @@
 -- The next of the chosen games.
-use Rattle.std.specs.Prelude.{ℕ, Bool, List, [], ◌∷◌, Option, Some, None, IfSome}
+use Rattle.std.specs.Prelude.{ℕ, List, [], ◌∷◌, Option, Some, None, IfSome}
 use Rattle.dw_board.specs.Geometry.{Geometry}
 use Rattle.dw_desk_commands.specs.declared.chosen.Chosen.{Chosen}
 use Rattle.dw_desk_commands.specs.inner.Choosing.{AreToCome, GoesOn, HandsOut, MayBe}

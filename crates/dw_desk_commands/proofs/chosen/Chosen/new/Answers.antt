@@ -1,4 +1,4 @@
-use Rattle.std.proofs.Common.{◌∙◌, ap, refl}
+use Rattle.std.proofs.Common.{refl}
 use Rattle.dw_desk_commands.specs.inner.Choosing.{AreAhead, AreToCome}
 use Rattle.dw_desk_commands.proofs.ChosenLemmas.{chosen_of_all}
 use Rattle.dw_desk_commands.proofs.chosen.Chosen.new.Goals as goal

@@ -1,5 +1,4 @@
-use Rattle.std.proofs.Common.{◌-◌, ◌∙◌, ◌==◌, ◌++◌, not, refl, subst, sym}
-use Rattle.dw_notation.specs.Streams.{Appends}
+use Rattle.std.proofs.Common.{◌-◌, ◌==◌, ◌++◌, not, refl, subst, sym}
 use Rattle.dw_notation.specs.inner.StreamLemmas.{Appends-trans}
 use Rattle.dw_mend.specs.Mending.{IsMendText}
 use Rattle.dw_notation.specs.Problems.{numbered}
