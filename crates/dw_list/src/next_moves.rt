@@ -29,6 +29,9 @@ pub(crate) fn keeps<B: Board, M: Memo<B>, G: Guide<B>>(
     if left == 0 {
         return Ok(!has_move(after));
     }
+    if left == 1 && solver.dropped() > 0 {
+        return solver.loses_last(alloc, after);
+    }
     solver.loses(alloc, after, left)
 }
 
