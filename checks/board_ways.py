@@ -770,6 +770,7 @@ def week_paper(browser, page, folder):
     browser.click("#add summary")
     browser.click("#add-go")
     browser.wait("document.querySelector('#list').dataset.count === '1'", 20)
+    (browser.downloads / "problems.html").unlink(missing_ok=True)
     browser.click("#save-page")
     browser.wait("document.querySelector('#list').dataset.saved === 'problems.html'", 60)
     assert "Club evening" in browser.saved("problems.html").read_text()
