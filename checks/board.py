@@ -679,6 +679,7 @@ def take_shot(browser, page, file):
     browser.run("t.all('#solution .move')[1].click()")
     browser.wait("t.at('#fen').value === 'W:W27,28:B22'", 10)
     browser.resize(1100, 860)
+    browser.wait("document.getAnimations().length === 0", 10)
     browser.picture(file)
     assert file.stat().st_size < SMALL, file.stat().st_size
 

@@ -442,7 +442,9 @@ CONTRAST = r"""
   for (const square of document.querySelectorAll('.board .dark')) {
     const under = ground(square), style = getComputedStyle(square);
     const ring = /rgba?\([^)]*\)/.exec(style.boxShadow)?.[0];
-    if (square.matches('.source, .last, .faulty') && ring) note(square, 'ring', ratio(over(parts(ring), under), under), 3);
+    if (square.matches('.source, .last, .faulty') && ring) {
+      note(square, 'ring', ratio(over(parts(ring), under), under), 3);
+    }
     if (square.matches('.target')) {
       note(square, 'target', ratio(parts(getComputedStyle(square, '::after').backgroundColor), under), 3);
     }

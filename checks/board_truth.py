@@ -5,7 +5,8 @@
 
 Random sequences of what a reader may do: problems are set up, asked, stopped, compared, improved, played and undone, in
 any order, while answers are late. After each step all sentences of the page are taken down with the position that they
-name, and `dw` and `dw-desk` say afterwards whether they are true. An answer to another position than the one on the
+name, and `dw` and `dw-desk` say afterwards whether they are true. So are the name and the task above the board, the
+picture of the diagram, and the marks of the last move. An answer to another position than the one on the
 board has to name it. Then the ways are gone in which a page has been wrong, or has lost something. Both in Chromium and
 in Firefox. With --random or --named only one of the two is done.
 """
@@ -68,7 +69,12 @@ DRIVER = """
     mendMoves: () => t.set('#mend-n', oneOf(['1', '2'])), mend: () => click('#mend-go'),
     stopOthers: () => click('#stop-compare, #mend-stop'), add: () => click('#add-go'),
     language: () => t.set('#language', oneOf(['en', 'nl', 'fr', 'ru'])),
-    tab: () => click('[role=tab]'),
+    tab: () => click('[role=tab]'), goOn: () => click('#go-on'), here: () => click('#solve-here'),
+    walk: () => key(document.body, oneOf(['ArrowLeft', 'ArrowRight', 'ArrowUp', 'ArrowDown', 'Home', 'End', 'Escape'])),
+    depth: () => t.set('#depth', oneOf(['main', 'longest', 'all'])),
+    // (a name that says to which position it was given)
+    name: () => { if (t.at('#looked').hidden) t.set('#name-title', oneOf([board(), ''])); },
+    picture: () => { t.at('#picture').open = true; },
   };
   const board = () => {
     const pieces = t.all('[data-square][data-piece]').map((e) => [Number(e.dataset.square), e.dataset.piece]);
@@ -107,6 +113,15 @@ DRIVER = """
     for (const card of t.all('#mend .card')) {
       t.claim('neighbour', named('#mend-of'), card.dataset.change, card.dataset.fen);
     }
+    if (t.at('#looked').hidden) {
+      const [moves] = /\\d+/.exec(t.at('#named-task').textContent) ?? [];
+      if (moves) t.claim('task', board(), Number(moves));
+      t.claim('name', board(), t.at('#named-name').textContent);
+    }
+    const { alt } = t.at('#picture-shown');
+    if (alt) t.claim('picture', board(), alt);
+    const marked = t.all('.dark.last').map((e) => Number(e.dataset.square));
+    if (marked.length) t.claim('last move', board(), marked);
     if (!t.at('#play-tools').hidden && new RegExp(`NO_MOVES`).test(t.at('#played').textContent)) {
       t.claim('no moves', board());
     }
@@ -207,6 +222,20 @@ class Truth:
             piece = pieces[int(words[0])]
             pieces[int(words[0])] = piece.upper() if words[2] == "king" else piece.lower()
         return pieces == dict(of_fen(after)) and fen[0] == after[0]
+
+    def task(self, fen, moves):
+        return not self.judged(fen, moves)[0].startswith("unsolvable")
+
+    def name(self, fen, title):
+        return title in ("", fen)
+
+    def picture(self, fen, shown):
+        return fen == shown
+
+    def last_move(self, fen, squares):
+        pieces = dict(of_fen(fen))
+        stand = [pieces[square].upper() != fen[0] for square in squares if square in pieces]
+        return stand == [True] and len(squares) <= 2
 
     def no_moves(self, fen):
         return self.legal(fen) == []

@@ -770,9 +770,37 @@ def week_paper(browser, page, folder):
     browser.click("#add summary")
     browser.click("#add-go")
     browser.wait("document.querySelector('#list').dataset.count === '1'", 20)
+    (browser.downloads / "problems.html").unlink(missing_ok=True)
     browser.click("#save-page")
     browser.wait("document.querySelector('#list').dataset.saved === 'problems.html'", 60)
     assert "Club evening" in browser.saved("problems.html").read_text()
+
+
+def week_go_on(browser, page, folder):
+    """A search that is stopped goes on from what it has found, and its answer is that of one search."""
+    del folder
+    begin(browser, page, f"#fen={LONG}&n=14")
+    count = "Number((/([\\d,]+) positions/.exec(document.querySelector('#state').innerText)?.[1] ?? '0')" \
+        ".replaceAll(',', ''))"
+    browser.click("#solve")
+    browser.wait(f"{count} >= 400000 && /no win in 1\\d/.test(document.querySelector('#state').innerText)", 60)
+    browser.click("#stop")
+    browser.wait("!document.querySelector('#go-on').hidden", 10)
+    found = int(re.match(r"Stopped: no win in (1\d)\.$", text(browser, "#state"))[1])
+    browser.click("#go-on")
+    browser.wait(f"document.querySelector('#state').dataset.state === 'done' || {count} >= 400000", 60)
+    again = re.search(r"no win in (1\d)", text(browser, "#state"))
+    assert not again or int(again[1]) >= found, (found, text(browser, "#state"))
+    browser.wait(SOLVED, 120)
+    reads(browser, "#verdict", "∅ No win: White to play cannot win in 14.")
+    assert browser.run("document.querySelector('#go-on').hidden")
+    # The answer is that of a search that nobody stopped.
+    line = "document.querySelector('#about').textContent + document.querySelector('#tries').textContent"
+    before = browser.run(line)
+    browser.click("#solve")
+    browser.wait("document.querySelector('#state').dataset.state === 'searching'", 10)
+    browser.wait(SOLVED, 120)
+    assert browser.run(line) == before
 
 
 WAYS = [way_dual, way_fault, way_phone, way_keys, way_page, way_compare, way_stop, way_share, way_black, way_eight]

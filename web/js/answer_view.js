@@ -106,6 +106,7 @@ export class AnswerView {
         const { isAsking, isBlocked } = this.solving, isSearching = running.length > 0 || isAsking;
         control('solve', HTMLButtonElement).disabled = Boolean(solve?.isRunning) || isAsking;
         control('stop', HTMLButtonElement).disabled = running.length === 0;
+        reveal('go-on', solve?.phase === 'stopped' && !isSearching);
         if (isBlocked && app.refused) {
             place.dataset.state = 'stopped';
             place.textContent = app.say('faultFirst');

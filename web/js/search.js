@@ -23,11 +23,12 @@ const FIRST = 200_000, LARGER = 4, MOST = 1_000_000_000_000;
  * @param {Question} question
  * @param {(progress: Progress) => void} show
  * @param {AbortSignal} signal
+ * @param {Progress} before What is known already, if the search goes on after a stop: smaller slices are left out.
  */
-export async function find(ask, { fen, rows, most, isExact }, show, signal) {
+export async function find(ask, { fen, rows, most, isExact }, show, signal, before = { noWinIn: 0, expanded: 0 }) {
     const number = [isExact ? '-n' : '--most', String(most)];
     const words = ['dw-desk', 'find', '--json', '--solution', ...boardOf(rows), ...number];
-    for (let each = FIRST; ; each *= LARGER) {
+    for (let each = before.expanded * LARGER || FIRST; ; each *= LARGER) {
         const bound = Math.min(each, MOST), more = bound < MOST ? ['--each', String(bound)] : [];
         const [row] = /** @type {FoundRow[]} */ (rowsOf(reportOf(await ask([...words, ...more], `${fen}\n`, signal))));
         if (row.refused) throw new Failed(row.refused);
@@ -36,6 +37,6 @@ export async function find(ask, { fen, rows, most, isExact }, show, signal) {
             const tree = row.moves?.length ? treeOf(fen, row.moves) : null;
             return { found, tree, isMore: row.more ?? false };
         }
-        show({ noWinIn: found.n, expanded: bound });
+        show({ noWinIn: Math.max(before.noWinIn, found.n), expanded: bound });
     }
 }

@@ -44,6 +44,7 @@ export class Solving {
         const on = (/** @type {string} */ id, /** @type {() => void} */ act) => byId(id).addEventListener('click', act);
         on('solve-here', () => void this.solve());
         on('stop', () => this.stop());
+        on('go-on', () => void this.goOn());
         on('copy', () => void this.copy());
         on('certificate', () => void this.certify());
         on('ask-firsts', () => void this.askFirsts());
@@ -86,14 +87,37 @@ export class Solving {
         }
         const entry = app.book.of(app.subject);
         this.forget(entry);
-        const task = new Task({ most, isExact }, { noWinIn: 0, expanded: 0 });
+        await this.search(entry, { most, isExact }, { noWinIn: 0, expanded: 0 }, 0);
+    }
+
+    /** Goes on with the search that was stopped, from what it has found. */
+    async goOn() {
+        const { app, entry } = this, { solve } = entry;
+        if (solve?.phase !== 'stopped' || await app.fault()) return;
+        const { question, progress, took } = solve;
+        this.forget(entry);
+        await this.search(entry, question, progress, took);
+    }
+
+    /**
+     * Searches for the answer to a question.
+     * @param {Entry} entry
+     * @param {import('./book.js').SolveQuestion} asked
+     * @param {import('./book.js').SolveProgress} before What is known already.
+     * @param {number} took How long it has taken to find that, in milliseconds.
+     */
+    async search(entry, { most, isExact }, before, took) {
+        const { app } = this;
+        /** @type {NonNullable<Entry['solve']>} */
+        const task = new Task({ most, isExact }, before);
+        task.begun -= took;
         entry.solve = task;
         this.tick();
         const question = { fen: entry.fen, rows: entry.position.rows, most, isExact };
         const show = (/** @type {import('./book.js').SolveProgress} */ progress) => {
             if (task.isRunning) task.progress = progress;
         };
-        await task.work((signal) => find(app.solver.ask.bind(app.solver), question, show, signal))
+        await task.work((signal) => find(app.solver.ask.bind(app.solver), question, show, signal, before))
             .finally(() => app.tell('answered'));
     }
 

@@ -92,6 +92,7 @@ export const NAME_WORDS = {
         'Решение, с ответами самого долгого сопротивления: # {строка|строки|строк}.',
     ],
     print: ['Print', 'Afdrukken', 'Imprimer', 'Печатать'],
+    goOn: ['Go on', 'Ga door', 'Continuer', 'Продолжить'],
     ownSave: ['Save to my file', 'Bewaar in mijn bestand', 'Enregistrer dans mon fichier', 'Сохранить в мой файл'],
     ownOpen: ['Open my file', 'Open mijn bestand', 'Ouvrir mon fichier', 'Открыть мой файл'],
     ownOther: ['Another file', 'Een ander bestand', 'Un autre fichier', 'Другой файл'],
