@@ -79,7 +79,7 @@ export class CardForm {
         if (event.key === 'Delete') {
             event.preventDefault();
             void this.take(item);
-        } else if (event.altKey && step) {
+        } else if (event.altKey && step && control('sort', HTMLSelectElement).value === 'number') {
             event.preventDefault();
             const beside = list.cards.chosen, next = beside[beside.indexOf(item) + step];
             if (next) void this.moveTo(item, list.items.indexOf(next));

@@ -75,7 +75,9 @@ export class Names {
     /** All names, the newest last. Other windows may have added some. */
     read() {
         const kept = this.store.get('names');
-        if (Array.isArray(kept) || !this.known) this.known = new Map(Array.isArray(kept) ? kept : []);
+        if (!Array.isArray(kept)) return this.known ??= new Map();
+        const names = /** @type {[string, Naming][]} */ (kept.filter(Array.isArray));
+        this.known = new Map(names);
         return this.known;
     }
 

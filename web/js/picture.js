@@ -24,8 +24,12 @@ const PALETTE = {
     white: ['#fdfaf2', '#5d5648', '#2b2620'], black: ['#26221f', '#a59c8f', '#f3ede1'],
 };
 
-/** @param {string} text */
-const escapedText = (text) => text.replace(/[&<>"]/g, (sign) => `&#${sign.charCodeAt(0)};`);
+/**
+ * A text as it stands in XML, which has no signs of control and no half of a pair.
+ * @param {string} text
+ */
+const escapedText = (text) => text.replace(/[\p{Cc}\p{Cs}]/gu, ' ')
+    .replace(/[&<>"]/g, (sign) => `&#${sign.charCodeAt(0)};`);
 
 /**
  * The lines of a text that fit into a width. A word that is longer has a line of its own.

@@ -33,6 +33,8 @@ export class Problems {
         this.storage = storage;
         /** The names of the problems that are kept. */
         this.kept = new Set();
+        /** @type {Aside[]} Those deleted one by one that the browser did not keep. */
+        this.loose = [];
         /** How many problems can be brought back, and whether they are a whole list. */
         this.countEmptied = 0;
         this.isListAside = false;
@@ -143,7 +145,7 @@ export class Problems {
 
     /** The problems that were put aside last, and can be brought back. */
     aside() {
-        const items = /** @type {Aside[]} */ (this.read(EMPTIED));
+        const items = [.../** @type {Aside[]} */ (this.read(EMPTIED)), ...this.loose];
         const last = Math.max(...items.map(({ aside = 0 }) => aside));
         return items.filter(({ aside = 0 }) => aside === last);
     }
@@ -191,6 +193,8 @@ export class Problems {
     putAside(items, isWhole) {
         return this.follow(async () => {
             const kept = items.filter(({ id }) => this.kept.has(id)), aside = Date.now();
+            const loose = isWhole ? [] : items.filter(({ id }) => !this.kept.has(id));
+            this.loose = isWhole ? [] : [...this.loose, ...loose.map((item) => ({ ...item, aside, isWhole }))];
             for (const { id } of items) this.kept.delete(id);
             this.probe();
             if (isWhole) await this.forget(EMPTIED);
@@ -208,6 +212,7 @@ export class Problems {
     async restore() {
         await this.last;
         const items = this.aside();
+        this.loose = this.loose.filter((item) => !items.includes(item));
         await this.follow(() => piecewise(items, ({ id }) => {
             this.attempt((storage) => storage.removeItem(EMPTIED + id));
         }));

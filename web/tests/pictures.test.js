@@ -33,6 +33,8 @@ test('the texts of a picture are escaped, and broken between words', () => {
         ...LOOK, above: 'A <b> & "c"', below: ['White to play', '1. 32-28 18-22 '.repeat(12)],
     });
     assert.match(svg, />A &#60;b&#62; &#38; &#34;c&#34;</);
+    const odd = pictureOf(positionOf('W:W1:B2', 10), { ...LOOK, above: 'a\u0001b\ud800c' });
+    assert.match(decodeURIComponent(encodeURIComponent(odd.svg)), />a b c</);
     assert.equal((svg.match(/1\. 32-28/g) ?? []).length, 12);
     assert.ok((svg.match(/<text/g) ?? []).length >= 6 && height > 500);
 });
