@@ -16,8 +16,8 @@ use dw_board::{Board, Eight, Ten};
 use dw_commands::{Ending, Job};
 use dw_notation::{Reading, Writing};
 use dw_shell::{arguments, end_refused, end_with};
-use std::fs::File;
 use std::alloc::Global;
+use std::fs::File;
 use std::io::{Read, Write};
 use std::process::ExitCode;
 

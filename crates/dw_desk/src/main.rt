@@ -17,8 +17,8 @@ use dw_notation::{Reading, Writing};
 use dw_shell::{arguments, end_refused, end_with};
 use dw_study::Slices;
 use progress::Progress;
-use std::fs::File;
 use std::alloc::Global;
+use std::fs::File;
 use std::io::{IsTerminal, Read, Write};
 use std::process::ExitCode;
 
