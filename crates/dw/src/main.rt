@@ -3,7 +3,7 @@
 
 ghost use Rattle.std.specs.Prelude.{◌≡◌, Result, Err, [], false, true};
 ghost use Rattle.dw_commands.specs.Ending.{ending_of};
-ghost use Rattle.dw_notation.specs.Endpoints.{told_by, read_from, has_read_all, has_read_failed};
+ghost use Rattle.dw_notation.specs.Endpoints.{told_by, read_from, ends_met, has_read_failed};
 ghost use Rattle.dw_notation.specs.Endpoints.{accepted_by, has_write_failed};
 ghost use Rattle.dw_report.specs.Request.{request_of};
 ghost use Rattle.dw_report.specs.Running.{Runs, StopsRightly};
@@ -86,11 +86,11 @@ fn report_between<'a, B: Board, R: Read, W: Write>(
 ) -> Ended<'a, R, W>
     ensures { (ran : Result Summary AnyFault)
         × Runs B.geometry (request_of job.settings)
-        (record { told = []; coming = R.remaining reader; has_ended = false })
+        (record { told = []; coming = R.remaining reader; ends = 0 })
         (record {
           told = told_by result.source;
           coming = R.remaining (read_from result.source);
-          has_ended = has_read_all result.source;
+          ends = ends_met result.source;
         }) [] (accepted_by result.sink) ran
         × (ran ≡ Err faults.Read → has_read_failed result.source ≡ true)
         × (ran ≡ Err faults.Write → has_write_failed result.sink ≡ true)

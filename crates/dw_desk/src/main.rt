@@ -4,7 +4,7 @@
 ghost use Rattle.std.specs.Prelude.{◌≡◌, ◌⊎◌, [], false};
 ghost use Rattle.dw_desk_commands.specs.Commands.{Obeys};
 ghost use Rattle.dw_desk_commands.specs.Ending.{FailsForCause};
-ghost use Rattle.dw_notation.specs.Endpoints.{told_by, read_from, has_read_all, has_read_failed};
+ghost use Rattle.dw_notation.specs.Endpoints.{told_by, read_from, ends_met, has_read_failed};
 ghost use Rattle.dw_notation.specs.Endpoints.{accepted_by, has_write_failed};
 
 mod progress;
@@ -90,11 +90,11 @@ fn run_between<'a, B: Board, P: DeskWatcher, R: Read, W: Write>(
 ) -> Ended<'a, R, W>
     requires { (B.geometry.rows ≡ 10) ⊎ (B.geometry.rows ≡ 8) }
     ensures obeys { Obeys B.geometry args.now
-        (record { told = []; coming = R.remaining reader; has_ended = false })
+        (record { told = []; coming = R.remaining reader; ends = 0 })
         (record {
           told = told_by result.source;
           coming = R.remaining (read_from result.source);
-          has_ended = has_read_all result.source;
+          ends = ends_met result.source;
         }) [] (accepted_by result.sink) result.ending }
     ensures fails { FailsForCause (has_read_failed result.source) (has_write_failed result.sink) result.ending }
 {

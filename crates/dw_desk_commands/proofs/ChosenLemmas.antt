@@ -22,7 +22,7 @@ use Rattle.dw_games.specs.declared.games.Games.{Games}
 use Rattle.dw_games.specs.inner.GameReaders.{reading_of}
 use Rattle.dw_notation.specs.Problems.{Numbered, number_from, numbered}
 use Rattle.dw_notation.specs.Reading as problems
-use Rattle.dw_notation.specs.Streams.{Supply, IsOver, HoldsAhead}
+use Rattle.dw_notation.specs.Streams.{Supply, MeetsEnd, HoldsAhead}
 use Rattle.dw_notation.specs.inner.Readers.{reader_of}
 use Rattle.dw_notation.specs.inner.StreamLemmas.{Reads-nil, Reads-trans}
 use Rattle.dw_notation.specs.declared.problems.Problem.{Problem}
@@ -308,17 +308,18 @@ is_next g supply old new (Some game) handed more on = (handed, more, on)
 -- ---- reading goes on
 
 pub GoesOn-refl : {B S : Type 0} (supply : S → Supply) (text : Text B S) → GoesOn supply text text
-GoesOn-refl supply text = record { read = []; took = Reads-nil (supply (source_of text)); end = λ known. known }
+GoesOn-refl supply text = record { read = []; took = Reads-nil (supply (source_of text)); end = λ began known. known }
 
 pub GoesOn-next : {B S : Type 0} (g : Geometry) (supply : S → Supply) (old mid new : Text B S) (found : Option (Game B))
-    → GoesOn supply old mid → ComesNext g supply mid new found → (EndIsKnown supply mid → EndIsKnown supply new)
+    → GoesOn supply old mid → ComesNext g supply mid new found
+    → ((began : Supply) → EndIsKnown supply began mid → EndIsKnown supply began new)
     → GoesOn supply old new
 GoesOn-next g supply old mid new found on next end = record {
   read = on.read ++ next.read;
   took = Reads-trans (supply (source_of old)) (supply (source_of mid)) (supply (source_of new)) on.read next.read
       on.took
       next.took;
-  end = λ known. end (on.end known);
+  end = λ began known. end began (on.end began known);
 }
 
 pub GoesOn-trans : {B S : Type 0} (supply : S → Supply) (old mid new : Text B S) → GoesOn supply old mid
@@ -328,24 +329,24 @@ GoesOn-trans supply old mid new on more = record {
   took = Reads-trans (supply (source_of old)) (supply (source_of mid)) (supply (source_of new)) on.read more.read
       on.took
       more.took;
-  end = λ known. more.end (on.end known);
+  end = λ began known. more.end began (on.end began known);
 }
 
-over_at : {B S : Type 0} (supply : S → Supply) (text : Text B S) → EndIsKnown supply text → met_end text ≡ true
-    → IsOver (supply (source_of text))
-over_at supply (texts.Fens lines) known met = known met
-over_at supply (texts.Pdn sections) known met = known met
+over_at : {B S : Type 0} (supply : S → Supply) (began : Supply) (text : Text B S) → EndIsKnown supply began text
+    → met_end text ≡ true → MeetsEnd began (supply (source_of text))
+over_at supply began (texts.Fens lines) known met = known.met met
+over_at supply began (texts.Pdn sections) known met = known.met met
 
 -- of each text that may follow the bytes read, or of those alone if the end was met
 pub holds_ahead : {B S : Type 0} (supply : S → Supply) (P : List ℕ → Type 0) (old new : Chosen B S)
-    (on : GoesOn supply old.text new.text) → EndIsKnown supply old.text
+    (on : GoesOn supply old.text new.text) → EndIsKnown supply (supply (source_of old.text)) old.text
     → ((whole : List ℕ) → MayBe supply new whole
     → (bytes : List ℕ) × (whole ≡ (supply (source_of old.text)).told ++ bytes) × P bytes)
-    → HoldsAhead P (supply (source_of new.text)) on.read
+    → HoldsAhead P (supply (source_of old.text)) (supply (source_of new.text)) on.read
 unfolding MayBe
 holds_ahead supply P old new on known holds = elim (cases_Bool (met_end new.text)) [
   | inl met ↦ inr (
-    over_at supply new.text (on.end known) met,
+    over_at supply (supply (source_of old.text)) new.text (on.end (supply (source_of old.text)) known) met,
     subst P (append-nil on.read) (at [] (λ _. refl)),
   )
   | inr unmet ↦ inl (λ more. at more (λ met. absurd (true≢false (sym met ∙ unmet))))

@@ -64,7 +64,7 @@ pub record DoesIt {T : Type 0} (g : Geometry) (args : DeskArgs) (before after : 
   pub took : Reads before after read
   pub text : List ℕ
   pub wrote : Appends accepted new text
-  pub done : HoldsAhead (λ bytes. IsDone g args bytes ending text) after read
+  pub done : HoldsAhead (λ bytes. IsDone g args bytes ending text) before after read
 
 -- a command is done; or the program was stopped, or a stream failed
 abbrev pub Obeys : {T : Type 0} → Geometry → DeskArgs → (before after : Supply) → (accepted new : List ℕ) → Ending T

@@ -127,6 +127,7 @@ enum Text<'a, B: Board, S> {
 impl<'a, B: Board, S: Source> Text<'a, B, S> {
     ghost use Rattle.dw_desk_commands.specs.Chosen.{AreGamesIn};
     ghost use Rattle.dw_desk_commands.specs.inner.Choosing.{AreAhead, ComesNext, EndIsKnown, Runs, lender, source_of};
+    ghost use Rattle.dw_notation.specs.Streams.{Supply};
     ghost use Rattle.dw_desk_commands.specs.inner.Faults.{IsCaused};
     ghost use Rattle.dw_games.specs.Games.{NumberedGame};
 
@@ -136,7 +137,7 @@ impl<'a, B: Board, S: Source> Text<'a, B, S> {
         ensures source { source_of result ≡ source.old }
         ensures games { (bytes : List ℕ) (games : List NumberedGame) → AreAhead B.geometry result bytes games
             → AreGamesIn B.geometry form bytes games }
-        ensures end { EndIsKnown S.supply result }
+        ensures end { EndIsKnown S.supply (S.supply source.old) result }
         ensures lender { lender result ≡ source.entry.ghost_name }
         ensures runs { Runs result }
     {
@@ -161,7 +162,7 @@ impl<'a, B: Board, S: Source> Text<'a, B, S> {
     fn next(&mut self, alloc: Global) -> Result<Option<Game<B>>, DeskFault>
         requires { Runs self.old }
         ensures given { IfOk result (ComesNext B.geometry S.supply self.old self.new) }
-        ensures end { EndIsKnown S.supply self.old → EndIsKnown S.supply self.new }
+        ensures end { (began : Supply) → EndIsKnown S.supply began self.old → EndIsKnown S.supply began self.new }
         ensures lender { lender self.new ≡ lender self.old }
         ensures cause { IfErr result (IsCaused (S.is_failed (source_of self.new)) false) }
         ensures runs { OnOk result (Runs self.new) }

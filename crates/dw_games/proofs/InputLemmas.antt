@@ -26,7 +26,7 @@ module _ {S : Type 0} (supply : S → Supply) (is_failed : S → Bool) (pulls : 
     same = append-nil old.unread ∙ sym (take-append-drop count old.unread)
         ∙ ap (λ l. take count old.unread ++ l) (sym rest);
     stays = λ m. (refl, met ∙ m);
-    end = λ known. rw (source, met) known;
+    end = λ began known. rw (source, met) known;
     failed = ap is_failed source ∙ sym (or-false (is_failed old.source));
     lighter =
         let split = sym (length-append (take count old.unread) (drop count old.unread))
@@ -42,7 +42,7 @@ module _ {S : Type 0} (supply : S → Supply) (is_failed : S → Bool) (pulls : 
     took = Reads-nil (supply old.source);
     same = append-nil old.unread;
     stays = λ m. (refl, m);
-    end = λ known. known;
+    end = λ began known. known;
     failed = sym (or-false (is_failed old.source));
     lighter = omega arith;
   }
@@ -60,7 +60,7 @@ module _ {S : Type 0} (supply : S → Supply) (is_failed : S → Bool) (pulls : 
         ∙ sym (append_assoc first second new.unread);
     stays = λ m. let s = a.stays m in let t = b.stays s.1 in
         (ap (λ l. l ++ b.read) s.0 ∙ t.0, t.1);
-    end = λ known. b.end (a.end known);
+    end = λ began known. b.end began (a.end began known);
     failed = b.failed ∙ ap (λ f. f || fails) (a.failed ∙ or-false (is_failed old.source));
     lighter = omega (arith, a.lighter, b.lighter, length-append first second);
   }

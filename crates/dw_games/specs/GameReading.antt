@@ -2,7 +2,8 @@
 use Rattle.std.specs.Prelude.{◌≡◌, ◌⊎◌, ℕ, List, [], ◌∷◌, ◌++◌, Bool, true, false, Option, Some, None, Result, Ok, Err}
 use Rattle.std.specs.Borrow.{GName}
 use Rattle.dw_board.specs.Geometry.{Geometry}
-use Rattle.dw_notation.specs.Streams.{Supply, Reads, IsOver}
+use Rattle.dw_notation.specs.Buffering.{EndIsKnown}
+use Rattle.dw_notation.specs.Streams.{Supply, Reads}
 use Rattle.dw_games.specs.Games.{NumberedGame}
 use Rattle.dw_games.specs.declared.games.Game.{Game}
 use Rattle.dw_games.specs.declared.games.Games.{Games}
@@ -57,9 +58,9 @@ pub record GivesNext {B : Type 0} (g : Geometry) (before after : Supply) (old ne
   pub still : old.met_end ≡ true → (read ≡ []) × (new.met_end ≡ true)
   pub gives : Gives g old new read result
 
--- the end that a reader has met is the source's
-abbrev pub EndIsTrue : Supply → Reader → Type 0
-EndIsTrue supply reader = reader.met_end ≡ true → IsOver supply
+-- the end that a reader has met is the source's, met since a moment
+abbrev pub EndIsTrue : (began now : Supply) → Reader → Type 0
+EndIsTrue began now reader = EndIsKnown began now reader.met_end
 
 -- the answer of a reader at its end, or after a fault: the same each time
 abbrev pub StandsStill : {B : Type 0} → Reader → Result (Option (Game B)) GameFault → Type 0

@@ -118,6 +118,7 @@ impl<'a, B: Board, S: Source> Games<'a, B, S> {
     ghost use Rattle.dw_games.specs.Games.{AreGames, NumberedGame, games_from};
     ghost use Rattle.dw_games.specs.GameReading.{lender, source_of, numbered_game, is_failure};
     ghost use Rattle.dw_games.specs.GameReading.{GivesNext, EndIsTrue, StandsStill, Rests};
+    ghost use Rattle.dw_notation.specs.Streams.{Supply};
     ghost use Rattle.dw_games.specs.inner.GameReaders.{reading_of, fault_of, input_in, is_done, ReadsGame};
     ghost use Rattle.dw_notation.specs.Buffering.{unread_in};
     ghost use Rattle.dw_notation.specs.Numbering.{handed_out};
@@ -243,8 +244,8 @@ impl<'a, B: Board, S: Source> Games<'a, B, S> {
         ensures lender { lender self.new ≡ lender self.old }
         ensures given { GivesNext B.geometry (S.supply (source_of self.old)) (S.supply (source_of self.new))
             (reading_of self.old) (reading_of self.new) result }
-        ensures end { EndIsTrue (S.supply (source_of self.old)) (reading_of self.old)
-            → EndIsTrue (S.supply (source_of self.new)) (reading_of self.new) }
+        ensures end { (began : Supply) → EndIsTrue began (S.supply (source_of self.old)) (reading_of self.old)
+            → EndIsTrue began (S.supply (source_of self.new)) (reading_of self.new) }
         ensures failed { (reading_of self.old).fault ≡ None
             → S.is_failed (source_of self.new) ≡ (S.is_failed (source_of self.old) || is_failure result) }
         ensures still { StandsStill (reading_of self.old) result }

@@ -1,7 +1,7 @@
 -- A buffer over a source, as its caller sees it.
 use Rattle.std.specs.Prelude.{◌≡◌, ℕ, ◌+◌, ◌*◌, ◌≤◌, ◌||◌, List, [], ◌++◌, length, Bool, true}
 use Rattle.std.specs.List.{slice_range}
-use Rattle.dw_notation.specs.Streams.{Supply, Reads, IsOver}
+use Rattle.dw_notation.specs.Streams.{Supply, Reads, MeetsEnd}
 use Rattle.dw_notation.specs.declared.streams.buffer.Buffer.{Buffer}
 
 -- the bytes read and not yet consumed
@@ -21,9 +21,10 @@ pub record Input (S : Type 0) : Type 0 where
 abbrev pub input_of : {S : Type 0} → S → Buffer → Input S
 input_of source buffer = record { source = source; unread = unread_in buffer; met_end = met_end_in buffer }
 
--- the end that was met is the source's
-abbrev pub EndIsKnown : Supply → Bool → Type 0
-EndIsKnown supply met_end = met_end ≡ true → IsOver supply
+-- the source goes on from a moment, and an end that was met is its end, met since then
+pub record EndIsKnown (began now : Supply) (met_end : Bool) : Type 0 where
+  pub since : began.ends ≤ now.ends
+  pub met : met_end ≡ true → MeetsEnd began now
 
 -- a bound on the bytes that can still be consumed
 abbrev pub weight : ℕ → List ℕ → ℕ
@@ -36,7 +37,7 @@ pub record Passes {S : Type 0} (supply : S → Supply) (is_failed : S → Bool) 
   pub took : Reads (supply old.source) (supply new.source) read
   pub same : old.unread ++ read ≡ passed ++ new.unread
   pub stays : old.met_end ≡ true → (read ≡ []) × (new.met_end ≡ true)
-  pub end : EndIsKnown (supply old.source) old.met_end
-      → EndIsKnown (supply new.source) new.met_end
+  pub end : (began : Supply) → EndIsKnown began (supply old.source) old.met_end
+      → EndIsKnown began (supply new.source) new.met_end
   pub failed : is_failed new.source ≡ (is_failed old.source || fails)
   pub lighter : weight (pulls new.source) new.unread + length passed ≤ weight (pulls old.source) old.unread

@@ -12,8 +12,9 @@ read_from source = source.reader
 abbrev pub told_by : {R : Type 0} → Reading R → List ℕ
 told_by source = source.told
 
-abbrev pub has_read_all : {R : Type 0} → Reading R → Bool
-has_read_all source = source.has_ended
+-- the number of its reads that have met the end
+abbrev pub ends_met : {R : Type 0} → Reading R → ℕ
+ends_met source = source.ends
 
 abbrev pub has_read_failed : {R : Type 0} → Reading R → Bool
 has_read_failed source = source.has_failed

@@ -4,7 +4,8 @@ use Rattle.std.specs.Prelude.{None, option_to_list, Result, Ok, Err, MatchBool, 
 use Rattle.std.specs.Borrow.{GName}
 use Rattle.dw_board.specs.Geometry.{Geometry}
 use Rattle.dw_notation.specs.Problems.{Numbered, numbered}
-use Rattle.dw_notation.specs.Streams.{Supply, Reads, IsOver}
+use Rattle.dw_notation.specs.Buffering.{EndIsKnown}
+use Rattle.dw_notation.specs.Streams.{Supply, Reads}
 use Rattle.dw_notation.specs.declared.problems.TheConstants.{MAX_PROBLEMS, MAX_READ}
 use Rattle.dw_notation.specs.declared.problems.Problem.{Problem}
 use Rattle.dw_notation.specs.declared.problems.ReadFault.{ReadFault}
@@ -63,9 +64,9 @@ IsCounted old new result = IfOk result (λ found.
     (new.handed ≡ old.handed + length (option_to_list found))
     × IfSome found (λ problem. (problem.number ≡ new.handed) × (old.handed ≤ MAX_PROBLEMS)))
 
--- the end that a reader has met is the source's
-abbrev pub EndIsTrue : Supply → Reader → Type 0
-EndIsTrue supply reader = reader.met_end ≡ true → IsOver supply
+-- the end that a reader has met is the source's, met since a moment
+abbrev pub EndIsTrue : (began now : Supply) → Reader → Type 0
+EndIsTrue began now reader = EndIsKnown began now reader.met_end
 
 -- the next problem needs a read, and the source has failed before its end was met
 pub record HasStopped (is_failed : Bool) (reader : Reader) : Type 0 where

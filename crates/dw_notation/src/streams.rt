@@ -14,8 +14,8 @@ pub use writing::Writing;
 
 /// A source of bytes.
 pub trait Source {
-    /// The bytes that its pulls have returned, those still to come if it tells them, and whether a pull has met the
-    /// end.
+    /// The bytes that its pulls have returned, those still to come if it tells them, and the number of pulls that
+    /// have met the end.
     ghost supply: { Self → Supply };
 
     /// Whether a pull has failed.

@@ -8,7 +8,7 @@ use Rattle.dw_notation.specs.TextLines.LinesSay.{last as last_line}
 use Rattle.dw_notation.specs.WholeTexts.SectionsSay.{nothing}
 use Rattle.dw_notation.specs.Problems.{Numbered, TextSays, AreProblems}
 use Rattle.dw_notation.specs.Reading.{Reader, ReadsAtNeed}
-use Rattle.dw_notation.specs.Streams.{Supply, Reads, IsOver, HoldsAhead}
+use Rattle.dw_notation.specs.Streams.{Supply, Reads, MeetsEnd, HoldsAhead}
 use Rattle.dw_notation.specs.inner.StreamLemmas.{Reads-nil, Reads-trans}
 use Rattle.dw_notation.specs.declared.problems.Form.{Form}
 use Rattle.dw_notation.specs.declared.problems.Form.TheVariants.{Fens, Pdn}
@@ -192,9 +192,10 @@ HasHanded-start g form supply reader unmet all = record {
 
 -- whatever bytes follow, or of the bytes read if the end was met, the problems begin with those handed out
 pub HasHanded-ahead : (P : List ℕ → Type 0) (g : Geometry) (form : Form) (before now : Supply) (reader : Reader)
-    (handed : List Numbered) → (has : HasHanded g form before now reader handed) → (reader.met_end ≡ true → IsOver now)
+    (handed : List Numbered) → (has : HasHanded g form before now reader handed)
+    → (reader.met_end ≡ true → MeetsEnd before now)
     → ((text : List ℕ) (rest : List Numbered) → AreProblems g form true text (handed ++ rest) → P text)
-    → HoldsAhead P now has.read
+    → HoldsAhead P before now has.read
 HasHanded-ahead P g form before now reader handed has over holds = elim (cases_Bool reader.met_end) [
   | inl met ↦ inr (
     over met,
@@ -221,8 +222,8 @@ HasHanded-all g form before now reader handed has = elim (cases_Bool reader.met_
 pub HasHanded-end : (P : List ℕ → Type 0) (g : Geometry) (form : Form) (before now after : Supply) (old new : Reader)
     (handed : List Numbered) (next : List ℕ) → (has : HasHanded g form before now old handed)
     → (old.met_end ≡ true → next ≡ []) → (old.met_end ≡ true → new.met_end ≡ true) → GivesNone g old new next
-    → (new.met_end ≡ true → IsOver after) → ((text : List ℕ) → AreProblems g form true text handed → P text)
-    → HoldsAhead P after (has.read ++ next)
+    → (new.met_end ≡ true → MeetsEnd before after) → ((text : List ℕ) → AreProblems g form true text handed → P text)
+    → HoldsAhead P before after (has.read ++ next)
 HasHanded-end P g form before now after old new handed next has still stays gives over holds =
     elim (cases_Bool old.met_end) [
       | inl was ↦ inr (

@@ -7,7 +7,7 @@ use Rattle.std.proofs.lemmas.Bool.{cases_Bool, true≢false, eqb-true}
 use Rattle.dw_board.specs.Geometry.{Geometry}
 use Rattle.dw_notation.specs.Problems.{Numbered, AreProblems}
 use Rattle.dw_notation.specs.Reading.{Reader, ReadsAtNeed}
-use Rattle.dw_notation.specs.Streams.{Supply, Reads, IsOver}
+use Rattle.dw_notation.specs.Streams.{Supply, Reads, MeetsEnd}
 use Rattle.dw_notation.specs.inner.StreamLemmas.{Reads-trans, Appends-trans, Appends-nil}
 use Rattle.dw_notation.specs.declared.problems.Form.{Form}
 use Rattle.dw_notation.specs.declared.problems.TheConstants.{MAX_PROBLEMS}
@@ -122,7 +122,7 @@ asked_whole : (g : Geometry) (request : Request) (before now : Supply) (taken af
     (summary : Summary) (problem : Numbered) (more : More g request before now taken after reader summary problem)
     (text : List ℕ) (rest : List Numbered) → is_asked request.only problem ≡ true
     → AreProblems g request.form true text ((more.front ++ problem ∷ []) ++ rest)
-    → IsWhole g request now.has_ended more.has.read text more.wrote.text summary
+    → IsWhole g request before now more.has.read text more.wrote.text summary
 asked_whole g request before now taken after reader summary problem more text rest asked are =
     let problems = more.front ++ problem ∷ rest in
     let all : AreProblems g request.form true text problems = subst (AreProblems g request.form true text)
@@ -152,14 +152,14 @@ asked_whole g request before now taken after reader summary problem more text re
 -- so the run ends
 pub SoFar-asked : (g : Geometry) (request : Request) (before now : Supply) (taken after : List ℕ) (reader : Reader)
     (summary : Summary) (problem : Numbered) → More g request before now taken after reader summary problem
-    → is_asked request.only problem ≡ true → (reader.met_end ≡ true → IsOver now)
+    → is_asked request.only problem ≡ true → (reader.met_end ≡ true → MeetsEnd before now)
     → Runs g request before now taken after (Ok summary)
 SoFar-asked g request before now taken after reader summary problem more asked over = record {
   read = more.has.read;
   took = more.has.took;
   out = more.wrote.text;
   wrote = more.wrote.wrote;
-  ends = HasHanded-ahead (λ bytes. IsWhole g request now.has_ended more.has.read bytes more.wrote.text summary) g
+  ends = HasHanded-ahead (λ bytes. IsWhole g request before now more.has.read bytes more.wrote.text summary) g
       request.form before now reader (more.front ++ problem ∷ []) more.has over
       (λ text rest are. asked_whole g request before now taken after reader summary problem more text rest asked are);
 }
@@ -175,7 +175,7 @@ pub SoFar-end : (g : Geometry) (request : Request) (before now after : Supply) (
     (old new : Reader) (summary : Summary) (next : List ℕ)
     → SoFar g request before now taken mid old summary → Reads now after next → (old.met_end ≡ true → next ≡ [])
     → ReadsAtNeed g old next → GivesNone g old new next → (old.met_end ≡ true → new.met_end ≡ true)
-    → (new.met_end ≡ true → IsOver after) → new.handed ≡ old.handed → old.handed ≤ MAX_PROBLEMS + 1
+    → (new.met_end ≡ true → MeetsEnd before after) → new.handed ≡ old.handed → old.handed ≤ MAX_PROBLEMS + 1
     → Runs g request before after taken mid (Ok summary)
 SoFar-end g request before now after taken mid old new summary next so_far took still need gives stays over same bound =
     let handed = so_far.handed in
@@ -185,7 +185,7 @@ SoFar-end g request before now after taken mid old new summary next so_far took 
       took = Reads-trans before now after so_far.has.read next so_far.has.took took;
       out = so_far.wrote.text;
       wrote = so_far.wrote.wrote;
-      ends = HasHanded-end (λ bytes. IsWhole g request after.has_ended read bytes so_far.wrote.text summary) g
+      ends = HasHanded-end (λ bytes. IsWhole g request before after read bytes so_far.wrote.text summary) g
           request.form before now after old new handed next so_far.has still stays gives over (λ text are. record {
             problems = handed;
             are = are;
@@ -196,7 +196,7 @@ SoFar-end g request before now after taken mid old new summary next so_far took 
               refusals = so_far.refusals;
             };
             through = elim gives.why [
-              | inl met ↦ inl (over met).has_ended
+              | inl met ↦ inl (over met)
               | inr full ↦
                   let count = so_far.count in
                   let last : length handed ≡ MAX_PROBLEMS + 1 = omega (arith, same, count, full.0, bound) in
@@ -249,7 +249,7 @@ pub SoFar-write : (g : Geometry) (request : Request) (before now after : Supply)
     (old new : Reader) (summary : Summary) (problem : Numbered) (next : List ℕ)
     → SoFar g request before now taken mid old summary → Reads now after next → (old.met_end ≡ true → next ≡ [])
     → ReadsAtNeed g old next → GivesOne g old new next problem new.met_end
-    → (old.met_end ≡ true → new.met_end ≡ true) → (new.met_end ≡ true → IsOver after) → HaveTexts g request
+    → (old.met_end ≡ true → new.met_end ≡ true) → (new.met_end ≡ true → MeetsEnd before after) → HaveTexts g request
     → WritesShort (IsReportOn g request (problem ∷ [])) mid written
     → Runs g request before after taken written (Err Write)
 SoFar-write g request before now after taken mid written old new summary problem next so_far took still need gives stays
@@ -283,7 +283,7 @@ pub SoFar-stopped : (g : Geometry) (request : Request) (before now after : Suppl
     (old new : Reader) (summary : Summary) (problem : Numbered) (next : List ℕ) (why : Stop) (expanded : ℕ)
     → SoFar g request before now taken mid old summary → Reads now after next → (old.met_end ≡ true → next ≡ [])
     → ReadsAtNeed g old next → GivesOne g old new next problem new.met_end
-    → (old.met_end ≡ true → new.met_end ≡ true) → (new.met_end ≡ true → IsOver after)
+    → (old.met_end ≡ true → new.met_end ≡ true) → (new.met_end ≡ true → MeetsEnd before after)
     → Writes (IsPartOn g request problem.number (problem ∷ [])) mid written
     → Runs g request before after taken written (Err (Stopped why expanded))
 SoFar-stopped g request before now after taken mid written old new summary problem next why expanded so_far took still
@@ -318,7 +318,7 @@ pub SoFar-fault : (g : Geometry) (request : Request) (before now after : Supply)
     (old new : Reader) (summary : Summary) (problem : Numbered) (next : List ℕ) (expanded : ℕ) (fault : TextFault)
     → SoFar g request before now taken mid old summary → Reads now after next → (old.met_end ≡ true → next ≡ [])
     → ReadsAtNeed g old next → GivesOne g old new next problem new.met_end
-    → (old.met_end ≡ true → new.met_end ≡ true) → (new.met_end ≡ true → IsOver after) → HaveTexts g request
+    → (old.met_end ≡ true → new.met_end ≡ true) → (new.met_end ≡ true → MeetsEnd before after) → HaveTexts g request
     → TextEnds {X = Summary} (IsReportOn g request (problem ∷ [])) (IsPartOn g request problem.number (problem ∷ []))
     mid written (Err fault)
     → Runs g request before after taken written (Err (ended_by fault expanded))

@@ -5,7 +5,7 @@ use Rattle.std.specs.Result.{IsErr}
 use Rattle.dw_board.specs.Geometry.{Geometry}
 use Rattle.dw_notation.specs.Problems.{Numbered, numbered}
 use Rattle.dw_notation.specs.Reading.{Reader, NextGives, IsCounted, HasStopped}
-use Rattle.dw_notation.specs.Streams.{Supply, IsOver}
+use Rattle.dw_notation.specs.Streams.{Supply, MeetsEnd}
 use Rattle.dw_notation.specs.declared.problems.Problem.{Problem}
 use Rattle.dw_notation.specs.declared.problems.ReadFault.{ReadFault}
 use Rattle.dw_notation.specs.declared.problems.TheConstants.{MAX_PROBLEMS}
@@ -25,7 +25,8 @@ use Rattle.dw_report.proofs.WritingLemmas.{chosen_none}
 pub next_none : {B : Type 0} (g : Geometry) (request : Request) (before now after : Supply) (taken mid : List ℕ)
     (old new : Reader) (summary : Summary) (o : Option (Problem B)) → o ≡ None → NextGives g now after old new (Ok o)
     → IsCounted old new (Ok o) → SoFar g request before now taken mid old summary
-    → (old.met_end ≡ true → new.met_end ≡ true) → (new.met_end ≡ true → IsOver after) → old.handed ≤ MAX_PROBLEMS + 1
+    → (old.met_end ≡ true → new.met_end ≡ true) → (new.met_end ≡ true → MeetsEnd before after)
+    → old.handed ≤ MAX_PROBLEMS + 1
     → Runs g request before after taken mid (Ok summary)
 next_none {B} g request before now after taken mid old new summary o e given counted so_far stays over bound =
     let next = subst (λ (z : Option (Problem B)). NextGives {B = B} g now after old new (Ok z)) e given in
@@ -70,7 +71,7 @@ pub next_fault : {B : Type 0} (g : Geometry) (request : Request) (before now aft
     (taken mid written : List ℕ) (old new : Reader) (summary : Summary) (o : Option (Problem B)) (p : Problem B)
     (expanded : ℕ) (r : Result Summary TextFault) (fault : TextFault) → o ≡ Some p → r ≡ Err fault
     → NextGives g now after old new (Ok o) → SoFar g request before now taken mid old summary
-    → (old.met_end ≡ true → new.met_end ≡ true) → (new.met_end ≡ true → IsOver after) → HaveTexts g request
+    → (old.met_end ≡ true → new.met_end ≡ true) → (new.met_end ≡ true → MeetsEnd before after) → HaveTexts g request
     → TextEnds (IsReportOn g request (numbered p ∷ [])) (IsPartOn g request p.number (numbered p ∷ [])) mid written r
     → Runs g request before after taken written (Err (ended_by fault expanded))
 next_fault {B} g request before now after taken mid written old new summary o p expanded r fault e is given so_far stays

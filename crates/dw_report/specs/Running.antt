@@ -1,5 +1,5 @@
 -- The output and the counts of a run, also if a stream failed or the run was stopped.
-use Rattle.std.specs.Prelude.{◌≡◌, ℕ, ◌+◌, ◌≤◌, ◌<◌, ◌⊎◌, if◌then◌else◌, List, [], ◌∷◌, ◌++◌, length, Bool, true, false}
+use Rattle.std.specs.Prelude.{◌≡◌, ℕ, ◌+◌, ◌≤◌, ◌<◌, ◌⊎◌, if◌then◌else◌, List, [], ◌∷◌, ◌++◌, length, true, false}
 use Rattle.std.specs.Prelude.{Option, Some, None, Result, Ok, Err}
 use Rattle.std.specs.List.{list_any}
 use Rattle.dw_board.specs.Geometry.{Geometry}
@@ -7,7 +7,7 @@ use Rattle.dw_board.specs.Placement.{Placement}
 use Rattle.dw_moves.specs.Moves.{Move}
 use Rattle.dw_notation.specs.TextLines.{line_feed, Found}
 use Rattle.dw_notation.specs.Problems.{Numbered, AreProblems}
-use Rattle.dw_notation.specs.Streams.{Supply, Reads, HoldsAhead, Appends}
+use Rattle.dw_notation.specs.Streams.{Supply, Reads, MeetsEnd, HoldsAhead, Appends}
 use Rattle.dw_notation.specs.Writes.{IsBeginning}
 use Rattle.dw_notation.specs.declared.problems.TheConstants.{MAX_PROBLEMS, MAX_READ}
 use Rattle.dw_notation.specs.declared.problems.Form.{Form}
@@ -62,19 +62,19 @@ pub record ReadsUpTo (g : Geometry) (form : Form) (number : ℕ) (read : List �
   pub fewer : length ended < number
 
 -- the source was read to its end, or up to the problem with which the run ends: the one requested, or the 1,000,001st
-abbrev pub IsReadThrough : Geometry → Request → List Numbered → (ended : Bool) → (read : List ℕ) → Type 0
-IsReadThrough g request problems ended read =
-    (ended ≡ true) ⊎ ((number : ℕ) × ((request.only ≡ Some number) ⊎ (number ≡ MAX_PROBLEMS + 1))
+abbrev pub IsReadThrough : Geometry → Request → List Numbered → (before after : Supply) → (read : List ℕ) → Type 0
+IsReadThrough g request problems before after read =
+    MeetsEnd before after ⊎ ((number : ℕ) × ((request.only ≡ Some number) ⊎ (number ≡ MAX_PROBLEMS + 1))
     × (number ≤ length problems) × ReadsUpTo g request.form number read)
 
 -- the output is the whole report on these bytes; the counts are right, and no more was read than needed
-pub record IsWhole (g : Geometry) (request : Request) (ended : Bool) (read bytes out : List ℕ) (summary : Summary) :
-    Type 0 where
+pub record IsWhole (g : Geometry) (request : Request) (before after : Supply) (read bytes out : List ℕ)
+    (summary : Summary) : Type 0 where
   pub problems : List Numbered
   pub are : AreProblems g request.form true bytes problems
   pub report : IsReportOn g request problems out
   pub counts : Counts g request summary problems
-  pub through : IsReadThrough g request problems ended read
+  pub through : IsReadThrough g request problems before after read
 
 -- after a failed read: the chosen problems that had ended were written, and the requested one had not ended
 pub record StopsReading (g : Geometry) (request : Request) (read out : List ℕ) : Type 0 where
@@ -124,14 +124,15 @@ pub record IsPart (g : Geometry) (request : Request) (read bytes out : List ℕ)
   pub part : IsPartOn g request number problems out
 
 -- the output of a run that read these bytes: the whole report, or a stated beginning of it
-abbrev pub RunEnds : Geometry → Request → (after : Supply) → (read out : List ℕ) → Result Summary RunFault → Type 0
-RunEnds g request after read out (Ok summary) =
-    HoldsAhead (λ bytes. IsWhole g request after.has_ended read bytes out summary) after read
-RunEnds g request after read out (Err (ends.Stopped why expanded)) =
-    HoldsAhead (λ bytes. IsPart g request read bytes out) after read
-RunEnds g request after read out (Err ends.Read) = StopsReading g request read out
-RunEnds g request after read out (Err ends.Write) =
-    HoldsAhead (λ bytes. BeginsReport g request bytes out) after read
+abbrev pub RunEnds : Geometry → Request → (before after : Supply) → (read out : List ℕ) → Result Summary RunFault
+    → Type 0
+RunEnds g request before after read out (Ok summary) =
+    HoldsAhead (λ bytes. IsWhole g request before after read bytes out summary) before after read
+RunEnds g request before after read out (Err (ends.Stopped why expanded)) =
+    HoldsAhead (λ bytes. IsPart g request read bytes out) before after read
+RunEnds g request before after read out (Err ends.Read) = StopsReading g request read out
+RunEnds g request before after read out (Err ends.Write) =
+    HoldsAhead (λ bytes. BeginsReport g request bytes out) before after read
 
 -- the effect of a run on its source and its sink: it read some bytes, and wrote its output for them
 pub record Runs (g : Geometry) (request : Request) (before after : Supply) (accepted new : List ℕ)
@@ -140,7 +141,7 @@ pub record Runs (g : Geometry) (request : Request) (before after : Supply) (acce
   pub took : Reads before after read
   pub out : List ℕ
   pub wrote : Appends accepted new out
-  pub ends : RunEnds g request after read out result
+  pub ends : RunEnds g request before after read out result
 
 -- how a run may be stopped, with a solver that had expanded `before` positions: `show` never; `moves` and rows only for
 -- lack of memory, and nothing is expanded; a search also at its limit, never above it

@@ -40,7 +40,7 @@ board_of Eight = eight
 
 -- the input at first: a source that has returned nothing, and has all of the input still to give
 abbrev pub unread : (input : List ℕ) → Supply
-unread input = record { told = []; coming = Some input; has_ended = false }
+unread input = record { told = []; coming = Some input; ends = 0 }
 
 -- `dw` runs: the report on the input is written, or a beginning of it if the run was stopped or there is no more room
 pub record Runs (g : Geometry) (args : ReportArgs) (input before after : List ℕ) (full : Bool)

@@ -43,16 +43,18 @@ abbrev pub met_end : {B S : Type 0} → Text B S → Bool
 met_end (Fens lines) = (reader_of lines).met_end
 met_end (Pdn sections) = (reading_of sections).met_end
 
--- the end that was met is the source's
-abbrev pub EndIsKnown : {B S : Type 0} → (S → Supply) → Text B S → Type 0
-EndIsKnown supply (Fens lines) = problems.EndIsTrue (supply (problems.source_of lines)) (reader_of lines)
-EndIsKnown supply (Pdn sections) = games.EndIsTrue (supply (games.source_of sections)) (reading_of sections)
+-- the end that was met is the source's, met since a moment
+abbrev pub EndIsKnown : {B S : Type 0} → (S → Supply) → (began : Supply) → Text B S → Type 0
+EndIsKnown supply began (Fens lines) =
+    problems.EndIsTrue began (supply (problems.source_of lines)) (reader_of lines)
+EndIsKnown supply began (Pdn sections) =
+    games.EndIsTrue began (supply (games.source_of sections)) (reading_of sections)
 
 -- reading went on
 pub record GoesOn {B S : Type 0} (supply : S → Supply) (old new : Text B S) : Type 0 where
   pub read : List ℕ
   pub took : Reads (supply (source_of old)) (supply (source_of new)) read
-  pub end : EndIsKnown supply old → EndIsKnown supply new
+  pub end : (began : Supply) → EndIsKnown supply began old → EndIsKnown supply began new
 
 -- the next game comes with games after it, or none comes
 abbrev pub Comes : {B : Type 0} → (Old New : List NumberedGame → Type 0) → Option (Game B) → Type 0
@@ -114,7 +116,7 @@ pub record IsFresh {B S : Type 0} (g : Geometry) (supply : S → Supply) (form :
   pub all : (whole : List ℕ) (games : List NumberedGame) → AreToCome g supply chosen whole games
       → (bytes : List ℕ) × (whole ≡ (supply (source_of chosen.text)).told ++ bytes)
       × AreChosen g form query bytes games
-  pub end : EndIsKnown supply chosen.text
+  pub end : EndIsKnown supply (supply (source_of chosen.text)) chosen.text
   pub portion : chosen.portion ≡ query
   pub runs : Runs chosen.text
 

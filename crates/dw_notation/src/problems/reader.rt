@@ -98,6 +98,7 @@ impl<'a, B: Board, S: Source> Problems<'a, B, S> {
     ghost use Rattle.dw_notation.specs.Numbering.{handed_out};
     ghost use Rattle.dw_notation.specs.Problems.{AreProblems, number_from};
     ghost use Rattle.dw_notation.specs.Reading.{lender, source_of, NextGives, EndIsTrue, HasStopped, IsCounted};
+    ghost use Rattle.dw_notation.specs.Streams.{Supply};
     ghost use Rattle.dw_notation.specs.inner.Problems.{numbered_in};
     ghost use Rattle.dw_notation.specs.inner.Pieces.{pieces_ahead, pieces_behind};
     ghost use Rattle.dw_notation.specs.inner.Cutting.{progress_of, found_ahead, found_behind, found_cut};
@@ -158,8 +159,8 @@ impl<'a, B: Board, S: Source> Problems<'a, B, S> {
         ensures numbers { self.new.numbers ≡ self.old.numbers }
         ensures piece { ReadsPiece (S.supply (source_of self.old)) (S.supply (source_of self.new))
             (progress_of self.old) (progress_of self.new) result }
-        ensures end { EndIsKnown (S.supply (source_of self.old)) (met_end_in self.old.buffer)
-            → EndIsKnown (S.supply (source_of self.new)) (met_end_in self.new.buffer) }
+        ensures end { (began : Supply) → EndIsKnown began (S.supply (source_of self.old)) (met_end_in self.old.buffer)
+            → EndIsKnown began (S.supply (source_of self.new)) (met_end_in self.new.buffer) }
         ensures failed { S.is_failed (source_of self.new) ≡ (S.is_failed (source_of self.old) || is_err result) }
         ensures stays { met_end_in self.old.buffer ≡ true → met_end_in self.new.buffer ≡ true }
         ensures again { S.is_failed (source_of self.old) ≡ true → IsStarved (progress_of self.old) → IsErr result }
@@ -214,8 +215,8 @@ impl<'a, B: Board, S: Source> Problems<'a, B, S> {
         ensures lender { lender self.new ≡ lender self.old }
         ensures given { NextGives B.geometry (S.supply (source_of self.old)) (S.supply (source_of self.new))
             (reader_of self.old) (reader_of self.new) result }
-        ensures end { EndIsTrue (S.supply (source_of self.old)) (reader_of self.old)
-            → EndIsTrue (S.supply (source_of self.new)) (reader_of self.new) }
+        ensures end { (began : Supply) → EndIsTrue began (S.supply (source_of self.old)) (reader_of self.old)
+            → EndIsTrue began (S.supply (source_of self.new)) (reader_of self.new) }
         ensures failed { S.is_failed (source_of self.new) ≡ (S.is_failed (source_of self.old) || is_err result) }
         ensures stopped { IsErr result
             → HasStopped (S.is_failed (source_of self.new)) (reader_of self.new) }

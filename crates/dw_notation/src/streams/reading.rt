@@ -1,5 +1,5 @@
 //! A reader of std as a source.
-ghost use Rattle.std.specs.Prelude.{◌≡◌, [], false};
+ghost use Rattle.std.specs.Prelude.{◌≡◌, ◌≤◌, [], false};
 
 use super::{History, Source};
 use std::io;
@@ -13,26 +13,27 @@ pub const MAX_READS: u64 = 1_000_000_000_000;
 pub struct Reading<R> {
     reader: R,
     reads: u64,
-    has_ended: bool,
+    ends: u64,
     has_failed: bool,
     told: History,
+    ghost fewer: { ends ≤ reads },
 }
 
 impl<R: io::Read> Reading<R> {
-    ghost use Rattle.dw_notation.specs.Endpoints.{read_from, told_by, has_read_all, has_read_failed, reads_left};
+    ghost use Rattle.dw_notation.specs.Endpoints.{read_from, told_by, ends_met, has_read_failed, reads_left};
 
     /// Returns a source of the bytes that the reader has still to give.
     pub fn new(reader: R) -> Reading<R>
         ensures reader { read_from result ≡ reader }
         ensures told { told_by result ≡ [] }
-        ensures unended { has_read_all result ≡ false }
+        ensures unended { ends_met result ≡ 0 }
         ensures sound { has_read_failed result ≡ false }
         ensures reads { reads_left result ≡ MAX_READS }
     {
         Reading {
             reader,
             reads: 0,
-            has_ended: false,
+            ends: 0,
             has_failed: false,
             told: History::new(),
         }
@@ -40,12 +41,12 @@ impl<R: io::Read> Reading<R> {
 }
 
 impl<R: io::Read> Source for Reading<R> {
-    ghost use Rattle.dw_notation.specs.Endpoints.{read_from, told_by, has_read_all, has_read_failed, reads_left};
+    ghost use Rattle.dw_notation.specs.Endpoints.{read_from, told_by, ends_met, has_read_failed, reads_left};
 
     ghost supply = { λ s. record {
       told = told_by s;
       coming = R.remaining (read_from s);
-      has_ended = has_read_all s;
+      ends = ends_met s;
     } };
 
     ghost is_failed = { λ s. has_read_failed s };
@@ -60,7 +61,7 @@ impl<R: io::Read> Source for Reading<R> {
         self.reads += 1;
         match self.reader.read(buffer) {
             Ok(count) => {
-                self.has_ended = self.has_ended || count == 0;
+                self.ends += u64::from(count == 0);
                 self.told.add(&buffer[..count]);
                 Some(count)
             }

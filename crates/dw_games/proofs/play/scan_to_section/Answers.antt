@@ -1,6 +1,6 @@
 use Rattle.std.proofs.Common.{◌≡◌, ◌+◌, ◌<◌, ◌∷◌, [], false, length, take, drop, refl, sym, ap, subst, ◌∙◌, rules}
 use Rattle.std.proofs.Common.{arith}
-use Rattle.std.proofs.lemmas.List.{take_all}
+use Rattle.std.proofs.lemmas.List.{nil_from_length, take_all}
 use Rattle.std.proofs.lemmas.Result.{err_from_is_err_and}
 use Rattle.dw_notation.specs.Buffering.{Passes, unread_in, input_of}
 use Rattle.dw_notation.specs.Between.{IsBetween, in_comment}
@@ -30,7 +30,8 @@ returns-in_err-fill g c =
 pub returns-then-is_empty : goal.returns-then-is_empty
 returns-then-is_empty g c =
     let s = g.S.Source in
-    let none : unread_in c.fill.new.self ≡ [] = search (rules, arith) in
+    let none : unread_in c.fill.new.self ≡ [] =
+    sym c.unread-bytes.ensures ∙ nil_from_length c.unread-bytes.result.now (search (rules, arith)) in
     PlaysOn-end s.supply s.is_failed s.pulls_left _ (input_of c.fill.new.source c.fill.new.self) _
     c.pieces.kept (in_comment c.pieces.finder) c.end_of_text.result
     (PlaysOn-fill s.supply s.is_failed s.pulls_left _ (input_of c.pieces.source c.pieces.buffer) _ _ _

@@ -19,7 +19,7 @@ problems-init g c =
       lender = refl;
       so_far = SoFar-start _ _ _ _ (reader_of c.new-problems.result) c.default-summary.result new.met_end new.ahead
           new.handed zero.0 zero.1.0 zero.1.1;
-      end = λ met. let bad : true ≡ false = sym met ∙ new.met_end in cc;
+      end = record { since = omega arith; met = λ met. let bad : true ≡ false = sym met ∙ new.met_end in cc };
       source = ap g.S.Source.is_failed new.source ∙ c.requires.source;
       sink = c.requires.sink;
       count = counted_none c.args.solver.now c.keeps_its_limit.ensures;
@@ -38,7 +38,7 @@ returns-in-Ok-None-clause-report g c =
     (g.K.Sink.accepted c.problems.sink) (reader_of c.problems.problems) (reader_of c.next.new.self)
     c.problems.summary c.in-Ok-None.field-0 c.in-Ok-None.field-0-is c.in-Ok-None.ensures.given
     c.in-Ok-None.ensures.counted c.problems.invariant.so_far c.next.ensures.stays
-    (c.next.ensures.end c.problems.invariant.end) c.problems.invariant.bound in
+    (c.next.ensures.end _ c.problems.invariant.end).met c.problems.invariant.bound in
     search rules
 
 pub returns-in-Err-clause-report : goal.returns-in-Err-clause-report
@@ -75,7 +75,7 @@ returns-in-Err-report_problem-clause-report g c =
     (reader_of c.next.new.self)
     c.problems.summary c.in-Ok-Some.field-0 c.in-Ok-Some.problem c.expanded.result c.report_problem.result
     c.in-Err-report_problem.fault c.in-Ok-Some.field-0-is c.in-Err-report_problem.is c.in-Ok-Some.ensures.given
-    c.problems.invariant.so_far c.next.ensures.stays (c.next.ensures.end c.problems.invariant.end)
+    c.problems.invariant.so_far c.next.ensures.stays (c.next.ensures.end _ c.problems.invariant.end).met
     (c.one_report.ensures.texts g.B.Board.geometry g.met.B.Board.numbers (request_of c.args.settings.now)
     c.requires.lines) c.report_problem.ensures.text in
     rw c.ended.ensures (search rules)
@@ -112,7 +112,7 @@ returns-then-asks_for-clause-report g c =
     (g.S.Source.supply (source_of c.new-problems.result)) (g.S.Source.supply (source_of c.next.new.self))
     (g.K.Sink.accepted c.args.sink.now) (g.K.Sink.accepted c.report_problem.new.sink) (reader_of c.next.new.self)
     c.in-Ok.counted (numbered c.in-Ok-Some.problem) more
-    (sym c.asks_for.ensures ∙ c.if-asks_for.true) (c.next.ensures.end c.problems.invariant.end) in
+    (sym c.asks_for.ensures ∙ c.if-asks_for.true) (c.next.ensures.end _ c.problems.invariant.end).met in
     search rules
 
 pub problems-preserved : goal.problems-preserved
@@ -144,7 +144,7 @@ problems-preserved g c =
           (g.K.Sink.accepted c.args.sink.now) (g.K.Sink.accepted c.report_problem.new.sink)
           (reader_of c.next.new.self) c.in-Ok.counted (numbered c.in-Ok-Some.problem) more
           (sym c.asks_for.ensures ∙ c.if-asks_for.false);
-      end = c.next.ensures.end so_far.end;
+      end = c.next.ensures.end _ so_far.end;
       source = failed-at_ok (g.S.Source.is_failed (source_of c.next.new.self))
           (g.S.Source.is_failed (source_of c.problems.problems)) c.next.result c.in-Ok-Some.field-0
           c.next.ensures.failed c.in-Ok-Some.is so_far.source;

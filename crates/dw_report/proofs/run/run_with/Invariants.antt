@@ -16,7 +16,8 @@ invariant-problems g l =
       so_far : SoFar g.B.Board.geometry (request_of l.settings) (source.supply (source_of l.initial.problems))
           (source.supply (source_of l.problems)) (sink.accepted l.initial.sink) (sink.accepted l.sink)
           (reader_of l.problems) l.summary;
-      end : EndIsTrue (source.supply (source_of l.problems)) (reader_of l.problems);
+      end : EndIsTrue (source.supply (source_of l.initial.problems)) (source.supply (source_of l.problems))
+          (reader_of l.problems);
       source : source.is_failed (source_of l.problems) ≡ false;
       sink : sink.is_failed l.sink ≡ false;
       count : Counted l.initial.solver l.solver;

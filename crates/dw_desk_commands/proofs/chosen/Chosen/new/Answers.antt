@@ -1,5 +1,5 @@
-use Rattle.std.proofs.Common.{refl}
-use Rattle.dw_desk_commands.specs.inner.Choosing.{AreAhead, AreToCome}
+use Rattle.std.proofs.Common.{refl, subst, sym}
+use Rattle.dw_desk_commands.specs.inner.Choosing.{AreAhead, AreToCome, EndIsKnown}
 use Rattle.dw_desk_commands.proofs.ChosenLemmas.{chosen_of_all}
 use Rattle.dw_desk_commands.proofs.chosen.Chosen.new.Goals as goal
 
@@ -7,6 +7,7 @@ pub returns-clause-fresh : goal.returns-clause-fresh
 unfolding AreToCome
 returns-clause-fresh g c =
     let geo = g.B.Board.geometry in
+    let supply = g.S.Source.supply in
     record {
       all = λ whole games (rest, is, come). (
         rest,
@@ -14,7 +15,7 @@ returns-clause-fresh g c =
         chosen_of_all geo c.args.form c.args.portion rest (AreAhead geo c.new.result rest) games
             (c.new.ensures.games rest) come,
       );
-      end = c.new.ensures.end;
+      end = subst (λ s. EndIsKnown supply (supply s) c.new.result) (sym c.new.ensures.source) c.new.ensures.end;
       portion = refl;
       runs = c.new.ensures.runs;
     }

@@ -4,7 +4,7 @@ use Rattle.dw_notation.specs.Problems.{numbered}
 use Rattle.dw_notation.specs.Reading.{NextGives, source_of}
 use Rattle.dw_notation.specs.inner.Readers.{reader_of}
 use Rattle.dw_desk_commands.specs.declared.chosen.Text.TheVariants.{Fens, Pdn}
-use Rattle.dw_desk_commands.specs.inner.Choosing.{ComesNext}
+use Rattle.dw_desk_commands.specs.inner.Choosing.{ComesNext, EndIsKnown}
 use Rattle.dw_desk_commands.proofs.ChosenLemmas.{next_game, next_line, no_line, without_text}
 use Rattle.dw_desk_commands.proofs.chosen.Text.next.Goals as goal
 
@@ -40,3 +40,23 @@ returns-in-Some-clause-given g c =
     (next_line g.B.Board.geometry supply lines after c.in-Some.problem game
     (without_text (numbered c.in-Some.problem) _ _ c.new.ensures.items c.new-in-Some.ensures.items) given
     new.ensures.stays)
+
+pub returns-in_err-next-in-Pdn-clause-end : goal.returns-in_err-next-in-Pdn-clause-end
+returns-in_err-next-in-Pdn-clause-end g c = λ began known.
+    c.next.ensures.end began (subst (λ z. EndIsKnown g.S.Source.supply began z) c.in-Pdn.is known)
+
+pub returns-in_ok-next-in-Pdn-clause-end : goal.returns-in_ok-next-in-Pdn-clause-end
+returns-in_ok-next-in-Pdn-clause-end g c = λ began known.
+    c.next.ensures.end began (subst (λ z. EndIsKnown g.S.Source.supply began z) c.in-Pdn.is known)
+
+pub returns-in_err-next-in-Fens-clause-end : goal.returns-in_err-next-in-Fens-clause-end
+returns-in_err-next-in-Fens-clause-end g c = λ began known.
+    c.next-in-Fens.ensures.end began (subst (λ z. EndIsKnown g.S.Source.supply began z) c.in-Fens.is known)
+
+pub returns-in-None-clause-end : goal.returns-in-None-clause-end
+returns-in-None-clause-end g c = λ began known.
+    c.next-in-Fens.ensures.end began (subst (λ z. EndIsKnown g.S.Source.supply began z) c.in-Fens.is known)
+
+pub returns-in-Some-clause-end : goal.returns-in-Some-clause-end
+returns-in-Some-clause-end g c = λ began known.
+    c.next-in-Fens.ensures.end began (subst (λ z. EndIsKnown g.S.Source.supply began z) c.in-Fens.is known)

@@ -45,6 +45,22 @@ returns-then-not-is_whole-clause-given g c =
     c.pieces.invariant.nothing c.in-Ok.ensures.piece (ap handed_out c.next_piece.ensures.numbers)
     (record { ahead = handed.ahead _; rest = refl; end = refl; given = c.in_default.ensures.given }))
 
+pub returns-in-Err-clause-end : goal.returns-in-Err-clause-end
+unfolding reader_of
+returns-in-Err-clause-end g c = λ began known. c.next_piece.ensures.end began (c.pieces.invariant.end began known)
+
+pub returns-in-Some-clause-end : goal.returns-in-Some-clause-end
+unfolding reader_of
+returns-in-Some-clause-end g c = λ began known.
+    let handed = c.hand_out.ensures in
+    rw (handed.source, handed.buffer) (c.next_piece.ensures.end began (c.pieces.invariant.end began known))
+
+pub returns-then-not-is_whole-clause-end : goal.returns-then-not-is_whole-clause-end
+unfolding reader_of
+returns-then-not-is_whole-clause-end g c = λ began known.
+    let handed = c.hand_out.ensures in
+    rw (handed.source, handed.buffer) (c.next_piece.ensures.end began (c.pieces.invariant.end began known))
+
 pub pieces-preserved : goal.pieces-preserved
 pieces-preserved g c =
     let so_far = c.pieces.invariant in
@@ -59,7 +75,7 @@ pieces-preserved g c =
           c.in-Ok.is_whole
           c.if-not-is_whole.false (omega (arith, c.if-is_over.ensures, so_far.handed)) so_far.nothing next.piece number
           (record { ahead = handed.ahead _; rest = refl; end = refl; given = c.in_default.ensures.given });
-      end = λ known. next.end (so_far.end known);
+      end = λ began known. next.end began (so_far.end began known);
       handed = c.in_default.ensures.handed ∙ add-zero _ ∙ number ∙ so_far.handed;
       stays = λ met. next.stays (so_far.stays met);
       failed = c.next_piece.ensures.failed ∙ or-not_err _ c.in-Ok.is ∙ so_far.failed;

@@ -17,6 +17,19 @@ returns-then-cut-clause-piece g c =
     (progress_at c.fill.new.self now.pieces (handed_out now.numbers)) (progress_of c.cut.new.self) carried
     (c.cut.ensures.found c.if-cut.true) c.cut.ensures.met_end)
 
+pub returns-in_err-fill-clause-end : goal.returns-in_err-fill-clause-end
+returns-in_err-fill-clause-end g c = λ began known.
+    c.fill.ensures.passes.end began (c.reads.invariant.end began known)
+
+pub returns-then-is_empty-clause-end : goal.returns-then-is_empty-clause-end
+returns-then-is_empty-clause-end g c = λ began known.
+    c.fill.ensures.passes.end began (c.reads.invariant.end began known)
+
+pub returns-then-cut-clause-end : goal.returns-then-cut-clause-end
+returns-then-cut-clause-end g c = λ began known.
+    let cut = c.cut.ensures in
+    rw (cut.source, cut.met_end) (c.fill.ensures.passes.end began (c.reads.invariant.end began known))
+
 pub reads-preserved : goal.reads-preserved
 reads-preserved g c =
     let s = g.S.Source in
@@ -36,7 +49,7 @@ reads-preserved g c =
           (cut.same c.if-cut.false) cut.met_end);
       numbers = cut.numbers ∙ so_far.numbers;
       stays = λ was. cut.met_end ∙ (fill.passes.stays (so_far.stays was)).1;
-      end = λ known. rw (cut.source, cut.met_end) (fill.passes.end (so_far.end known));
+      end = λ began known. rw (cut.source, cut.met_end) (fill.passes.end began (so_far.end began known));
       failed = ap (λ r. s.is_failed r.now) cut.source ∙ c.fill.ensures.passes.failed ∙ or-not_err _ c.in_ok-fill.was ∙
           so_far.failed;
       again = λ failed starved.

@@ -1,5 +1,6 @@
 use Rattle.std.proofs.Common.{◌≡◌, ◌≤◌, true}
 use Rattle.dw_notation.specs.Buffering.{unread_in, met_end_in, EndIsKnown, weight}
+use Rattle.dw_notation.specs.Streams.{Supply}
 use Rattle.dw_notation.specs.inner.Cutting.{IsStarved, CarriesOn, progress_of}
 use Rattle.dw_notation.proofs.problems.reader.Problems.next_piece.Given as goal
 
@@ -13,8 +14,8 @@ invariant-reads g l =
       carried : CarriesOn (source.supply old) (source.supply now) (progress_of l.initial.self) (progress_of l.self);
       numbers : l.self.numbers ≡ l.initial.self.numbers;
       stays : met_end_in l.initial.self.buffer ≡ true → met_end_in l.self.buffer ≡ true;
-      end : EndIsKnown (source.supply old) (met_end_in l.initial.self.buffer)
-          → EndIsKnown (source.supply now) (met_end_in l.self.buffer);
+      end : (began : Supply) → EndIsKnown began (source.supply old) (met_end_in l.initial.self.buffer)
+          → EndIsKnown began (source.supply now) (met_end_in l.self.buffer);
       failed : source.is_failed now ≡ source.is_failed old;
       again : source.is_failed old ≡ true → IsStarved (progress_of l.initial.self) → IsStarved (progress_of l.self);
       lighter : weight (source.pulls_left now) (unread_in l.self.buffer)

@@ -12,7 +12,7 @@ returns-then-self-clause-passes g c = record {
   took = Reads-nil (g.S.Source.supply c.args.source.now);
   same = append-nil _;
   stays = λ met. (refl, met);
-  end = λ known. known;
+  end = λ began known. known;
   failed = or-false _;
   lighter = omega arith;
 }
