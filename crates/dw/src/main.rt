@@ -4,7 +4,7 @@
 ghost use Rattle.std.specs.Prelude.{◌≡◌, Result, Err, [], false, true};
 ghost use Rattle.dw_commands.specs.Ending.{ending_of};
 ghost use Rattle.dw_notation.specs.Endpoints.{told_by, read_from, ends_met, has_read_failed};
-ghost use Rattle.dw_notation.specs.Endpoints.{accepted_by, has_write_failed};
+ghost use Rattle.dw_notation.specs.Endpoints.{Holds, accepted_by, bytes_told, has_write_failed, written_to};
 ghost use Rattle.dw_report.specs.Request.{request_of};
 ghost use Rattle.dw_report.specs.Running.{Runs, StopsRightly};
 ghost use Rattle.dw_report.specs.declared.settings.RunFault.{RunFault as AnyFault};
@@ -71,7 +71,7 @@ fn report_on<'a, B: Board>(
 
 /// How a run ended, with its streams.
 #[derive(Drop)]
-struct Ended<'a, R, W> {
+struct Ended<'a, R, W: Write> {
     source: Reading<R>,
     sink: Writing<W>,
     ending: Ending<&'a str>,
@@ -84,22 +84,24 @@ fn report_between<'a, B: Board, R: Read, W: Write>(
     reader: R,
     writer: W,
 ) -> Ended<'a, R, W>
-    ensures { (ran : Result Summary AnyFault)
+    ensures report { (ran : Result Summary AnyFault)
         × Runs B.geometry (request_of job.settings)
         (record { told = []; coming = R.remaining reader; ends = 0 })
         (record {
           told = told_by result.source;
           coming = R.remaining (read_from result.source);
           ends = ends_met result.source;
-        }) [] (accepted_by result.sink) ran
+        }) (bytes_told (W.contents writer)) (accepted_by result.sink) ran
         × (ran ≡ Err faults.Read → has_read_failed result.source ≡ true)
         × (ran ≡ Err faults.Write → has_write_failed result.sink ≡ true)
         × StopsRightly job.settings.command 0 job.settings.limit ran
         × (result.ending ≡ ending_of ran job.settings.only) }
+    ensures holds { Holds W.contents (written_to result.sink) (accepted_by result.sink) }
 {
     let mut source = Reading::new(reader);
     let mut sink = Writing::new(writer);
     let ending = job.run(alloc, &mut source, &mut sink);
+    sink.holds_what_it_accepted();
     Ended {
         source,
         sink,

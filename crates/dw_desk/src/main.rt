@@ -5,7 +5,7 @@ ghost use Rattle.std.specs.Prelude.{◌≡◌, ◌⊎◌, [], false};
 ghost use Rattle.dw_desk_commands.specs.Commands.{Obeys};
 ghost use Rattle.dw_desk_commands.specs.Ending.{FailsForCause};
 ghost use Rattle.dw_notation.specs.Endpoints.{told_by, read_from, ends_met, has_read_failed};
-ghost use Rattle.dw_notation.specs.Endpoints.{accepted_by, has_write_failed};
+ghost use Rattle.dw_notation.specs.Endpoints.{Holds, accepted_by, bytes_told, has_write_failed, written_to};
 
 mod progress;
 
@@ -74,7 +74,7 @@ fn run_with<'a, B: Board>(
 
 /// How a command ended, with its streams.
 #[derive(Drop)]
-struct Ended<'a, R, W> {
+struct Ended<'a, R, W: Write> {
     source: Reading<R>,
     sink: Writing<W>,
     ending: Ending<&'a str>,
@@ -95,12 +95,14 @@ fn run_between<'a, B: Board, P: DeskWatcher, R: Read, W: Write>(
           told = told_by result.source;
           coming = R.remaining (read_from result.source);
           ends = ends_met result.source;
-        }) [] (accepted_by result.sink) result.ending }
+        }) (bytes_told (W.contents writer)) (accepted_by result.sink) result.ending }
     ensures fails { FailsForCause (has_read_failed result.source) (has_write_failed result.sink) result.ending }
+    ensures holds { Holds W.contents (written_to result.sink) (accepted_by result.sink) }
 {
     let mut source = Reading::new(reader);
     let mut sink = Writing::new(writer);
     let ending = run_on::<B, _, _, _>(alloc, slices, args, &mut source, &mut sink);
+    sink.holds_what_it_accepted();
     Ended {
         source,
         sink,

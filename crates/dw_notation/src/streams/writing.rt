@@ -1,41 +1,71 @@
 //! A writer of std as a sink.
-ghost use Rattle.std.specs.Prelude.{◌≡◌, [], false};
+ghost use Rattle.std.specs.Prelude.{◌≡◌, false};
 
 use super::{History, Sink};
 use std::io;
+use std::marker::Model;
+use std::snapshot::Snapshot;
 
 /// A writer of std as a sink, with the bytes that it took. It makes no write after one that failed or took nothing.
 #[derive(Drop)]
-pub struct Writing<W> {
+pub struct Writing<W: io::Write> {
     writer: W,
     has_failed: bool,
-    accepted: History,
+    /// The writer before the first write.
+    first: Snapshot<W>,
+    taken: History,
 }
 
-impl<W> Writing<W> {
-    ghost use Rattle.dw_notation.specs.Endpoints.{written_to, accepted_by, has_write_failed};
+impl<W: io::Write> Model for Writing<W> {
+    ghost use Rattle.std.specs.Prelude.{◌++◌};
+    ghost use Rattle.std.specs.Io.KnownBytes.{Appends as Grows};
+    ghost use Rattle.dw_notation.specs.Endpoints.{Written, bytes_told};
+
+    ghost Value = { Written W };
+
+    ghost view = { λ s. record {
+      writer = s.writer;
+      accepted = bytes_told (W.contents s.first.value) ++ s.taken;
+      has_failed = s.has_failed;
+    } };
+
+    ghost invariant = { λ s. Grows (W.contents s.first.value) (W.contents s.writer) s.taken };
+}
+
+impl<W: io::Write> Writing<W> {
+    ghost use Rattle.dw_notation.specs.Endpoints.{Holds, written_to, accepted_by, has_write_failed, bytes_told};
 
     /// Returns a sink that appends to the writer.
     pub fn new(writer: W) -> Writing<W>
         ensures writer { written_to result ≡ writer }
-        ensures accepted { accepted_by result ≡ [] }
+        ensures accepted { accepted_by result ≡ bytes_told (W.contents writer) }
         ensures sound { has_write_failed result ≡ false }
     {
         Writing {
+            first: Snapshot::of(&writer),
             writer,
             has_failed: false,
-            accepted: History::new(),
+            taken: History::new(),
         }
+    }
+
+    /// States that the writer holds all that was accepted.
+    pub fn holds_what_it_accepted(&self)
+        ensures { Holds W.contents (written_to self.now) (accepted_by self.now) }
+    {
+        let _ = &self.taken;
     }
 
     /// Returns the writer, with everything that was written.
     pub fn into_inner(self) -> W
-        ensures { result ≡ written_to self }
+        ensures writer { result ≡ written_to self }
+        ensures holds { Holds W.contents result (accepted_by self) }
     {
         let Writing {
             writer,
             has_failed: _,
-            accepted: _,
+            first: _,
+            taken: _,
         } = self;
         writer
     }
@@ -66,7 +96,7 @@ impl<W: io::Write> Sink for Writing<W> {
                 Some(0)
             }
             Ok(count) => {
-                self.accepted.add(&piece[..count]);
+                self.taken.add(&piece[..count]);
                 Some(count)
             }
             Err(_) => {
