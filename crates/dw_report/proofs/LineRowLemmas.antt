@@ -24,7 +24,8 @@ use Rattle.dw_list.specs.Tokens.{token_of}
 use Rattle.dw_list.specs.Laws.{LinesInTurn}
 use Rattle.dw_report.specs.ListedText.{AreLineTexts, IsListing, IsListedText, more_after}
 use Rattle.dw_report.specs.inner.Rows.{has_tokens, IsRow, IsNothing}
-use Rattle.dw_report.specs.Running.{AreLinesOf, AreWholeLines, IsNoLine}
+use Rattle.dw_report.specs.Running.{AreLinesOf, IsNoLine}
+use Rattle.dw_report.specs.inner.Running.{AreWholeLines}
 use Rattle.dw_report.specs.inner.Running.{TextEnds}
 use Rattle.dw_report.proofs.JudgedTextLemmas.{line_playable}
 use Rattle.dw_report.proofs.WritingLemmas.{stops_within, at_stop, at_sink, fault_stays}

@@ -11,10 +11,11 @@ use Rattle.dw_notation.specs.Streams.{Supply, Reads, MeetsEnd}
 use Rattle.dw_notation.specs.inner.StreamLemmas.{Reads-trans, Appends-trans, Appends-nil}
 use Rattle.dw_notation.specs.declared.problems.Form.{Form}
 use Rattle.dw_notation.specs.declared.problems.TheConstants.{MAX_PROBLEMS}
+use Rattle.dw_notation.specs.Writes.{IsBeginning}
 use Rattle.dw_notation.specs.inner.Writes.{Writes, WritesShort}
 use Rattle.dw_report.specs.Request.{number_is_chosen, number_is_asked, Request}
-use Rattle.dw_report.specs.Report.{AreTexts, IsReportOn, chosen}
-use Rattle.dw_report.specs.Running.{Runs, IsWhole, IsPart, IsPartOn, BeginsReport, IsRefused, AreRefused, ReadsUpTo}
+use Rattle.dw_report.specs.Report.{AreTexts, IsReport, IsReportOn, chosen}
+use Rattle.dw_report.specs.Running.{Runs, IsWhole, IsPart, IsPartOn, IsRefused, AreRefused, ReadsUpTo}
 use Rattle.dw_report.specs.inner.Running.{TextEnds, CountsOne, ended_by}
 use Rattle.dw_report.specs.declared.problem.TextFault.{TextFault}
 use Rattle.dw_solve.specs.declared.stop.Stop.{Stop}
@@ -158,7 +159,7 @@ SoFar-asked g request before now taken after reader summary problem more asked o
   read = more.has.read;
   took = more.has.took;
   out = more.wrote.text;
-  wrote = more.wrote.wrote;
+  wrote = more.wrote.wrote.grown;
   ends = HasHanded-ahead (λ bytes. IsWhole g request before now more.has.read bytes more.wrote.text summary) g
       request.form before now reader (more.front ++ problem ∷ []) more.has over
       (λ text rest are. asked_whole g request before now taken after reader summary problem more text rest asked are);
@@ -184,7 +185,7 @@ SoFar-end g request before now after taken mid old new summary next so_far took 
       read = read;
       took = Reads-trans before now after so_far.has.read next so_far.has.took took;
       out = so_far.wrote.text;
-      wrote = so_far.wrote.wrote;
+      wrote = so_far.wrote.wrote.grown;
       ends = HasHanded-end (λ bytes. IsWhole g request before after read bytes so_far.wrote.text summary) g
           request.form before now after old new handed next so_far.has still stays gives over (λ text are. record {
             problems = handed;
@@ -224,7 +225,7 @@ SoFar-read g request before now after taken mid old summary next so_far took non
       read = has.read ++ next;
       took = Reads-trans before now after has.read next has.took took;
       out = so_far.wrote.text;
-      wrote = so_far.wrote.wrote;
+      wrote = so_far.wrote.wrote.grown;
       ends = record {
         ended = so_far.handed;
         are = subst (AreProblems g request.form false (has.read ++ next)) (ap (λ l. so_far.handed ++ l) none
@@ -262,21 +263,21 @@ SoFar-write g request before now after taken mid written old new summary problem
       read = has.read;
       took = has.took;
       out = front ++ short.stops.out;
-      wrote = Appends-trans taken mid written front short.stops.out so_far.wrote.wrote short.stops.taken;
-      ends = HasHanded-ahead (λ text. BeginsReport g request text (front ++ short.stops.out)) g request.form before
+      wrote = (Appends-trans taken mid written front short.stops.out so_far.wrote.wrote short.stops.taken).grown;
+      ends = HasHanded-ahead (λ text. (whole : List ℕ) × IsReport g request text whole
+          × IsBeginning (front ++ short.stops.out) whole) g request.form before
           after new (handed ++ problem ∷ []) has over (λ text rest are.
-          let behind = exist (chosen request.only rest) in
-          record {
-            whole = (front ++ short.text) ++ behind.0;
-            is = (
+          let behind = exist (chosen request.only rest) in (
+            (front ++ short.text) ++ behind.0,
+            (
               (handed ++ problem ∷ []) ++ rest,
               are,
               report_on-append g request (handed ++ problem ∷ []) rest (front ++ short.text) behind.0
                   (report_on-append g request handed (problem ∷ []) front short.text so_far.wrote.is short.is)
                   behind.1,
-            );
-            front = begins_within front short.stops.out short.text behind.0 short.stops.front;
-          });
+            ),
+            begins_within front short.stops.out short.text behind.0 short.stops.front,
+          ));
     }
 
 pub SoFar-stopped : (g : Geometry) (request : Request) (before now after : Supply) (taken mid written : List ℕ)
@@ -301,7 +302,7 @@ SoFar-stopped g request before now after taken mid written old new summary probl
       read = has.read;
       took = has.took;
       out = out;
-      wrote = Appends-trans taken mid written so_far.wrote.text part.text so_far.wrote.wrote part.wrote;
+      wrote = (Appends-trans taken mid written so_far.wrote.text part.text so_far.wrote.wrote part.wrote).grown;
       ends = HasHanded-ahead (λ text. IsPart g request has.read text out) g request.form before after new
           (handed ++ problem ∷ []) has over (λ text rest are. record {
             problems = (handed ++ problem ∷ []) ++ rest;

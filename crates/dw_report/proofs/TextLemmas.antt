@@ -16,8 +16,8 @@ use Rattle.dw_notation.specs.TextLaws.{MovesHaveTexts, LinesHaveTexts}
 use Rattle.dw_list.specs.Laws.{LinesExist, LineOrPlace}
 use Rattle.dw_report.specs.Request.{Request}
 use Rattle.dw_report.specs.Report.{IsMovesText, IsSaid, IsFurther, IsProblemText, AreTexts, heading, move_line}
-use Rattle.dw_report.specs.Report.{refused_text}
-use Rattle.dw_report.specs.JsonRows.{IsMovesRow, move_pair, shown_row}
+use Rattle.dw_report.specs.JsonRows.{IsMovesRow, shown_row}
+use Rattle.dw_report.specs.inner.Rows.{move_pair, refused_text}
 use Rattle.dw_report.specs.inner.Rows.{count_line}
 use Rattle.dw_report.specs.Report.{chosen, IsReport}
 use Rattle.dw_verdict.specs.VerdictLaws.{OneVerdict, TriesAreListed}

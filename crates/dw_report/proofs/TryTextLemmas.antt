@@ -20,7 +20,8 @@ use Rattle.dw_solve.specs.inner.ListLemmas.{at_item}
 use Rattle.dw_verdict.specs.Verdict.{Verdict, IsVerdict, IsRefutation, IsTry, Tries, FindsRefutation}
 use Rattle.dw_report.specs.JudgedText.{IsVerdictText, IsTryLine, AreTryLines, IsJudgedText}
 use Rattle.dw_report.specs.inner.JudgedText.{AreTriesListed, IsTryText}
-use Rattle.dw_report.specs.Running.{AreWholeLines, AreLinesOf}
+use Rattle.dw_report.specs.Running.{AreLinesOf}
+use Rattle.dw_report.specs.inner.Running.{AreWholeLines}
 use Rattle.dw_report.specs.inner.Running.{TextEnds}
 use Rattle.dw_report.specs.declared.problem.TextFault.{TextFault}
 use Rattle.dw_report.specs.declared.problem.TextFault.TheVariants.{Stopped, Sink}

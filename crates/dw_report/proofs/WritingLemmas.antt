@@ -14,7 +14,7 @@ use Rattle.dw_notation.specs.inner.Writes.{Writes, WritesShort}
 use Rattle.dw_report.specs.JsonRows.{refused_row}
 use Rattle.dw_report.specs.Request.{number_is_chosen, writes_rows, Request}
 use Rattle.dw_report.specs.Report.{IsSaid, IsFurther, IsProblemText, AreTexts, IsReportOn, chosen, heading}
-use Rattle.dw_report.specs.Report.{refused_text}
+use Rattle.dw_report.specs.inner.Rows.{refused_text}
 use Rattle.dw_report.specs.declared.settings.Command.{Command}
 use Rattle.dw_report.specs.declared.settings.Command.TheVariants.{Show, ShowRow, Moves, MovesRow, Judge, List as Lists}
 use Rattle.dw_report.specs.Running.{AreLinesOf, IsPartOn}

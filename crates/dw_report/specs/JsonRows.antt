@@ -20,16 +20,13 @@ refused_row number fault =
 abbrev pub shown_row : Geometry → (number : ℕ) → Placement → List ℕ
 shown_row g number p = row ((codes "problem", count number) ∷ (codes "fen", string (written g p)) ∷ [])
 
--- the text of a legal move, and the position after it
-abbrev pub move_pair : Geometry → Placement → List Listed → Listed → List ℕ × List ℕ
-move_pair g p list l = (text_among list l, written g (play g p l.step))
-
 -- the row of the moves of a position: the number of the problem, the written FEN, the number of pieces that each move
--- takes, and all legal moves in order
+-- takes, and all legal moves in order, each as its text and the position after it
 pub record IsMovesRow (g : Geometry) (number : ℕ) (p : Placement) (text : List ℕ) : Type 0 where
   pub list : List Listed
   pub all : AreListed g p list
   pub most : ℕ
   pub best : IsBest g p most
   pub is : text ≡ row ((codes "problem", count number) ∷ (codes "fen", string (written g p))
-      ∷ (codes "taking", count most) ∷ (codes "moves", pairs (map (move_pair g p list) list)) ∷ [])
+      ∷ (codes "taking", count most)
+      ∷ (codes "moves", pairs (map (λ l. (text_among list l, written g (play g p l.step))) list)) ∷ [])

@@ -11,7 +11,6 @@ use Rattle.dw_moves.specs.Order.{Listed, AreListed}
 use Rattle.dw_notation.specs.Text.{text_among}
 use Rattle.dw_notation.specs.TextLines.{Found}
 use Rattle.dw_notation.specs.Problems.{Numbered, AreProblems}
-use Rattle.dw_notation.specs.declared.problems.ProblemFault.{ProblemFault}
 use Rattle.dw_report.specs.JsonRows.{IsMovesRow, refused_row, shown_row}
 use Rattle.dw_report.specs.Refusals.{refusal_text}
 use Rattle.dw_report.specs.Request.{number_is_chosen, writes_rows, Request}
@@ -56,14 +55,11 @@ IsSaid g MovesRow request number p text = IsMovesRow g number p text
 IsSaid g Judge request number p text = IsJudgedText g p request.moves text
 IsSaid g Lists request number p text = IsListedText g p request.moves request.lines request.after text
 
--- the text after the heading of a refused problem: its row, or nothing, since its first line says why
-abbrev pub refused_text : Command → (number : ℕ) → ProblemFault → List ℕ
-refused_text command number fault = if writes_rows command then refused_row number fault else []
-
--- the text after the heading: that of the command, or of the refusal
+-- the text after the heading: that of the command; of a refusal its row, or nothing, since its first line says why
 abbrev pub IsFurther : Geometry → Request → (number : ℕ) → Found → List ℕ → Type 0
 IsFurther g request number (Ok p) text = IsSaid g request.command request number p text
-IsFurther g request number (Err fault) text = text ≡ refused_text request.command number fault
+IsFurther g request number (Err fault) text =
+    text ≡ (if writes_rows request.command then refused_row number fault else [])
 
 -- the text of a problem: its first line and the rest, or its row
 pub record IsProblemText (g : Geometry) (request : Request) (problem : Numbered) (text : List ℕ) : Type 0 where

@@ -7,7 +7,7 @@ use Rattle.dw_board.specs.Placement.{Placement}
 use Rattle.dw_moves.specs.Moves.{Move}
 use Rattle.dw_notation.specs.TextLines.{line_feed, Found}
 use Rattle.dw_notation.specs.Problems.{Numbered, AreProblems}
-use Rattle.dw_notation.specs.Streams.{Supply, Reads, MeetsEnd, HoldsAhead, Appends}
+use Rattle.dw_notation.specs.Streams.{Supply, Reads, MeetsEnd, HoldsAhead}
 use Rattle.dw_notation.specs.Writes.{IsBeginning}
 use Rattle.dw_notation.specs.declared.problems.TheConstants.{MAX_PROBLEMS, MAX_READ}
 use Rattle.dw_notation.specs.declared.problems.Form.{Form}
@@ -83,22 +83,12 @@ pub record StopsReading (g : Geometry) (request : Request) (read out : List ℕ)
   pub report : IsReportOn g request ended out
   pub unasked : list_any (λ problem. number_is_asked request.only problem.number) ended ≡ false
 
--- some beginning of the report, byte for byte
-pub record BeginsReport (g : Geometry) (request : Request) (bytes out : List ℕ) : Type 0 where
-  pub whole : List ℕ
-  pub is : IsReport g request bytes whole
-  pub front : IsBeginning out whole
-
--- each line is whole: nothing, or something that ends with a line feed
-abbrev pub AreWholeLines : List ℕ → Type 0
-AreWholeLines lines = (lines ≡ []) ⊎ ((front : List ℕ) × (lines ≡ front ++ line_feed ∷ []))
-
--- whole lines at the beginning of a text of some kind
+-- whole lines at the beginning of a text of some kind: nothing, or something that ends with a line feed
 pub record AreLinesOf (P : List ℕ → Type 0) (lines : List ℕ) : Type 0 where
   pub text : List ℕ
   pub is : P text
   pub front : IsBeginning lines text
-  pub whole : AreWholeLines lines
+  pub whole : (lines ≡ []) ⊎ ((most : List ℕ) × (lines ≡ most ++ line_feed ∷ []))
 
 -- the whole texts of the chosen problems before the one of this number; its first line, or nothing before a row; and
 -- whole lines of its rest
@@ -132,7 +122,7 @@ RunEnds g request before after read out (Err (ends.Stopped why expanded)) =
     HoldsAhead (λ bytes. IsPart g request read bytes out) before after read
 RunEnds g request before after read out (Err ends.Read) = StopsReading g request read out
 RunEnds g request before after read out (Err ends.Write) =
-    HoldsAhead (λ bytes. BeginsReport g request bytes out) before after read
+    HoldsAhead (λ bytes. (whole : List ℕ) × IsReport g request bytes whole × IsBeginning out whole) before after read
 
 -- the effect of a run on its source and its sink: it read some bytes, and wrote its output for them
 pub record Runs (g : Geometry) (request : Request) (before after : Supply) (accepted new : List ℕ)
@@ -140,7 +130,7 @@ pub record Runs (g : Geometry) (request : Request) (before after : Supply) (acce
   pub read : List ℕ
   pub took : Reads before after read
   pub out : List ℕ
-  pub wrote : Appends accepted new out
+  pub wrote : new ≡ accepted ++ out
   pub ends : RunEnds g request before after read out result
 
 -- how a run may be stopped, with a solver that had expanded `before` positions: `show` never; `moves` and rows only for

@@ -2,7 +2,8 @@
 ghost use Rattle.std.specs.Prelude.{◌≡◌, ◌<◌, [], HoldsAt, IfOk, IsOkAnd, length, map};
 ghost use Rattle.std.specs.String.{string_bytes};
 ghost use Rattle.dw_moves.specs.Order.{AreListed};
-ghost use Rattle.dw_report.specs.JsonRows.{IsMovesRow, move_pair, refused_row, shown_row as row_shown};
+ghost use Rattle.dw_report.specs.JsonRows.{IsMovesRow, refused_row, shown_row as row_shown};
+ghost use Rattle.dw_report.specs.inner.Rows.{move_pair};
 ghost use Rattle.dw_report.specs.declared.problem.TextFault.TheVariants as because;
 ghost use Rattle.dw_report.specs.inner.Running.{SinkEnds, TextEnds};
 ghost use Rattle.dw_solve.specs.declared.stop.Stop.TheVariants as stops;

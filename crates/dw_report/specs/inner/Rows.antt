@@ -1,11 +1,17 @@
 -- The text of a line on a line of its own, and what a list of lines begins with.
-use Rattle.std.specs.Prelude.{◌≡◌, ◌==◌, ◌||◌, ℕ, ◌↔◌, List, [], ◌++◌, Bool, codes, decimal}
+use Rattle.std.specs.Prelude.{◌≡◌, ◌==◌, ◌||◌, ℕ, ◌↔◌, List, [], ◌++◌, Bool, codes, decimal, if◌then◌else◌}
 use Rattle.dw_board.specs.Geometry.{Geometry}
 use Rattle.dw_board.specs.Placement.{Placement}
-use Rattle.dw_moves.specs.Moves.{Move}
-use Rattle.dw_notation.specs.Text.{IsLineText}
+use Rattle.dw_board.specs.FenText.{written}
+use Rattle.dw_moves.specs.Moves.{Move, play}
+use Rattle.dw_moves.specs.Order.{Listed}
+use Rattle.dw_notation.specs.Text.{IsLineText, text_among}
+use Rattle.dw_notation.specs.declared.problems.ProblemFault.{ProblemFault}
 use Rattle.dw_solve.specs.Lines.{Lines}
 use Rattle.dw_list.specs.LineStack.{LineStack, AreToCome}
+use Rattle.dw_report.specs.JsonRows.{refused_row}
+use Rattle.dw_report.specs.Request.{writes_rows}
+use Rattle.dw_report.specs.declared.settings.Command.{Command}
 
 -- the text of a line of play and a line feed
 abbrev pub IsRow : Geometry → Placement → List Move → List ℕ → Type 0
@@ -34,6 +40,14 @@ count_line moves taken = codes "moves " ++ decimal moves ++ codes " taking " ++ 
 -- the refusal of a list of moves that is no line, with the place at which it leaves all lines
 abbrev pub refused_line : ℕ → List ℕ
 refused_line place = codes "refused token: 1 not a line at " ++ decimal place ++ codes "\n"
+
+-- the text of a legal move, and the position after it
+abbrev pub move_pair : Geometry → Placement → List Listed → Listed → List ℕ × List ℕ
+move_pair g p list l = (text_among list l, written g (play g p l.step))
+
+-- the text after the heading of a refused problem: its row, or nothing, since its first line says why
+abbrev pub refused_text : Command → (number : ℕ) → ProblemFault → List ℕ
+refused_text command number fault = if writes_rows command then refused_row number fault else []
 
 -- lines have tokens on boards of 10 and 8 rows
 abbrev pub has_tokens : Geometry → Bool

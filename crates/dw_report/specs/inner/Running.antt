@@ -1,10 +1,10 @@
 -- The effect of the parts of a run.
-use Rattle.std.specs.Prelude.{◌≡◌, ℕ, ◌+◌, ◌≤◌, ◌<◌, List, [], ◌∷◌, ◌++◌, length, Bool, true, false, Result, Ok}
+use Rattle.std.specs.Prelude.{◌≡◌, ℕ, ◌+◌, ◌≤◌, ◌<◌, ◌⊎◌, List, [], ◌∷◌, ◌++◌, length, Bool, true, false, Result, Ok}
 use Rattle.std.specs.Prelude.{Err}
 use Rattle.dw_board.specs.Geometry.{Geometry}
 use Rattle.dw_board.specs.Placement.{Placement}
 use Rattle.dw_board.specs.Diagram.{diagram_text}
-use Rattle.dw_notation.specs.TextLines.{Found}
+use Rattle.dw_notation.specs.TextLines.{line_feed, Found}
 use Rattle.dw_notation.specs.Problems.{Numbered}
 use Rattle.dw_notation.specs.inner.Writes.{Writes, WritesShort}
 use Rattle.dw_solve.specs.Searching.{IsCounted}
@@ -113,6 +113,10 @@ ended_by Sink expanded = ends.Write
 abbrev pub StopsSearch : ℕ → Stop → ℕ → Type 0
 StopsSearch limit Limit expanded = expanded ≡ limit
 StopsSearch limit Memory expanded = expanded ≤ limit
+
+-- each line is whole: nothing, or something that ends with a line feed
+abbrev pub AreWholeLines : List ℕ → Type 0
+AreWholeLines lines = (lines ≡ []) ⊎ ((most : List ℕ) × (lines ≡ most ++ line_feed ∷ []))
 
 -- the heading of a problem, and whole lines of what follows it
 pub record IsProblemPart (g : Geometry) (request : Request) (problem : Numbered) (out : List ℕ) : Type 0 where

@@ -1,7 +1,7 @@
 use Rattle.std.proofs.Common.{◌∙◌, ap, map}
 use Rattle.std.specs.String.{string_bytes}
 use Rattle.std.proofs.lemmas.List.{take_all}
-use Rattle.dw_report.specs.JsonRows.{move_pair}
+use Rattle.dw_report.specs.inner.Rows.{move_pair}
 use Rattle.dw_report.proofs.MoveLineLemmas.{no_move, pairs_more}
 use Rattle.dw_report.proofs.json_rows.move_pairs.Goals as goal
 

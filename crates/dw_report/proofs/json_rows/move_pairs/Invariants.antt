@@ -1,6 +1,6 @@
 use Rattle.std.proofs.Common.{◌≡◌, map, take}
 use Rattle.std.specs.String.{string_bytes}
-use Rattle.dw_report.specs.JsonRows.{move_pair}
+use Rattle.dw_report.specs.inner.Rows.{move_pair}
 use Rattle.dw_report.proofs.json_rows.move_pairs.Given as goal
 
 abbrev pub invariant-moves : goal.invariant-moves

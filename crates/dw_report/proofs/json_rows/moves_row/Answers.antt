@@ -5,7 +5,7 @@ use Rattle.json.specs.Json.{string}
 use Rattle.dw_json.specs.Rows.{Member, count, pairs, row}
 use Rattle.dw_json.specs.inner.Composing.{begun_more, if_ok}
 use Rattle.dw_moves.specs.Order.{AreListed}
-use Rattle.dw_report.specs.JsonRows.{move_pair}
+use Rattle.dw_report.specs.inner.Rows.{move_pair}
 use Rattle.dw_report.proofs.json_rows.moves_row.Goals as goal
 
 pub move_pairs-requires : goal.move_pairs-requires
