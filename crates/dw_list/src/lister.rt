@@ -112,6 +112,14 @@ impl<'a, B: Board, M: Memo<B>, G: Guide<B>> Lister<'a, B, M, G> {
         self.solver.expanded()
     }
 
+    /// Returns the number of positions that the solver may expand in all.
+    pub fn limit(&self) -> u64
+        ensures limit { result ≡ (solver_of self.now).limit }
+        ensures within { (solver_of self.now).expanded ≤ (solver_of self.now).limit }
+    {
+        self.solver.limit()
+    }
+
     /// Returns the number of entries that the solver's memo has lost so far.
     pub fn dropped(&self) -> u64
         ensures { result ≡ M.dropped (solver_of self.now).memo }

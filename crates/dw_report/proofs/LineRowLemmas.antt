@@ -18,12 +18,12 @@ use Rattle.dw_notation.specs.inner.Writes.{Writes, WritesShort}
 use Rattle.dw_solve.specs.Lines.{Line, Lines}
 use Rattle.dw_list.specs.Places.{After}
 use Rattle.dw_list.specs.LineStack.{LineStack, AreToCome}
-use Rattle.dw_list.specs.StackWalk.{Gives, GivesFirst, GivesNone}
+use Rattle.dw_list.specs.StackWalk.{Gives, GivesFirst, GivesNone, SameToCome}
 use Rattle.dw_list.specs.inner.StackWalk.{GivesNext}
 use Rattle.dw_list.specs.Tokens.{token_of}
 use Rattle.dw_list.specs.Laws.{LinesInTurn}
 use Rattle.dw_report.specs.ListedText.{AreLineTexts, IsListing, IsListedText, more_after}
-use Rattle.dw_report.specs.inner.Rows.{has_tokens, IsRow, IsNothing}
+use Rattle.dw_report.specs.inner.Rows.{has_tokens, IsRow, HasLines, RowsOf, EndsWith, TakesRows}
 use Rattle.dw_report.specs.Running.{AreLinesOf, IsNoLine}
 use Rattle.dw_report.specs.inner.Running.{AreWholeLines}
 use Rattle.dw_report.specs.inner.Running.{TextEnds}
@@ -169,59 +169,186 @@ listing_from g p most (suc room) some lines (l ∷ left) texts are have few =
 
 -- ROWS SO FAR
 
--- of the lines still to come these were given, and this is the text of their rows
-pub record Rows (g : Geometry) (p : Placement) (start now : LineStack) (count : ℕ) (texts : List ℕ) : Type 0 where
-  pub given : List (List Move)
-  pub gives : Gives g start now given
-  pub many : length given ≡ count
-  pub last : 1 ≤ count → (earlier : List (List Move)) × (given ≡ earlier ++ reverse now.line ∷ [])
-  pub are : AreLineTexts g p given texts
-
 -- they were written
 pub record RowsSoFar (g : Geometry) (p : Placement) (start now : LineStack) (count : ℕ) (old new : List ℕ) :
     Type 0 where
   pub texts : List ℕ
-  pub rows : Rows g p start now count texts
+  pub rows : RowsOf g p start now count texts
   pub wrote : Appends old new texts
+
+pub none_given : LinesInTurn → (g : Geometry) (p : Placement) (s : LineStack) → RowsOf g p s s 0 []
+none_given turn g p s = record { given = []; gives = turn.nothing g s; many = refl; are = refl }
 
 pub no_rows : LinesInTurn → (g : Geometry) (p : Placement) (s : LineStack) (old : List ℕ) → RowsSoFar g p s s 0
     old old
-no_rows turn g p s old = record {
-  texts = [];
-  rows = record {
-    given = [];
-    gives = turn.nothing g s;
-    many = refl;
-    last = λ some. absurd (omega (arith, some));
-    are =
-        refl;
-  };
-  wrote = Appends-nil old;
-}
+no_rows turn g p s old = record { texts = []; rows = none_given turn g p s; wrote = Appends-nil old }
 
-row_given : LinesInTurn → (g : Geometry) (p : Placement) (start a b : LineStack) (count : ℕ) (texts row : List ℕ)
-    → Rows g p start a count texts → GivesFirst g a b → IsRow g p (reverse b.line) row
-    → Rows g p start b (count + 1) (texts ++ row)
+pub row_given : LinesInTurn → (g : Geometry) (p : Placement) (start a b : LineStack) (count : ℕ) (texts row : List ℕ)
+    → RowsOf g p start a count texts → GivesFirst g a b → IsRow g p (reverse b.line) row
+    → RowsOf g p start b (count + 1) (texts ++ row)
 row_given turn g p start a b count texts row h first r = record {
   given = h.given ++ reverse b.line ∷ [];
   gives = turn.then g start a b h.given (reverse b.line ∷ []) h.gives first;
   many = length-append h.given (reverse b.line ∷ []) ∙ ap (λ z. z + 1) h.many;
-  last = λ some. (h.given, refl);
   are = rows_more g p h.given (reverse b.line) texts row h.are r;
 }
 
-pub row_written : LinesInTurn → (g : Geometry) (p : Placement) (start a b : LineStack) (count : ℕ)
-    (old mid new : List ℕ) → RowsSoFar g p start a count old mid → GivesFirst g a b
-    → Writes (IsRow g p (reverse b.line)) mid new → RowsSoFar g p start b (count + 1) old new
-row_written turn g p start a b count old mid new h first w = record {
-  texts = h.texts ++ w.text;
-  rows = row_given turn g p start a b count h.texts w.text h.rows first w.is;
-  wrote = Appends-trans old mid new h.texts w.text h.wrote w.wrote;
+-- a row more, and its line is the last one
+pub row_taken : LinesInTurn → (g : Geometry) (p : Placement) (start a b : LineStack) (count : ℕ)
+    (texts row new : List ℕ) (last : List Move) → RowsOf g p start a count texts → GivesFirst g a b
+    → IsRow g p last row → last ≡ reverse b.line → new ≡ texts ++ row
+    → (k : RowsOf g p start b (count + 1) new) × EndsWith k.given last
+row_taken turn g p start a b count texts row new last h first r is text_is = (
+  record {
+    given = h.given ++ reverse b.line ∷ [];
+    gives = turn.then g start a b h.given (reverse b.line ∷ []) h.gives first;
+    many = length-append h.given (reverse b.line ∷ []) ∙ ap (λ z. z + 1) h.many;
+    are = subst (AreLineTexts g p (h.given ++ reverse b.line ∷ [])) (sym text_is)
+        (rows_more g p h.given (reverse b.line) texts row h.are (subst (λ z. IsRow g p z row) is r));
+  },
+  (h.given, ap (λ z. h.given ++ z ∷ []) (sym is)),
+)
+
+-- the same rows, if the same lines are still to come
+rows_kept : LinesInTurn → (g : Geometry) (p : Placement) (start a b : LineStack) (count : ℕ) (texts : List ℕ)
+    → (h : RowsOf g p start a count texts) → SameToCome g a b → RowsOf g p start b count texts
+rows_kept turn g p start a b count texts h same = record {
+  given = h.given;
+  gives = subst (Gives g start b) (append-nil h.given) (turn.then g start a b h.given [] h.gives same);
+  many = h.many;
+  are = h.are;
 }
+
+none_of_none : {X : Type 0} (xs : List X) → length xs ≡ 0 → xs ≡ []
+none_of_none [] e = refl
+none_of_none (x ∷ xs) e = absurd (omega (arith, e))
+
+-- what a page has when no line is left, when the lister was stopped, and when it is full
+pub takes_last : LinesInTurn → (g : Geometry) (p : Placement) (start a b : LineStack) (room count : ℕ)
+    (last : List Move) (texts : List ℕ) → (h : RowsOf g p start a count texts) → (1 ≤ count → EndsWith h.given last)
+    → count ≤ room → GivesNone g a b → TakesRows g p start b room count last texts
+unfolding rows_kept
+takes_last turn g p start a b room count last texts h ends few none = record {
+  few = few;
+  rows = rows_kept turn g p start a b count texts h none.same;
+  ends = ends;
+  none = λ e.
+      let nothing : h.given ≡ [] = none_of_none h.given (h.many ∙ e) in
+      let before : SameToCome g start a = subst (Gives g start a) nothing h.gives in
+      record {
+        same = turn.then g start a b [] [] before none.same;
+        none = (before.rest []).1 none.none;
+      };
+}
+
+pub takes_stopped : LinesInTurn → (g : Geometry) (p : Placement) (start a b : LineStack) (room count : ℕ)
+    (last : List Move) (texts : List ℕ) → (h : RowsOf g p start a count texts) → (1 ≤ count → EndsWith h.given last)
+    → count ≤ room → 1 ≤ count → SameToCome g a b → TakesRows g p start b room count last texts
+unfolding rows_kept
+takes_stopped turn g p start a b room count last texts h ends few some same = record {
+  few = few;
+  rows = rows_kept turn g p start a b count texts h same;
+  ends = ends;
+  none = λ e. absurd (omega (arith, e, some));
+}
+
+pub takes_full : (g : Geometry) (p : Placement) (start a : LineStack) (room count : ℕ) (last : List Move)
+    (texts : List ℕ) → (h : RowsOf g p start a count texts) → (1 ≤ count → EndsWith h.given last) → count ≤ room
+    → 1 ≤ count → TakesRows g p start a room count last texts
+takes_full g p start a room count last texts h ends few some = record {
+  few = few;
+  rows = h;
+  ends = ends;
+  none = λ e. absurd (omega (arith, e, some));
+}
+
+pub some_taken : (count : ℕ) → (count ≡ 0 → ⊥) → 1 ≤ count
+some_taken zero none = absurd (none refl)
+some_taken (suc k) none = omega arith
+
+-- without rows there is no text
+pub text_of_none : (g : Geometry) (p : Placement) (start a : LineStack) (count : ℕ) (texts : List ℕ)
+    → RowsOf g p start a count texts → count ≡ 0 → texts ≡ []
+text_of_none g p start a count texts h e = subst (λ z. AreLineTexts g p z texts) (none_of_none h.given (h.many ∙ e))
+    h.are
+
+texts_joined : (g : Geometry) (p : Placement) (xs ys : List (List Move)) (t u : List ℕ) → AreLineTexts g p xs t
+    → AreLineTexts g p ys u → AreLineTexts g p (xs ++ ys) (t ++ u)
+texts_joined g p [] ys t u h k = subst (λ z. AreLineTexts g p ys (z ++ u)) (sym h) k
+texts_joined g p (x ∷ xs) ys t u h k = (
+  h.0,
+  h.1 ++ u,
+  h.2,
+  texts_joined g p xs ys h.1 u h.3 k,
+  ap (λ z. z ++ u) h.4 ∙ append_assoc (h.0 ++ codes "\n") h.1 u,
+)
+
+-- rows, and the rows of lines that came after them
+pub rows_joined : LinesInTurn → (g : Geometry) (p : Placement) (start a b : LineStack) (count more : ℕ)
+    (texts others : List ℕ) → RowsOf g p start a count texts → RowsOf g p a b more others
+    → RowsOf g p start b (count + more) (texts ++ others)
+rows_joined turn g p start a b count more texts others h k = record {
+  given = h.given ++ k.given;
+  gives = turn.then g start a b h.given k.given h.gives k.gives;
+  many = length-append h.given k.given ∙ (ap (λ z. z + length k.given) h.many ∙ ap (λ z. count + z) k.many);
+  are = texts_joined g p h.given k.given texts others h.are k.are;
+}
+
+pub rows_written : LinesInTurn → (g : Geometry) (p : Placement) (start a b : LineStack) (count more : ℕ)
+    (old mid new others : List ℕ) → RowsSoFar g p start a count old mid → RowsOf g p a b more others
+    → Appends mid new others → RowsSoFar g p start b (count + more) old new
+rows_written turn g p start a b count more old mid new others h k wrote = record {
+  texts = h.texts ++ others;
+  rows = rows_joined turn g p start a b count more h.texts others h.rows k;
+  wrote = Appends-trans old mid new h.texts others h.wrote wrote;
+}
+
+-- a page was written after those rows, and its last line is the last one
+pub page_written : LinesInTurn → (g : Geometry) (p : Placement) (start a b : LineStack) (room count more : ℕ)
+    (old mid new others : List ℕ) (last : List Move) → RowsSoFar g p start a count old mid
+    → TakesRows g p a b room more last others → 1 ≤ more → Appends mid new others
+    → (k : RowsSoFar g p start b (count + more) old new) × EndsWith k.rows.given last
+page_written turn g p start a b room count more old mid new others last h t some wrote =
+    let k = t.rows in
+    let ends = t.ends some in (
+      record {
+        texts = h.texts ++ others;
+        rows = record {
+          given = h.rows.given ++ k.given;
+          gives = turn.then g start a b h.rows.given k.given h.rows.gives k.gives;
+          many = length-append h.rows.given k.given ∙ (ap (λ z. z + length k.given) h.rows.many
+              ∙ ap (λ z. count + z) k.many);
+          are = texts_joined g p h.rows.given k.given h.texts others h.rows.are k.are;
+        };
+        wrote = Appends-trans old mid new h.texts others h.wrote wrote;
+      },
+      (h.rows.given ++ ends.0, ap (λ z. h.rows.given ++ z) ends.1 ∙ sym (append_assoc h.rows.given ends.0 (last ∷ []))),
+    )
+
+-- an empty page was written after those rows
+pub nothing_written : (g : Geometry) (p : Placement) (start a : LineStack) (count : ℕ) (old mid new others : List ℕ)
+    → RowsSoFar g p start a count old mid → others ≡ [] → Appends mid new others → RowsSoFar g p start a count old new
+nothing_written g p start a count old mid new others h none wrote = record {
+  texts = h.texts;
+  rows = h.rows;
+  wrote = subst (Appends old new) (ap (λ z. h.texts ++ z) none ∙ append-nil h.texts)
+      (Appends-trans old mid new h.texts others h.wrote wrote);
+}
+
+-- lines are still to come after those that were given
+pub lines_left : (g : Geometry) (p : Placement) (start now : LineStack) (count : ℕ) (texts : List ℕ)
+    → RowsOf g p start now count texts → HasLines g p start → HasLines g p now
+lines_left g p start now count texts h has =
+    let left = h.gives.first has.lines has.to_come in
+    record {
+      position = h.gives.position ∙ has.position;
+      lines = left.0;
+      to_come = (h.gives.rest left.0).0 (subst (AreToCome g start) left.1 has.to_come);
+    }
 
 -- the line that is given is a line
 pub line_walk : (g : Geometry) (p : Placement) (start a b : LineStack) (count : ℕ) (texts : List ℕ)
-    → Rows g p start a count texts → GivesFirst g a b → (lines : List (List Move)) → AreToCome g start lines
+    → RowsOf g p start a count texts → GivesFirst g a b → (lines : List (List Move)) → AreToCome g start lines
     → Line g start.position start.moves (reverse b.line)
 line_walk g p start a b count texts h first lines all =
     let left = h.gives.first lines all in
@@ -232,17 +359,14 @@ line_walk g p start a b count texts h first lines all =
     ((all.exactly (reverse b.line)).0 here).0
 
 -- the last one that was given is a line
-pub last_line : (g : Geometry) (p : Placement) (start now : LineStack) (count : ℕ) (texts : List ℕ) → 1 ≤ count
-    → Rows g p start now count texts → (lines : List (List Move)) → AreToCome g start lines
-    → Line g start.position start.moves (reverse now.line)
-last_line g p start now count texts some h lines all =
+pub last_line : (g : Geometry) (p : Placement) (start now : LineStack) (count : ℕ) (texts : List ℕ) (last : List Move)
+    → (h : RowsOf g p start now count texts) → EndsWith h.given last → (lines : List (List Move))
+    → AreToCome g start lines → Line g start.position start.moves last
+last_line g p start now count texts last h l lines all =
     let left = h.gives.first lines all in
-    let l = h.last some in
-    let there : Member (reverse now.line) h.given = subst (Member (reverse now.line)) (sym l.1)
-    (mem_right (reverse now.line) l.0 (reverse now.line ∷ []) (inl refl)) in
-    let here : Member (reverse now.line) lines = subst (Member (reverse now.line)) (sym left.1)
-    (mem_left (reverse now.line) h.given left.0 there) in
-    ((all.exactly (reverse now.line)).0 here).0
+    let there : Member last h.given = subst (Member last) (sym l.1) (mem_right last l.0 (last ∷ []) (inl refl)) in
+    let here : Member last lines = subst (Member last) (sym left.1) (mem_left last h.given left.0 there) in
+    ((all.exactly last).0 here).0
 
 -- whether a line was given
 pub line_next : (g : Geometry) (more : Bool) (a b : LineStack) → GivesNext g more a b → more ≡ true → GivesFirst g a b
@@ -260,7 +384,7 @@ no_more g a (x ∷ left) h none = absurd ((none.exactly x).1 ((h.exactly x).0 (i
 module _ (g : Geometry) (p : Placement) (most : ℕ) (some : 1 ≤ most) (start : LineStack) (lines : List (List Move))
     (all : AreToCome g start lines) (have : HaveTexts g p lines) where
   -- a listing begins with these rows
-  begun_by : (now : LineStack) (count : ℕ) (texts : List ℕ) → Rows g p start now count texts → count ≤ most
+  begun_by : (now : LineStack) (count : ℕ) (texts : List ℕ) → RowsOf g p start now count texts → count ≤ most
       → (rest : List ℕ) × IsListing g p most lines (texts ++ rest)
   begun_by now count texts h few =
       let left = h.gives.first lines all in
@@ -284,47 +408,27 @@ module _ (g : Geometry) (p : Placement) (most : ℕ) (some : 1 ≤ most) (start 
         wrote = h.wrote;
       }
 
-  -- a row was cut short
-  row_short : LinesInTurn → (a b : LineStack) (count : ℕ) (old mid new : List ℕ) → RowsSoFar g p start a count
-      old mid → GivesFirst g a b → count < most → WritesShort (IsRow g p (reverse b.line)) mid new
-      → WritesShort (IsListing g p most lines) old new
-  row_short turn a b count old mid new h first few w =
-      let r = begun_by b (count + 1) (h.texts ++ w.text) (row_given turn g p start a b count h.texts w.text h.rows first
-      w.is) (omega (arith, few)) in
+  -- further rows were written, but no more
+  pub rows_stop_later : LinesInTurn → (a b : LineStack) (count more : ℕ) (old mid new others : List ℕ)
+      → RowsSoFar g p start a count old mid → RowsOf g p a b more others → count + more ≤ most → Appends mid new others
+      → Writes (AreLinesOf (IsListing g p most lines)) old new
+  rows_stop_later turn a b count more old mid new others h k few wrote = rows_stop b (count + more) old new
+      (rows_written turn g p start a b count more old mid new others h k wrote) few
+
+  -- further rows were not written to their end
+  pub rows_short : LinesInTurn → (a b : LineStack) (count more : ℕ) (old mid new others : List ℕ)
+      → RowsSoFar g p start a count old mid → RowsOf g p a b more others → count + more ≤ most
+      → StopsShort mid new others → WritesShort (IsListing g p most lines) old new
+  rows_short turn a b count more old mid new others h k few stops =
+      let r = begun_by b (count + more) (h.texts ++ others) (rows_joined turn g p start a b count more h.texts others
+      h.rows k) few in
       record {
-        text = (h.texts ++ w.text) ++ r.0;
+        text = (h.texts ++ others) ++ r.0;
         is = r.1;
-        stops = stops_within old mid new h.texts w.text r.0 ((h.texts ++ w.text) ++ r.0) refl h.wrote w.stops;
+        stops = stops_within old mid new h.texts others r.0 ((h.texts ++ others) ++ r.0) refl h.wrote stops;
       }
 
-  nothing_more : (now : LineStack) (count : ℕ) (old mid new : List ℕ) → RowsSoFar g p start now count old mid
-      → count ≤ most → Writes IsNothing mid new → Writes (AreLinesOf (IsListing g p most lines)) old new
-  nothing_more now count old mid new h few w =
-      let same : h.texts ++ w.text ≡ h.texts = ap (λ z. h.texts ++ z) w.is ∙ append-nil h.texts in
-      rows_stop now count old new (record {
-        texts = h.texts;
-        rows = h.rows;
-        wrote = subst (Appends old new) same (Appends-trans old mid new h.texts w.text h.wrote w.wrote);
-      }) few
-
-  -- a row was not written to its end
-  pub row_ends : {X Y : Type 0} → LinesInTurn → (a b : LineStack) (count : ℕ) (old mid new : List ℕ) (r :
-      Result X TextFault)
-      (s : Result Y TextFault) (fault other : TextFault) → RowsSoFar g p start a count old mid → GivesFirst g a b
-      → count < most
-      → r ≡ Err fault → s ≡ Err other → fault ≡ other → TextEnds (IsRow g p (reverse b.line)) IsNothing mid new r
-      → TextEnds (IsListing g p most lines) (AreLinesOf (IsListing g p most lines)) old new s
-  row_ends {X} {Y} turn a b count old mid new r s fault other h first few was is same ends = at fault (is
-      ∙ ap Err (sym same)) (subst (TextEnds (IsRow g p (reverse b.line)) IsNothing mid new) was ends) where
-        at : (fault : TextFault) → s ≡ Err fault → TextEnds {X = X} (IsRow g p (reverse b.line)) IsNothing mid new
-            (Err fault) → TextEnds (IsListing g p most lines) (AreLinesOf (IsListing g p most lines)) old new s
-        at (Stopped why) e w = at_stop (IsListing g p most lines) (AreLinesOf (IsListing g p most lines)) old new s why
-            e
-            (nothing_more a count old mid new h (omega (arith, few)) w)
-        at Sink e w = at_sink (IsListing g p most lines) (AreLinesOf (IsListing g p most lines)) old new s e
-            (row_short turn a b count old mid new h first few w)
-
-  all_given : (a b : LineStack) (count : ℕ) (texts : List ℕ) → Rows g p start a count texts → GivesNone g a b
+  all_given : (a b : LineStack) (count : ℕ) (texts : List ℕ) → RowsOf g p start a count texts → GivesNone g a b
       → count ≤ most → IsListing g p most lines (texts ++ complete_line count)
   all_given a b count texts h none few =
       let left = h.gives.first lines all in
@@ -335,18 +439,17 @@ module _ (g : Geometry) (p : Placement) (most : ℕ) (some : 1 ≤ most) (start 
       (subst (λ k. IsListing g p most h.given (texts ++ complete_line k)) h.many (is_complete g p most h.given texts
       h.are (omega (arith, h.many, few))))
 
-  more_left : (a b : LineStack) (count : ℕ) (texts : List ℕ) → Rows g p start a count texts → GivesFirst g a b
-      → count ≡ most → IsListing g p most lines (texts ++ more_after g (reverse a.line))
-  more_left a b count texts h first full =
+  more_left : (a b : LineStack) (count : ℕ) (texts : List ℕ) (last : List Move) (h : RowsOf g p start a count texts)
+      → EndsWith h.given last → GivesFirst g a b → count ≡ most → IsListing g p most lines (texts ++ more_after g last)
+  more_left a b count texts last h ends first full =
       let left = h.gives.first lines all in
       let to_come = (h.gives.rest left.0).0 (subst (AreToCome g start) left.1 all) in
       let one = first.first left.0 to_come in
-      let last = h.last (omega (arith, full, some)) in
       let enough : 1 ≤ length left.0 = omega (arith, ap length one.1) in
-      let split : lines ≡ (last.0 ++ reverse a.line ∷ []) ++ left.0 = left.1 ∙ ap (λ z. z ++ left.0) last.1 in
-      let many : length (last.0 ++ reverse a.line ∷ []) ≡ most = ap length (sym last.1) ∙ (h.many ∙ full) in
-      subst (λ z. IsListing g p most z (texts ++ more_after g (reverse a.line))) (sym split)
-      (is_cut g p most last.0 left.0 (reverse a.line) texts (subst (λ z. AreLineTexts g p z texts) last.1 h.are)
+      let split : lines ≡ (ends.0 ++ last ∷ []) ++ left.0 = left.1 ∙ ap (λ z. z ++ left.0) ends.1 in
+      let many : length (ends.0 ++ last ∷ []) ≡ most = ap length (sym ends.1) ∙ (h.many ∙ full) in
+      subst (λ z. IsListing g p most z (texts ++ more_after g last)) (sym split)
+      (is_cut g p most ends.0 left.0 last texts (subst (λ z. AreLineTexts g p z texts) ends.1 h.are)
       many enough)
 
   end_written : (now : LineStack) (count : ℕ) (old mid new : List ℕ) (end : List ℕ)
@@ -379,19 +482,19 @@ module _ (g : Geometry) (p : Placement) (most : ℕ) (some : 1 ≤ most) (start 
   complete_short a b count old mid new h none few stops = end_short a count old mid new (complete_line count) h
       (all_given a b count h.texts h.rows none few) stops
 
-  pub more_written : (a b : LineStack) (count : ℕ) (old mid new : List ℕ) → RowsSoFar g p start a count old mid
-      → GivesFirst g a b → count ≡ most → Appends mid new (more_after g (reverse a.line))
-      → Writes (IsListing g p most lines) old new
-  more_written a b count old mid new h first full wrote =
-      end_written a count old mid new (more_after g (reverse a.line)) h
-      (more_left a b count h.texts h.rows first full) wrote
+  pub more_written : (a b : LineStack) (count : ℕ) (old mid new : List ℕ) (last : List Move)
+      (h : RowsSoFar g p start a count old mid) → EndsWith h.rows.given last → GivesFirst g a b → count ≡ most
+      → Appends mid new (more_after g last) → Writes (IsListing g p most lines) old new
+  more_written a b count old mid new last h ends first full wrote =
+      end_written a count old mid new (more_after g last) h (more_left a b count h.texts last h.rows ends first full)
+      wrote
 
-  pub more_short : (a b : LineStack) (count : ℕ) (old mid new : List ℕ) → RowsSoFar g p start a count old mid
-      → GivesFirst g a b → count ≡ most → StopsShort mid new (more_after g (reverse a.line))
-      → WritesShort (IsListing g p most lines) old new
-  more_short a b count old mid new h first full stops =
-      end_short a count old mid new (more_after g (reverse a.line)) h
-      (more_left a b count h.texts h.rows first full) stops
+  pub more_short : (a b : LineStack) (count : ℕ) (old mid new : List ℕ) (last : List Move)
+      (h : RowsSoFar g p start a count old mid) → EndsWith h.rows.given last → GivesFirst g a b → count ≡ most
+      → StopsShort mid new (more_after g last) → WritesShort (IsListing g p most lines) old new
+  more_short a b count old mid new last h ends first full stops =
+      end_short a count old mid new (more_after g last) h (more_left a b count h.texts last h.rows ends first full)
+      stops
 
 -- THREE PIECES
 

@@ -1,6 +1,6 @@
 //! The text of a list of lines.
 ghost use Rattle.std.specs.Prelude.{◌≡◌, ◌≤◌, ◌<◌, ◌%◌, ◌↔◌, ◌++◌, true, false, Err, List, length, codes};
-ghost use Rattle.std.specs.Prelude.{decimal, reverse, IfOk, IsErr, IsErrOf, IsTrue, OnOk, OnErr, Some};
+ghost use Rattle.std.specs.Prelude.{decimal, reverse, min, IfOk, IsErr, IsErrOf, IsTrue, OnOk, OnErr, Some, ◌+◌, ℕ};
 ghost use Rattle.dw_notation.specs.Streams.{Appends};
 ghost use Rattle.dw_moves.specs.Moves.{Move as AnyMove};
 ghost use Rattle.dw_notation.specs.Text.{ArePlayable};
@@ -8,12 +8,14 @@ ghost use Rattle.dw_notation.specs.Writes.{StopsShort};
 ghost use Rattle.dw_solve.specs.Searching.{IsCounted};
 ghost use Rattle.dw_list.specs.Listing.{lender, solver_of, stack_of};
 ghost use Rattle.dw_list.specs.LineStack.{AreToCome};
+ghost use Rattle.dw_list.specs.StackWalk.{SameToCome};
 ghost use Rattle.dw_list.specs.inner.StackWalk.{GivesNext};
 ghost use Rattle.dw_list.specs.Tokens as tokens;
 ghost use Rattle.dw_report.specs.Request.{request_of};
 ghost use Rattle.dw_report.specs.ListedText.{IsListing, IsListedText, more_after};
 ghost use Rattle.dw_report.specs.inner.Rows.{has_tokens, refused_line};
-ghost use Rattle.dw_report.specs.inner.Rows.{IsRow, IsNothing, StandsBefore, HasLines};
+ghost use Rattle.dw_report.specs.inner.Rows.{IsRow, StandsBefore, HasLines, SomeRows, TakesRows};
+ghost use Rattle.dw_report.specs.declared.listing.TheConstants.{ROW_ROOM, PAGE_ROOM};
 ghost use Rattle.dw_report.specs.Running.{AreLinesOf, IsNoLine};
 ghost use Rattle.dw_report.specs.inner.Running.{TextEnds, SinkEnds, Spends, IsSound};
 ghost use Rattle.dw_solve.specs.declared.stop.Stop.TheVariants.{Limit};
@@ -30,10 +32,16 @@ use dw_moves::Move;
 use dw_notation::{LINE_ROOM, LineText, MAX_MOVES, Sink, WriteFault, write_all};
 use dw_solve::{Guide, Solver, Stop};
 use itoa::Buffer;
-use std::alloc::Global;
+use std::alloc::{AllocError, Global};
 
 /// Enough bytes for any line's text and a line feed.
 const ROW_ROOM: usize = LINE_ROOM + 1;
+
+/// The bytes of rows that are written at once.
+const PAGE_ROOM: usize = 8192;
+
+/// The most positions that are expanded while a row waits to be written.
+const PATIENCE: u64 = 1000;
 
 /// Writes the lines of a position, each as soon as it is known: all of them, or those after the line in the settings,
 /// up to the number in the settings. The last line says that the list is complete, or names the line after which it
@@ -141,7 +149,8 @@ fn write_after<B: Board, K: Sink, M: Memo<B>, G: Guide<B>>(
     }
 }
 
-/// Writes at most `most` of the lines still to come of a lister, and the end of the list.
+/// Writes at most `most` of the lines still to come of a lister, and the end of the list. Lines that come soon after one
+/// another are written together.
 fn write_listing<B: Board, K: Sink, M: Memo<B>, G: Guide<B>>(
     alloc: Global,
     sink: &mut K,
@@ -161,24 +170,126 @@ fn write_listing<B: Board, K: Sink, M: Memo<B>, G: Guide<B>>(
 {
     dw_notation::laws::lines_have_texts();
     dw_list::laws::lines_in_turn();
-    let mut text = LineText::new(position);
-    let mut row = ArrayString::new();
-    let mut last = ArrayVec::new();
+    let mut page = Page::new(position);
     let mut written: u64 = 0;
-    'lines: while written < most {
-        if !take_line(alloc, lister, &mut last)? {
+    'pages: while written < most {
+        let taken = fill_page(alloc, lister, &mut page, most - written);
+        write_all(sink, page.rows.as_str().as_bytes())?;
+        let count = taken?;
+        if count == 0 {
             write_all(sink, complete_row(written).as_str().as_bytes())?;
             return Ok(());
         }
-        write_row(alloc, sink, &mut text, &mut row, last.as_slice())?;
-        written += 1;
+        written += count;
     }
     if has_more(alloc, lister)? {
-        write_more(sink, last.as_slice())?;
+        write_more(sink, page.last.as_slice())?;
     } else {
         write_all(sink, complete_row(written).as_str().as_bytes())?;
     }
     Ok(())
+}
+
+/// Rows of lines, up to some thousand bytes, and the line of the last row.
+#[derive(Drop)]
+struct Page<B: Board> {
+    text: LineText<B>,
+    last: ArrayVec<Move<B>, MAX_MOVES>,
+    rows: ArrayString<PAGE_ROOM>,
+}
+
+impl<B: Board> Page<B> {
+    /// Returns an empty page for the lines of a position.
+    fn new(position: &Position<B>) -> Self
+        ensures start { result.text.start ≡ position.now }
+    {
+        Page {
+            text: LineText::new(position),
+            last: ArrayVec::new(),
+            rows: ArrayString::new(),
+        }
+    }
+}
+
+/// Fills a page with rows of the next lines, at most `room`, which must be at least 1, and returns how many there are:
+/// none only if no line is left. It waits for a further line until `PATIENCE` more positions are expanded. After a stop
+/// the page has the rows of lines that were known before.
+fn fill_page<B: Board, M: Memo<B>, G: Guide<B>>(
+    alloc: Global,
+    lister: &mut Lister<'_, B, M, G>,
+    page: &mut Page<B>,
+    room: u64,
+) -> Result<u64, Stop>
+    requires some { 1 ≤ room }
+    requires ahead { HasLines B.geometry page.old.text.start (stack_of lister.old) }
+    ensures lender { lender lister.new ≡ lender lister.old }
+    ensures start { page.new.text.start ≡ page.old.text.start }
+    ensures rows { SomeRows B.geometry page.old.text.start (stack_of lister.old) room page.new.rows.bytes }
+    ensures taken { IfOk result (λ count. TakesRows B.geometry page.old.text.start (stack_of lister.old)
+        (stack_of lister.new) room count page.new.last.items page.new.rows.bytes) }
+    ensures count { IsCounted (solver_of lister.old).expanded (solver_of lister.old).limit
+        (solver_of lister.new).expanded (solver_of lister.new).limit }
+    ensures stop { IsErrOf result Limit → (solver_of lister.new).expanded ≡ (solver_of lister.new).limit }
+{
+    dw_list::laws::lines_in_turn();
+    page.rows.clear();
+    let mut until = lister.limit();
+    let mut taken: u64 = 0;
+    'rows: while taken < room && page.rows.remaining_capacity() >= ROW_ROOM {
+        match take_line_until(alloc, lister, &mut page.last, until) {
+            Ok(true) => {}
+            Ok(false) => return Ok(taken),
+            Err(stop) => return if taken == 0 { Err(stop) } else { Ok(taken) },
+        }
+        push_row(alloc, &mut page.text, &mut page.rows, page.last.as_slice())?;
+        until = bound_after(taken, until, lister.expanded());
+        taken += 1;
+    }
+    Ok(taken)
+}
+
+/// Returns how many positions may be expanded before a page is written, once it has a row more than `taken`. Up to
+/// `until` were allowed before, and `expanded` are.
+fn bound_after(taken: u64, until: u64, expanded: u64) -> u64
+    requires { expanded ≤ until }
+    ensures within { expanded ≤ result }
+    ensures some { (limit : ℕ) → (until < limit → 1 ≤ until) → result < limit → 1 ≤ result }
+{
+    if taken == 0 {
+        expanded.saturating_add(PATIENCE)
+    } else {
+        until
+    }
+}
+
+/// Takes the next line as `take_line` does, but stops also where `until` positions are expanded.
+fn take_line_until<B: Board, M: Memo<B>, G: Guide<B>>(
+    alloc: Global,
+    lister: &mut Lister<'_, B, M, G>,
+    line: &mut ArrayVec<Move<B>, MAX_MOVES>,
+    until: u64,
+) -> Result<bool, Stop>
+    requires enough { (solver_of lister.old).expanded ≤ until }
+    requires some { until < (solver_of lister.old).limit → 1 ≤ until }
+    ensures lender { lender lister.new ≡ lender lister.old }
+    ensures next { IfOk result (λ more. GivesNext B.geometry more (stack_of lister.old) (stack_of lister.new)) }
+    ensures line { IfOk result (λ more. IsTrue more → line.new.items ≡ reverse (stack_of lister.new).line) }
+    ensures same { OnErr result (SameToCome B.geometry (stack_of lister.old) (stack_of lister.new)) }
+    ensures kept { OnErr result (line.new ≡ line.old) }
+    ensures none { IfOk result (λ more. more ≡ false → line.new ≡ line.old) }
+    ensures count { IsCounted (solver_of lister.old).expanded (solver_of lister.old).limit
+        (solver_of lister.new).expanded (solver_of lister.new).limit }
+    ensures until { (solver_of lister.new).expanded ≤ until }
+    ensures stop { IsErrOf result Limit → (solver_of lister.new).expanded ≡ min until (solver_of lister.new).limit }
+{
+    let limit = lister.limit();
+    if limit <= until {
+        return take_line(alloc, lister, line);
+    }
+    lister.set_limit(until);
+    let taken = take_line(alloc, lister, line);
+    lister.set_limit(limit);
+    taken
 }
 
 /// Copies the next line over another one, and returns whether there is one.
@@ -190,6 +301,9 @@ fn take_line<B: Board, M: Memo<B>, G: Guide<B>>(
     ensures lender { lender lister.new ≡ lender lister.old }
     ensures next { IfOk result (λ more. GivesNext B.geometry more (stack_of lister.old) (stack_of lister.new)) }
     ensures line { IfOk result (λ more. IsTrue more → line.new.items ≡ reverse (stack_of lister.new).line) }
+    ensures same { OnErr result (SameToCome B.geometry (stack_of lister.old) (stack_of lister.new)) }
+    ensures kept { OnErr result (line.new ≡ line.old) }
+    ensures none { IfOk result (λ more. more ≡ false → line.new ≡ line.old) }
     ensures count { IsCounted (solver_of lister.old).expanded (solver_of lister.old).limit
         (solver_of lister.new).expanded (solver_of lister.new).limit }
     ensures stop { IsErrOf result Limit → (solver_of lister.new).expanded ≡ (solver_of lister.new).limit }
@@ -218,37 +332,26 @@ fn has_more<B: Board, M: Memo<B>, G: Guide<B>>(
     Ok(lister.next(alloc)?.is_some())
 }
 
-/// Writes the text of a line and a line feed. `text` switches to that line, and `row` is overwritten. All memory is
-/// taken before a byte is written.
-fn write_row<B: Board, K: Sink>(
+/// Adds the text of a line and a line feed to the rows, which must have room for it. `text` switches to that line.
+fn push_row<B: Board>(
     alloc: Global,
-    sink: &mut K,
     text: &mut LineText<B>,
-    row: &mut ArrayString<ROW_ROOM>,
+    rows: &mut ArrayString<PAGE_ROOM>,
     line: &[Move<B>],
-) -> Result<(), TextFault>
+) -> Result<(), AllocError>
     requires few { length line.now ≤ 39 }
     requires legal { ArePlayable B.geometry text.old.start line.now }
+    requires room { length rows.old.bytes + ROW_ROOM ≤ PAGE_ROOM }
     ensures start { text.new.start ≡ text.old.start }
-    ensures text { TextEnds (IsRow B.geometry text.old.start line.now) IsNothing (K.accepted sink.old)
-        (K.accepted sink.new) result }
-    ensures sink { SinkEnds (K.is_failed sink.old) (K.is_failed sink.new) result }
-    ensures memory { (why : Stop) → result ≡ Err (because.Stopped why) → why ≡ Stop.Memory }
+    ensures row { OnOk result ((row : List ℕ) × IsRow B.geometry text.old.start line.now row
+        × (rows.new.bytes ≡ rows.old.bytes ++ row)) }
+    ensures err { OnErr result (rows.new ≡ rows.old) }
 {
     dw_notation::laws::lines_have_texts();
     text.switch_to(alloc, line)?;
-    fill_row(row, text);
-    write_all(sink, row.as_str().as_bytes())?;
+    rows.push_str(text.as_str());
+    rows.push('\n');
     Ok(())
-}
-
-/// Fills a row with the text of a line and a line feed.
-fn fill_row<B: Board>(row: &mut ArrayString<ROW_ROOM>, text: &LineText<B>)
-    ensures { IsRow B.geometry text.now.start text.now.moves row.new.bytes }
-{
-    row.clear();
-    row.push_str(text.as_str());
-    row.push('\n');
 }
 
 /// Returns the last line of a whole list, `complete K`.

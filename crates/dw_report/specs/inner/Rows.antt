@@ -1,5 +1,6 @@
 -- The text of a line on a line of its own, and what a list of lines begins with.
-use Rattle.std.specs.Prelude.{◌≡◌, ◌==◌, ◌||◌, ℕ, ◌↔◌, List, [], ◌++◌, Bool, codes, decimal, if◌then◌else◌}
+use Rattle.std.specs.Prelude.{◌≡◌, ◌==◌, ◌||◌, ℕ, ◌↔◌, ◌≤◌, List, [], ◌∷◌, ◌++◌, length, Bool, codes, decimal}
+use Rattle.std.specs.Prelude.{if◌then◌else◌}
 use Rattle.dw_board.specs.Geometry.{Geometry}
 use Rattle.dw_board.specs.Placement.{Placement}
 use Rattle.dw_board.specs.FenText.{written}
@@ -9,6 +10,8 @@ use Rattle.dw_notation.specs.Text.{IsLineText, text_among}
 use Rattle.dw_notation.specs.declared.problems.ProblemFault.{ProblemFault}
 use Rattle.dw_solve.specs.Lines.{Lines}
 use Rattle.dw_list.specs.LineStack.{LineStack, AreToCome}
+use Rattle.dw_list.specs.StackWalk.{Gives, GivesNone}
+use Rattle.dw_report.specs.ListedText.{AreLineTexts}
 use Rattle.dw_report.specs.JsonRows.{refused_row}
 use Rattle.dw_report.specs.Request.{writes_rows}
 use Rattle.dw_report.specs.declared.settings.Command.{Command}
@@ -17,9 +20,31 @@ use Rattle.dw_report.specs.declared.settings.Command.{Command}
 abbrev pub IsRow : Geometry → Placement → List Move → List ℕ → Type 0
 IsRow g p l text = (line : List ℕ) × IsLineText g p l line × (text ≡ line ++ codes "\n")
 
--- nothing was written
-abbrev pub IsNothing : List ℕ → Type 0
-IsNothing text = text ≡ []
+-- of the lines still to come these were given, and this is the text of their rows
+pub record RowsOf (g : Geometry) (p : Placement) (start now : LineStack) (count : ℕ) (text : List ℕ) : Type 0 where
+  pub given : List (List Move)
+  pub gives : Gives g start now given
+  pub many : length given ≡ count
+  pub are : AreLineTexts g p given text
+
+-- a list ends with this element
+abbrev pub EndsWith : {X : Type 0} → List X → X → Type 0
+EndsWith {X} list last = (earlier : List X) × (list ≡ earlier ++ last ∷ [])
+
+-- the rows of some of the lines still to come, at most this number
+pub record SomeRows (g : Geometry) (p : Placement) (start : LineStack) (room : ℕ) (text : List ℕ) : Type 0 where
+  pub now : LineStack
+  pub count : ℕ
+  pub few : count ≤ room
+  pub rows : RowsOf g p start now count text
+
+-- the rows of so many of the lines still to come, and the last of these lines; if there is none, no line is left
+pub record TakesRows (g : Geometry) (p : Placement) (start now : LineStack) (room count : ℕ) (last : List Move)
+    (text : List ℕ) : Type 0 where
+  pub few : count ≤ room
+  pub rows : RowsOf g p start now count text
+  pub ends : 1 ≤ count → EndsWith rows.given last
+  pub none : count ≡ 0 → GivesNone g start now
 
 -- a lister stands before the lines of a position within n moves, and has given none
 pub record StandsBefore (g : Geometry) (p : Placement) (n : ℕ) (stack : LineStack) : Type 0 where
