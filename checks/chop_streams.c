@@ -1,6 +1,6 @@
-/* Lets the reads of standard input give at most READ_STEP bytes each, and the writes to standard output take at most
- * WRITE_STEP, and fails the read and the write of the numbers READ_FAILS and WRITE_FAILS, counted from 1. What
- * is not in the environment changes nothing. To be loaded with LD_PRELOAD, by checks/rows.py. */
+// Preloaded into a program, this lets the reads of standard input give at most READ_STEP bytes each, and the writes to
+// standard output take at most WRITE_STEP, and fails the read and the write of the numbers READ_FAILS and WRITE_FAILS,
+// counted from 1. What is not in the environment changes nothing.
 #define _GNU_SOURCE
 #include <dlfcn.h>
 #include <errno.h>
@@ -43,3 +43,7 @@ ssize_t writev(int file, const struct iovec *pieces, int count) {
     }
     return 0;
 }
+
+// The names by which Rattle's programs call these.
+ssize_t __read(int file, void *bytes, size_t size) __attribute__((alias("read")));
+ssize_t __write(int file, const void *bytes, size_t size) __attribute__((alias("write")));

@@ -20,7 +20,7 @@ status is not 0. Below it a row is one line of input after two blanks, then the 
 
 `>` marks standard output and `!` standard error. A row with a line `~` also runs with each read and each write failing
 in turn; tests/streams.rows says what stands in that line. If the command has the word `@`, the text after ` @ ` in a
-row takes its place. In the input, `\\n`, `\\r`, `\\t`, `\\\\` and `\\x` with two digits stand for bytes, and
+row takes its place. In both, `\\n`, `\\r`, `\\t`, `\\\\` and `\\x` with two digits stand for bytes, and
 `\\(TEXT*N)` for N times TEXT. `\\(*0)` is no input.
 """
 import argparse
@@ -45,6 +45,7 @@ ESCAPE = re.compile(r"\\(?:([nrt\\])|x([0-9A-F]{2})|\(((?:[^\\*]|\\[^(])*)\*(\d+
 LETTERS = {"n": b"\n", "r": b"\r", "t": b"\t", "\\": b"\\"}
 PIECES = 300  # a longer input comes in about so many pieces
 PATIENCE = 60
+MOST_CALLS = 2000  # no row needs so many reads or writes
 # Two games, of which each byte is changed, and what it is changed to.
 GAMES = b"""[Event "Test \\"A\\""]
 [GameType "20,W,10"]
@@ -69,19 +70,16 @@ class Row:
     err: str = ""
     ends: list = None
 
-    @property
-    def input(self):
-        """The bytes of the input."""
-        return unescaped(self.text.rpartition(" @ ")[0] if self.has_word else self.text)
-
-    @property
-    def has_word(self):
-        return "@" in shlex.split(self.command)
+    def __post_init__(self):
+        """Splits off the word of the row, if the command wants one."""
+        self.words, text, word = shlex.split(self.command), self.text, ""
+        if "@" in self.words:
+            text, _, word = text.rpartition(" @ ")
+        self.input, self.word = unescaped(text), unescaped(word).decode()
 
     def calls(self):
         """The words of each call: one for each choice of a word between braces."""
-        word = self.text.rpartition(" @ ")[2]
-        given = [word if part == "@" else part for part in shlex.split(self.command)]
+        given = [self.word if part == "@" else part for part in self.words]
         choices = [part[1:-1].split(",") if part.startswith("{") else [part] for part in given]
         return [list(words) for words in itertools.product(*choices)]
 
@@ -179,27 +177,29 @@ def fails_at_reads(row, words, chop, step):
     """What is wrong with a row whose input gives a few bytes a read and fails at one read. It leaves just the texts of
     the problems that ended before, and everything if that read is not needed."""
     lines, name = row.out.splitlines(keepends=True), words[0]
-    for number in itertools.count(1):
+    for number in range(1, MOST_CALLS):
         found = run(words, row.input, LD_PRELOAD=chop, READ_STEP=str(step), READ_FAILS=str(number))
         if found == (row.status, row.out.encode(), b""):
             return None
         there = max([written for place, written in row.ends if place <= step * (number - 1)], default=0)
         if found != (3, "".join(lines[:there]).encode(), f"{name}: read failed\n".encode()):
-            return f"{row.place}: {step} bytes a read, and read {number} fails: {shown(found)}"
+            break
+    return f"{row.place}: {step} bytes a read, and read {number} fails: {shown(found)}"
 
 
 def fails_at_writes(row, words, chop, step):
     """What is wrong with a row whose output takes a few bytes a write and fails at one. It leaves a beginning, and
     everything if that write is not needed."""
     whole, before, failed = row.out.encode(), b"", (3, f"{words[0]}: write failed\n".encode())
-    for number in itertools.count(1):
+    for number in range(1, MOST_CALLS):
         found = run(words, row.input, LD_PRELOAD=chop, WRITE_STEP=str(step), WRITE_FAILS=str(number))
         if found == (row.status, whole, b""):
             return None
         status, out, err = found
         if (status, err) != failed or not whole.startswith(out) or not out.startswith(before):
-            return f"{row.place}: {step} bytes a write, and write {number} fails: {shown(found)}"
+            break
         before = out
+    return f"{row.place}: {step} bytes a write, and write {number} fails: {shown(found)}"
 
 
 def check_failing(rows):

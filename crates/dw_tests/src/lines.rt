@@ -2,7 +2,7 @@
 ghost use Rattle.std.specs.Prelude.{◌≤◌};
 
 use crate::rows::column;
-use crate::searches::{MOST_STOPS, limit_after};
+use crate::searches::limit_after;
 use crate::texts::{add_line, moves_in, question};
 use arrayvec::ArrayVec;
 use dw_board::{Board, Position};
@@ -83,7 +83,7 @@ fn add_next<B: Board, G: Guide<B>>(
     refuses: bool,
     found: &mut String,
 ) -> Option<bool> {
-    for number in 1..MOST_STOPS {
+    for number in 1..10_000 {
         let stop = match lister.next(alloc) {
             Ok(Some(line)) => return add_line(line, found).map(|()| true),
             Ok(None) => return found.push_str("end\n").ok().map(|()| false),
@@ -102,7 +102,7 @@ fn go_after<B: Board, G: Guide<B>>(
     line: &[Move<B>],
     found: &mut String,
 ) -> Option<()> {
-    for number in 1..MOST_STOPS {
+    for number in 1..10_000 {
         match lister.after(alloc, line) {
             Ok(()) => return found.push_str("after: ").ok(),
             Err(AfterFault::Stopped(stop)) => {

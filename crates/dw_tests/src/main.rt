@@ -30,7 +30,7 @@ fn main(rt: HostRuntime) -> io::Result<()> {
                 "10" => ask::<Ten>(rt.alloc(), section, &mut tally),
                 "8" => ask::<Eight>(rt.alloc(), section, &mut tally),
                 "6" => ask::<Six>(rt.alloc(), section, &mut tally),
-                _ => tally.lose(),
+                _ => tally.asked = tally.asked.wrapping_add(1),
             }
         }
         tally.report(&rt, section.head.as_str())?;
@@ -48,6 +48,7 @@ fn ask<B: Board>(alloc: Global, section: &Section, tally: &mut Tally) {
             "again" => moves::again::<B>(alloc, query, found),
             "fens" => streams::problems::<B>(alloc, Form::Fens, query, found),
             "pdn" => streams::problems::<B>(alloc, Form::Pdn, query, found),
+            "faults" => streams::faults(found),
             "run" => runs::whole::<B>(alloc, head, query, found),
             _ => return memos::ask_each::<B>(alloc, section, tally),
         };

@@ -26,7 +26,7 @@ pub fn ask_each<B: Board>(alloc: Global, section: &Section, tally: &mut Tally) {
                 (Some(memo), "end") => ask_solver(alloc, head, memo, ByEnd, rows, tally),
                 (Some(memo), "trial") => ask_solver(alloc, head, memo, ByTrial, rows, tally),
                 (Some(memo), "") => ask_memo(word(head, 0), memo, rows, tally),
-                _ => tally.lose(),
+                _ => tally.asked = tally.asked.wrapping_add(1),
             }
         }
     }

@@ -77,7 +77,8 @@ pub fn word(text: &str, place: usize) -> &str {
 pub struct Tally {
     /// The answer to the present row.
     pub found: String,
-    asked: u32,
+    /// The number of rows, and of what could not be asked.
+    pub asked: u32,
     right: u32,
     wrong: String,
 }
@@ -102,11 +103,6 @@ impl Tally {
             let _ = write!(self.wrong, "wrong: {query}\n  found: {found}\n");
         }
         self.found.clear();
-    }
-
-    /// Counts a row that could not be asked.
-    pub fn lose(&mut self) {
-        self.asked = self.asked.wrapping_add(1);
     }
 
     /// Writes the answer of each wrong row, and whether all rows were right. A section without rows is not.

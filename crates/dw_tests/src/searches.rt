@@ -17,9 +17,6 @@ use std::fmt::Write;
 /// A limit that no question here reaches.
 const AMPLE: u64 = 1_000_000_000;
 
-/// The most stops of a search.
-pub const MOST_STOPS: u64 = 10_000;
-
 /// Moves to lower numbers come first.
 #[derive(Clone, Copy)]
 pub struct ByEnd;
@@ -85,7 +82,7 @@ fn wins<B: Board, G: Guide<B>>(
 ) -> Option<bool>
     requires { moves ≤ 20 }
 {
-    for number in 1..MOST_STOPS {
+    for number in 1..10_000 {
         match solver.wins(alloc, position, moves) {
             Ok(wins) => {
                 let expanded = solver.expanded();
@@ -136,7 +133,7 @@ fn judged<B: Board, G: Guide<B>>(
     found: &mut String,
 ) -> Option<()> {
     let (position, moves) = question(query)?;
-    for number in 1..MOST_STOPS {
+    for number in 1..10_000 {
         match judge(alloc, solver, &position, moves) {
             Ok(judged) => match judged_text(alloc, &position, moves, &judged) {
                 Ok(text) => return found.push_str(text.as_str()).ok(),

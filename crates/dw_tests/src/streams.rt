@@ -2,8 +2,9 @@
 
 use crate::rows::{column, word};
 use crate::texts::bytes_of;
-use dw_board::{Board, fen_text};
-use dw_notation::{Form, Problems, ReadFault, Reading};
+use dw_board::{Board, PutFault, fen_text};
+use dw_games::GameFault;
+use dw_notation::{Form, MoveFault, Problems, ReadFault, Reading};
 use std::alloc::Global;
 use std::fmt::Write;
 use std::{io, str};
@@ -90,4 +91,11 @@ pub fn problems<B: Board>(
         found.push_str("; ").ok()?;
     }
     found.push('.').ok()
+}
+
+/// Adds the texts of faults that no program writes.
+pub fn faults(found: &mut String) -> Option<()> {
+    let (taken, last, many) = (PutFault::Taken, PutFault::LastRow, PutFault::TooMany);
+    let (memory, read, game) = (MoveFault::Memory, ReadFault::Failed, GameFault::Failed);
+    write!(found, "{taken}, {last}, {many}, {memory}, {read}, {game}").ok()
 }
