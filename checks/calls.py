@@ -25,7 +25,7 @@ proves them all. Follow a link: a comment above each function says what it does,
 `checks/calls.py --write` makes this page from the source.
 """
 # Crates that only test, measure or show the others.
-LEFT_OUT = re.compile(r"dw_(tests_\w+|bench|example)$")
+LEFT_OUT = re.compile(r"dw_(tests|bench|example)$")
 FUNCTION = re.compile(r"( *)((?:pub(?:\(crate\))? )?)(?:const )?(?:extern .C. )?fn (\w+)")
 BLOCK = re.compile(
     r"(?:pub(?:\(crate\))? )?(?:impl(?:<.*?>)? (?:([\w:]+)(?:<.*?>)? for )?&?(?:mut )?(\w+)|trait (\w+))")

@@ -193,7 +193,7 @@ def skip(lines, line, end, ends=str.__eq__):
 # Ghost items that are proofs, which nobody has to believe, and those that say how a public type is kept.
 PROOF = r"\s*ghost (laws|total|matches_\w+|respects_eq|inverse|inverse_ok|numbers|shifts|word_is) ="
 KEPT = PROOF.replace("(", "(view|invariant|")
-NO_LAYER = r"dw_(tests_\w+|bench|example)"
+NO_LAYER = r"dw_(tests|bench|example)"
 NAMES = re.findall(r"^\w+", (TOP / "crates.txt").read_text(), re.M)
 LAYERS = [name for name in NAMES if not re.fullmatch(NO_LAYER, name)]
 SOURCES = [path for layer in LAYERS for path in sorted((CRATES / layer).glob("src/**/*.rt"))]

@@ -287,12 +287,12 @@ def at_once():
         assert ends[1][1] == "dw: another call builds the program; waiting for it\n", ends[1]
         assert len(made.asked()) == ALL
     with copy() as made:
-        source = made.top / "crates/dw_tests_rules/src"
+        source = made.top / "crates/dw_tests/src"
         (source / "lib.rt").rename(source / "main.rt")
-        named = ("dw_tests_rules", "dw")
+        named = ("dw_tests", "dw")
         assert made.call(*named, name="build")[:2] == (0, "")
-        assert len(made.asked()) == len(stands_on("dw") | stands_on("dw_tests_rules"))
-        assert (source.parent / "out/dw_tests_rules").exists() and made.program.exists()
+        assert len(made.asked()) == len(stands_on("dw") | stands_on("dw_tests"))
+        assert (source.parent / "out/dw_tests").exists() and made.program.exists()
         assert made.call(*named, name="build") == (0, "", "")
         assert made.call("-x", name="build") == (2, "", "build: usage: ./build [CRATE ..]\n")
     print("two programs that ./build is to make: built once, and none is run")

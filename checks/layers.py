@@ -12,7 +12,7 @@ import sys
 
 TOP = pathlib.Path(__file__).resolve().parent.parent
 CRATES, PICTURE = TOP / "crates.txt", TOP / "docs/layers.svg"
-LEFT_OUT = re.compile(r"dw_(tests_\w+|bench|example)$")
+LEFT_OUT = re.compile(r"dw_(tests|bench|example)$")
 WIDTH, HEIGHT = 132, 32  # of a box, in pixels
 ACROSS, DOWN = 24, 40  # between boxes
 EDGE = 16

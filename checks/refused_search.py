@@ -3,12 +3,11 @@
 
     checks/refused_search.py
 
-It takes the sections whose heads begin with `refused` from the rows of each crate of tests, and runs its program once
-for each allocation. `rt ci` leaves these programs; the launcher builds them if they are missing or old. The rows of
-dw_tests_rules parse moves. Those of dw_tests_search note bounds, search positions with each cache for 1 to 3 moves, and
-list lines one by one. Those of dw_tests_report judge positions with each cache. After a refusal the right answer must
-still come, or an out-of-memory error and then the right answer at the second call. The program itself may end for lack
-of memory only while it reads the rows. The last run of each section meets no refusal.
+It takes the sections whose heads begin with `refused` from the rows of crates/dw_tests, and runs its program once for
+each allocation. `rt ci` leaves this program; the launcher builds it if it is missing or old. The rows parse moves, note
+bounds, search positions with each cache for 1 to 3 moves, judge positions, and list lines one by one. After a refusal
+the right answer must still come, or an out-of-memory error and then the right answer at the second call. The program
+itself may end for lack of memory only while it reads the rows. The last run of each section meets no refusal.
 """
 import os
 import pathlib
@@ -16,62 +15,53 @@ import subprocess
 import tempfile
 
 TOP = pathlib.Path(__file__).resolve().parent.parent
-CRATES = TOP / "crates"
+CRATE = TOP / "crates/dw_tests"
+PROGRAM = CRATE / "out/dw_tests"
 MOST = 100_000
 
 
-def crates_of_tests():
-    """The crates of tests that have such sections."""
-    found = [path.parent.name for path in sorted(CRATES.glob("dw_tests_*/stdin"))
-             if any(line.startswith("refused") for line in path.read_text().splitlines())]
-    assert len(found) >= 2, found
-    return found
-
-
 def build():
-    """Has the launcher build the programs, if they are not there."""
-    subprocess.run([TOP / "build", *crates_of_tests()], check=True)
+    """Has the launcher build the program, if it is not there."""
+    subprocess.run([TOP / "build", CRATE.name], check=True)
 
 
-def sections(crate):
+def sections():
     """The sections to run: each its rows, and what has to be said of it."""
-    folder = CRATES / crate
-    wanted = dict(line.split(": ") for line in (folder / "stdout").read_text().splitlines())
+    wanted = dict(line.split(": ") for line in (CRATE / "stdout").read_text().splitlines())
     found = {}
-    for line in (folder / "stdin").read_text().splitlines():
+    for line in (CRATE / "stdin").read_text().splitlines():
         if not line.startswith((" ", "#")):
             head = line
         if not line.startswith("#") and head.startswith("refused"):
             found.setdefault(head, []).append(line)
-    assert found, f"{crate} has no such rows"
+    assert len(found) >= 5, found
     return [("\n".join(lines) + "\n", f"{head}: {wanted[head]}\n") for head, lines in found.items()]
 
 
-def run(library, folder, crate, number, rows):
+def run(library, folder, number, rows):
     """Runs the program with that allocation refused, and tells whether there was one of that number."""
     mark = folder / "mark"
     mark.unlink(missing_ok=True)
     changes = {"LD_PRELOAD": str(library), "REFUSED_ALLOCATION": str(number), "REFUSED_MARK": str(mark)}
-    program = CRATES / crate / "out" / crate
-    ran = subprocess.run([program], input=rows, capture_output=True, timeout=60, check=False, text=True,
+    ran = subprocess.run([PROGRAM], input=rows, capture_output=True, timeout=60, check=False, text=True,
                          env=os.environ | changes)
     return ran, mark.exists()
 
 
-def each_in_turn(library, crate, rows, wanted):
+def each_in_turn(library, rows, wanted):
     """Refuses each allocation of a section in turn; says how many there are."""
     unread = 0
     with tempfile.TemporaryDirectory() as name:
         for number in range(1, MOST):
-            ran, was_refused = run(library, pathlib.Path(name), crate, number, rows)
+            ran, was_refused = run(library, pathlib.Path(name), number, rows)
             if ran.returncode == 1 and was_refused and ran.stdout == "" and unread == number - 1:
                 unread = number
                 continue
-            assert (ran.returncode, ran.stdout) == (0, wanted), (crate, wanted, number, ran)
+            assert (ran.returncode, ran.stdout) == (0, wanted), (wanted, number, ran)
             if not was_refused:
                 break
     assert number - 1 > unread, "no allocation was refused behind the reading"
-    return (f"{crate} {wanted.strip()}, with {number - 1} allocations, each refused in turn;"
+    return (f"{wanted.strip()}, with {number - 1} allocations, each refused in turn;"
             f" of the first {unread} the rows are read")
 
 
@@ -81,9 +71,8 @@ def main():
         library = pathlib.Path(name) / "refuse.so"
         source = TOP / "checks/refuse_allocation.c"
         subprocess.run(["cc", "-O1", "-shared", "-fPIC", "-o", library, source, "-ldl"], check=True)
-        for crate in crates_of_tests():
-            for rows, wanted in sections(crate):
-                print(each_in_turn(library, crate, rows, wanted), flush=True)
+        for rows, wanted in sections():
+            print(each_in_turn(library, rows, wanted), flush=True)
 
 
 if __name__ == "__main__":

@@ -3,35 +3,34 @@
 
     checks/settings.py
 
-The positions and their reports are those of crates/dw_tests_report/stdin. Each is judged and listed with each cache,
-and with --cache 1, 2 and 100000; the report must be the stated bytes. Then the limit of --positions rises by one from 1
-until the run is whole. Each smaller limit E must stop the run with status 3 and `dw: stopped: 2 limit, E expanded`,
-after the problem's first line and whole lines of the rest, and never with less output than a smaller limit.
+The positions and their reports are the rows of tests/wins.rows that are asked with several caches. Each is judged and
+listed with each cache, and with --cache 1, 2 and 100000; the report must be the stated bytes. Then the limit of
+--positions rises by one from 1 until the run is whole. Each smaller limit E must stop the run with status 3 and `dw:
+stopped: 2 limit, E expanded`, after the problem's first line and whole lines of the rest, and never with less output
+than a smaller limit.
 """
 import pathlib
+import re
 import subprocess
+
+import rows
 
 TOP = pathlib.Path(__file__).resolve().parent.parent
 DW = TOP / "dw"
-ROWS = TOP / "crates/dw_tests_report/stdin"
+ROWS = TOP / "tests/wins.rows"
 MEMOS = [("none", "100000"), *((memo, cache) for memo in ("lru", "slots", "deep") for cache in ("1", "2", "100000"))]
 MOST = 1000
 
 
 def reports(command):
-    """The reports of a command, by position and number of moves. Below each stands how many problems it is on."""
-    found, rows = {}, None
-    for line in ROWS.read_text().splitlines():
-        if not line.startswith((" ", "#")):
-            rows = found if line.startswith(f"run,limits 10 {command} fens ") else None
-        elif rows is not None and line.startswith("  > "):
-            rows[key].append(line[4:] + "\n")
-        elif rows is not None and line.startswith("  "):
-            fen, n = (word.strip() for word in line.split("|"))
-            key = (fen, n)
-            rows[key] = []
-    assert found and all(lines[-1].startswith("(") for lines in found.values()), command
-    return {key: "".join(lines[:-1]).encode() for key, lines in found.items()}
+    """The reports of a command, by position and number of moves."""
+    found = {}
+    for row in rows.read(ROWS):
+        asked = re.fullmatch(rf"dw {command} -n (\d+) --memo {{.*", row.command)
+        if asked:
+            found[row.input.decode(), asked[1]] = row.out.encode()
+    assert found, command
+    return found
 
 
 def solved():

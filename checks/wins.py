@@ -2,7 +2,7 @@
 """wins.py: makes the rows of small positions and least numbers of moves for the tests of the solver.
 
 It uses plain recursion on the rules of draughts.py: no cache, no order of moves, nothing of the solver. The rows are
-its output, and stand in crates/dw_tests_search/stdin, as `checks/all.py wins` checks:
+its output, and stand in crates/dw_tests/stdin, as `checks/all.py wins` checks:
 
     python3 checks/wins.py
 
@@ -19,8 +19,8 @@ MOST = 3
 # A position whose recursion looks at the moves of more positions than this is left out, so that the tests stay quick.
 ROOM = 300
 TURNS = "WB"
-# How the tests ask each row: as a search and as a list of lines, with these caches, in these orders of moves.
-HEAD = "least,lists {rows} none,lru:1000,slots:1000,deep:1000 any,end,trial"
+# How the tests ask each row: by searches and by lists of lines, with these caches, in these orders of moves.
+HEAD = "least {rows} none,lru:1000,slots:1000,deep:1000 any,end,trial"
 
 
 class TooLong(Exception):
