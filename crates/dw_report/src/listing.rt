@@ -43,8 +43,8 @@ const PAGE_ROOM: usize = 8192;
 /// The most positions that are expanded while a row waits to be written.
 const PATIENCE: u64 = 1000;
 
-/// Writes the lines of a position, each as soon as it is known: all of them, or those after the line in the settings,
-/// up to the number in the settings. The last line says that the list is complete, or names the line after which it
+/// Writes the lines of a position, soon after they are known: all of them, or those after the line in the settings, up
+/// to the number in the settings. The last line says that the list is complete, or names the line after which it
 /// goes on. Returns whether the line in the settings was refused, because it is none of the position's. Then only its
 /// place is written.
 pub(crate) fn write_lines<B: Board, K: Sink, M: Memo<B>, G: Guide<B>>(

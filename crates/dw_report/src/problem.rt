@@ -60,8 +60,9 @@ impl From<WriteFault> for TextFault {
 }
 
 /// Writes the text of a problem. The first write has everything known at once: the first line, and the diagram of a
-/// position that is shown. The command adds the rest, each line as soon as it is known. A row is made whole, and then
-/// written. Returns whether the problem was refused, or the line after which its lines are listed.
+/// position that is shown. The command adds the rest, each line as soon as it is known; a line of a list may wait for
+/// those that come soon after it. A row is made whole, and then written. Returns whether the problem was refused, or
+/// the line after which its lines are listed.
 ///
 /// After a stop the sink has its first line, if it has one, and whole lines of the rest.
 pub(crate) fn write_problem<B: Board, K: Sink, M: Memo<B>, G: Guide<B>>(

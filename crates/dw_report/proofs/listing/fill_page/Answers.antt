@@ -45,9 +45,20 @@ push_row-requires g c =
     (line_playable geo start.position start.moves (reverse (stack_of c.take_line_until.new.lister).line) line) in
     let copy = c.as_slice.ensures.value ∙ c.in-Ok-true.ensures.line c.in-Ok-true.field-0-test in
     let legal = subst (λ z. ArePlayable geo z c.as_slice.result.now) (sym inv.start)
-    (subst (ArePlayable geo p) (sym copy) playable) in
-    (lit< tt, (c.as_slice.ensures.fits, (legal, omega (arith, c.remaining_capacity.ensures,
-    c.if-remaining_capacity-ge-ROW_ROOM.true))))
+    (subst (ArePlayable geo p) (sym copy) playable) in (
+      lit< tt,
+      (
+        c.as_slice.ensures.fits,
+        (
+          legal,
+          omega (
+            arith,
+            c.remaining_capacity.ensures,
+            c.if-remaining_capacity-ge-ROW_ROOM.true,
+          ),
+        ),
+      ),
+    )
 
 pub rows-preserved : goal.rows-preserved
 rows-preserved g c =

@@ -32,9 +32,17 @@ fill_page-taken-requires g c =
     let geo = g.B.Board.geometry in
     let inv = c.pages.invariant in
     let left = lines_left geo c.args.position.now (stack_of c.args.lister.now) (stack_of c.pages.lister)
-    c.pages.written inv.rows.texts inv.rows.rows c.requires.ahead in
-    (lit< tt, (lit< tt, (omega (arith, c.pages-test.true), subst (λ z. HasLines geo z (stack_of c.pages.lister))
-    (sym inv.start) left)))
+    c.pages.written inv.rows.texts inv.rows.rows c.requires.ahead in (
+      lit< tt,
+      (
+        lit< tt,
+        (
+          omega (arith, c.pages-test.true),
+          subst (λ z. HasLines geo z (stack_of c.pages.lister))
+              (sym inv.start) left,
+        ),
+      ),
+    )
 
 pub returns-in_err-write_all-clause-text : goal.returns-in_err-write_all-clause-text
 returns-in_err-write_all-clause-text g c =
