@@ -149,8 +149,8 @@ fn write_after<B: Board, K: Sink, M: Memo<B>, G: Guide<B>>(
     }
 }
 
-/// Writes at most `most` of the lines still to come of a lister, and the end of the list. Lines that come soon after one
-/// another are written together.
+/// Writes at most `most` of the lines still to come of a lister, and the end of the list. Lines that come soon after
+/// one another are written together.
 fn write_listing<B: Board, K: Sink, M: Memo<B>, G: Guide<B>>(
     alloc: Global,
     sink: &mut K,
