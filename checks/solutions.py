@@ -48,8 +48,13 @@ WORKED_ROWS = """\
 """
 RESULTS = {"2-0", "0-2", "1-1", "0-0", "1-0", "0-1", "1/2-1/2", "*"}
 NAMES = {1: "token", 2: "no such move", 3: "ambiguous", 4: "variation", 5: "unclosed", 6: "rest", 7: "too deep",
-         8: "too long", 10: "empty"}
-BYTES = b" \n\r\t0123456789-xX:/.$!?(){};%*[]a\xff"
+         8: "too long", 10: "empty", 12: "reply"}
+BYTES = b" \n\r\t0123456789-xX:/.$!?(){};%*[]a\xff,+#=W\x96\xb1\xd7"
+LONG = ["\u2011".encode(), "\u2013".encode(), "\u2212".encode(), "\xd7".encode(), "\xb1".encode(), b"; 2) "]
+# The signs of moves and results, crosses, and the rest of a text that makes a semicolon a blank.
+SIGN = rb"(?:[0-9xX:/\x96\xd7-]|\xe2\x80[\x91\x93]|\xe2\x88\x92|\xc3\x97)"
+CROSS = rb"(?:[xX:\xd7]|\xc3\x97)"
+NUMBERED = rb"[ \t]*[0-9]+(?:\.+|\))[ \t]*(?:[0-9(]|[a-h][1-8])"
 
 
 class Refused(Exception):
@@ -163,8 +168,10 @@ def checked(problems, cells, turn, tree, n):
 
 def marked(source, text):
     """A move as one program or another may write it."""
-    text = source.choice([text, text, text.replace("x", ":"), text.replace("x", "X")])
-    return text + source.choice(["", "", "", "!", "?!", "$1", " $22", " {so (it) goes; [no]\n1. 2-3}"])
+    text = source.choice([text, text, text.replace("x", ":"), text.replace("x", "X"), text.replace("x", "\xd7")])
+    text = text.replace("-", source.choice(["-", "-", "\u2011", "\u2013", "\u2212"]))
+    return text + source.choice(["", "", "", "!", "?!", "$1", " $22", " {so (it) goes; [no]\n1. 2-3}", "+", "#=", "W+",
+                                 " x", " :", "\xb1 X+", " \xd7"])
 
 
 def written(source, problems, tree, cells, turn, ply):
@@ -172,12 +179,14 @@ def written(source, problems, tree, cells, turn, ply):
     if not tree:
         return
     first, *others = tree
-    numbers = ["", f"{ply // 2 + 1}." if ply % 2 == 0 else f"{ply // 2 + 1}...", "7.", "..."]
+    numbers = ["", f"{ply // 2 + 1}." if ply % 2 == 0 else f"{ply // 2 + 1}...", "7.", "...", "3)"]
 
     def named(move):
         return source.choice(numbers) + source.choice(["", " "]) + marked(source, problems.text(cells, turn, move))
 
-    yield named(first)
+    # A forced reply may be left out, if a move follows and no other move stands beside either.
+    if ply % 2 == 0 or others or not tree[first] or source.randrange(2) or len(problems.moves(cells, turn)) > 1:
+        yield named(first)
     for move in others:
         rest = list(written(source, problems, tree[move], play(problems.board, cells, move), other(turn), ply + 1))
         yield "(" + source.choice(["", " "]) + " ".join([named(move), *rest]) + source.choice([")", " )", "\n% )\n)"])
@@ -186,30 +195,43 @@ def written(source, problems, tree, cells, turn, ply):
 
 def movetext(source, problems, tree, cells, turn):
     tokens = list(written(source, problems, tree, cells, turn, 0))
-    text = "".join(token + source.choice([" ", "\n", "\r\n", "\t "]) for token in tokens)
-    return source.choice([" ", "\n\n", "\r\n"]) + text + source.choice(["*", "2-0", "1-0 {end}", "", "0-2 ; end"])
+    text = ""
+    for token, after in zip(tokens, [*tokens[1:], ""]):
+        blanks = [" ", "\n", "\r\n", "\t ", ", "]
+        text += token + source.choice([*blanks, "; ", ";"] if re.match(NUMBERED, after.encode()) else blanks)
+    text = source.choice([" ", "\n\n", "\r\n"]) + text
+    text += source.choice(["*", "2-0", "1-0 {end}", "", "0-2 ; end", "2\u20130 ; 1 end"])
+    if source.randrange(3):
+        return text.encode()
+    return text.encode().replace("\u2013".encode(), b"\x96").replace(b"\xc3\x97", b"\xd7").replace(b"\xc2\xb1", b"\xb1")
 
 
 def tokens(text):
     """Kind, bytes and place of each token."""
     at, fresh = 0, True
     while at < len(text):
-        byte = text[at : at + 1]
-        if byte in b" \t\r\n":
+        byte, rest = text[at : at + 1], text[at:]
+        if byte in b" \t\r\n," or byte == b";" and re.match(NUMBERED, rest[1:]):
             at, fresh = at + 1, byte in b"\r\n"
             continue
-        rest = text[at:]
         for kind, form in (("comment", rb"\{[^}]*\}"), ("cut off", rb"\{"), ("comment", rb";[^\r\n]*"),
                            ("comment", rb"%[^\r\n]*" if fresh else rb"(?!)"), ("passed", rb"\$[0-9]+"),
-                           ("cut off", rb"\$"), ("passed", rb"[!?]+"), ("opens", rb"\("), ("closes", rb"\)"),
-                           ("written", rb"\*"), ("passed", rb"[0-9]*\.+"), ("written", rb"[0-9][0-9xX:/-]*"),
-                           ("unknown", rb"(?s:.)")):
+                           ("cut off", rb"\$"), ("passed", rb"(?:[!?+#=\xb1]|\xc2\xb1)+"), ("opens", rb"\("),
+                           ("closes", rb"\)"), ("written", rb"\*"), ("passed", rb"[0-9]*\.+|[0-9]+\)"),
+                           ("written", rb"[0-9]" + SIGN + rb"*"), ("passed", CROSS + rb"(?!" + SIGN + rb")"),
+                           ("passed", rb"[A-WYZa-wyz]\+"), ("unknown", rb"(?s:.)")):
             found = re.match(form, rest)
             if found:
                 break
         whole = rest if rest.startswith(b"{") and kind == "cut off" else found[0]
         yield kind, whole, at + 1
         at, fresh = at + len(whole), False
+
+
+def plain(text):
+    """A move or a result with - for each dash, and x for each cross but X."""
+    text = re.sub(rb"\x96|\xe2\x80[\x91\x93]|\xe2\x88\x92", b"-", text)
+    return re.sub(rb"[:\xd7]|\xc3\x97", b"x", text)
 
 
 def named_moves(problems, cells, turn, text):
@@ -236,6 +258,20 @@ def named_moves(problems, cells, turn, text):
     return [move for move in moves if move in found]
 
 
+def left_out(problems, cells, turn, text, place):
+    """The only reply and the move that a text names after it, or nothing; Refused if it names one after another reply,
+    or several."""
+    replies = [move for move, _ in problems.moves(cells, turn)]
+    named = [named_moves(problems, play(problems.board, cells, reply), other(turn), text) for reply in replies]
+    if not any(named):
+        return []
+    if len(replies) > 1:
+        raise Refused(12, place)
+    if len(named[0]) > 1:
+        raise Refused(3, place)
+    return [replies[0], named[0][0]]
+
+
 def read(problems, text, cells, turn):
     """The tree of a movetext; Refused tells its first fault."""
     tree, over = {}, False
@@ -256,21 +292,23 @@ def read(problems, text, cells, turn):
             if not outer:
                 raise Refused(4, place)
             line = outer.pop()
-        elif kind == "written" and whole.decode() in RESULTS:
+        elif kind == "written" and plain(whole).decode() in RESULTS:
             if outer:
                 raise Refused(5, place)
             over = True
         elif kind == "written":
             here, there, side, ply = line[-1]
-            moves = named_moves(problems, there, side, whole.replace(b":", b"x"))
+            moves = named_moves(problems, there, side, plain(whole))
             if moves is None:
                 raise Refused(1, place)
             if ply == 39:
                 raise Refused(8, place)
-            if len(moves) != 1:
+            replies = [] if moves or ply % 2 == 0 else left_out(problems, there, side, plain(whole), place)
+            if not replies and len(moves) != 1:
                 raise Refused(3 if moves else 2, place)
-            rest = here.setdefault(moves[0], {})
-            line.append((rest, play(problems.board, there, moves[0]), other(side), ply + 1))
+            for move in replies or moves:
+                here, there, side, ply = line[-1]
+                line.append((here.setdefault(move, {}), play(problems.board, there, move), other(side), ply + 1))
     if outer:
         raise Refused(5, len(text) + 1)
     if not tree:
@@ -288,7 +326,7 @@ def mutated(source, text):
         elif way == 1:
             text[place:place] = text[place : place + source.randrange(1, 9)]
         else:
-            text[place : place + 1] = bytes([source.choice(BYTES)])
+            text[place : place + 1] = source.choice([*LONG, *(bytes([byte]) for byte in BYTES)])
         if not text:
             return b" "
     return bytes(text)
@@ -399,7 +437,7 @@ def check(rows, count, source, folder):
     found, games = [], {}
     for _ in range(count):
         problems, cells, turn, n, tree = game(source, board)
-        text = movetext(source, problems, tree, cells, turn).encode()
+        text = movetext(source, problems, tree, cells, turn)
         if is_one_section(text + b" "):
             found.append((problems, fen(cells, turn), cells, turn, text + b"\n\n"))
             games.setdefault(n, []).append(found[-1])

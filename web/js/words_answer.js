@@ -18,6 +18,8 @@ export const ANSWER_WORDS = {
     movetext6: ['Nothing may follow the result.', 'Na de uitslag mag niets volgen.',
         'Rien ne doit suivre le résultat.', 'После результата ничего не должно стоять.'],
     movetext10: ['There is no move.', 'Er staat geen zet.', 'Il n’y a aucun coup.', 'Здесь нет ни одного хода.'],
+    movetext12: ['A reply is missing before this move.', 'Voor deze zet ontbreekt een antwoord.',
+        'Une réponse manque avant ce coup.', 'Перед этим ходом пропущен ответ.'],
     panels: ['What to do', 'Wat te doen', 'Que faire', 'Что делать'],
     tabSolve: ['Solve', 'Oplossen', 'Résoudre', 'Решить'],
     tabCompare: ['Compare', 'Vergelijken', 'Comparer', 'Сравнить'],

@@ -45,6 +45,8 @@ impl<B: Board> Memo<B> for LeakedMemo<B> {
 
     ghost may_answer = { λ _. ⊤ };
 
+    ghost keeps = { ⊥ };
+
     fn look(&mut self, position: &Position<B>) -> Option<Bounds> {
         self.memo.look(position)
     }

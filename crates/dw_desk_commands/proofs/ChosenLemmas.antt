@@ -2,13 +2,14 @@
 use Rattle.std.proofs.Common.{◌≡◌, ◌∙◌, ◌+◌, ◌-◌, ◌<◌, ◌≤◌, ◌++◌, ◌∷◌, inl, inr, refl, sym, ap, subst, arith, ℕ, zero}
 use Rattle.std.proofs.Common.{suc, Bool, true, false, List, [], Option, Some, None, length, map, take, cond, ltb, eqb}
 use Rattle.std.proofs.Common.{leb, Ok, append-nil, take_all, zero-le, append_assoc}
-use Rattle.std.specs.Prelude.{filter, option_map, IfSome, MatchBool}
+use Rattle.std.specs.Prelude.{filter, option_map, IfSome, MatchBool, Result}
 use Rattle.std.proofs.lemmas.Bool.{cases_Bool, and_right, eqb-true, leb-true, lt-leb, ltb-true, true≢false}
 use Rattle.std.proofs.lemmas.List.{append_cancel_left}
 use Rattle.dw_board.specs.Geometry.{Geometry}
 use Rattle.dw_desk_commands.specs.Chosen.{as_game, AreChosen, AreGamesIn, is_up_to, is_in}
 use Rattle.dw_desk_commands.specs.inner.Choosing.{HandsOut, AreAhead, AreComing, AreLeft, Comes, ComesNext, EndIsKnown}
-use Rattle.dw_desk_commands.specs.inner.Choosing.{AreToCome, GoesOn, IsRest, MayBe, is_met, met_end, source_of, up_to}
+use Rattle.dw_desk_commands.specs.inner.Choosing.{AreToCome, GoesOn, HaveGames, IsPossible, IsRest, MayBe, is_met}
+use Rattle.dw_desk_commands.specs.inner.Choosing.{met_end, source_of, up_to}
 use Rattle.dw_desk_commands.specs.inner.NextGame.{IsNext}
 use Rattle.dw_desk_commands.specs.declared.chosen.Chosen.{Chosen}
 use Rattle.dw_desk_commands.specs.declared.chosen.Text.{Text}
@@ -18,14 +19,16 @@ use Rattle.dw_games.specs.GameReading as games
 use Rattle.dw_games.specs.GameReading.{numbered_game}
 use Rattle.dw_games.specs.Games.{NumberedGame, Said, games_from}
 use Rattle.dw_games.specs.declared.games.Game.{Game}
+use Rattle.dw_games.specs.declared.games.GameFault.{GameFault}
 use Rattle.dw_games.specs.declared.games.Games.{Games}
 use Rattle.dw_games.specs.inner.GameReaders.{reading_of}
 use Rattle.dw_notation.specs.Problems.{Numbered, number_from, numbered}
 use Rattle.dw_notation.specs.Reading as problems
-use Rattle.dw_notation.specs.Streams.{Supply, MeetsEnd, HoldsAhead}
+use Rattle.dw_notation.specs.Streams.{Supply, Reads, MeetsEnd, HoldsAhead}
 use Rattle.dw_notation.specs.inner.Readers.{reader_of}
 use Rattle.dw_notation.specs.inner.StreamLemmas.{Reads-nil, Reads-trans}
 use Rattle.dw_notation.specs.declared.problems.Problem.{Problem}
+use Rattle.dw_notation.specs.declared.problems.ReadFault.{ReadFault}
 use Rattle.dw_notation.specs.declared.problems.reader.Problems.{Problems}
 use Rattle.dw_notation.specs.TextLines.{Found}
 use Rattle.dw_notation.specs.declared.problems.Form.{Form}
@@ -245,14 +248,50 @@ no_line {B} g supply old new given stays = record {
 
 -- ---- what is handed out
 
--- the same whole text, before a call
-rest_before : {B S : Type 0} (g : Geometry) (supply : S → Supply) (old new : Text B S) (found : Option (Game B))
-    (next : ComesNext g supply old new found) (whole rest : List ℕ) → IsRest supply whole new rest
-    → IsRest supply whole old (next.read ++ rest)
-rest_before g supply old new found next whole rest is = record {
-  joined = is.joined ∙ ap (λ z. z ++ rest) next.took.told ∙ append_assoc (supply (source_of old)).told next.read rest;
-  may = λ met. let still = next.still met in ap (λ z. z ++ rest) still.0 ∙ is.may still.1;
+-- the same whole text, before a call that read these bytes
+rest_before : {B S : Type 0} (supply : S → Supply) (old new : Text B S) (read : List ℕ)
+    → Reads (supply (source_of old)) (supply (source_of new)) read
+    → (met_end old ≡ true → (read ≡ []) × (met_end new ≡ true)) → (whole rest : List ℕ) → IsRest supply whole new rest
+    → IsRest supply whole old (read ++ rest)
+rest_before supply old new read took still whole rest is = record {
+  joined = is.joined ∙ ap (λ z. z ++ rest) took.told ∙ append_assoc (supply (source_of old)).told read rest;
+  may = λ met. let still = still met in ap (λ z. z ++ rest) still.0 ∙ is.may still.1;
 }
+
+-- reading went on from a text of tags, and the whole text stays possible
+pub games_go_on : {B S : Type 0} (g : Geometry) (supply : S → Supply) (text : Text B S) (old new : Games B S)
+    (result : Result (Option (Game B)) GameFault) → text ≡ texts.Pdn old
+    → games.GivesNext g (supply (games.source_of old)) (supply (games.source_of new)) (reading_of old) (reading_of new)
+    result
+    → ((began : Supply) → EndIsKnown supply began (texts.Pdn old) → EndIsKnown supply began (texts.Pdn new))
+    → GoesOn supply text (texts.Pdn new)
+    × ((whole : List ℕ) → IsPossible supply (texts.Pdn new) whole → IsPossible supply text whole)
+games_go_on g supply text old new result is given end = subst (λ z. GoesOn supply z (texts.Pdn new)
+    × ((whole : List ℕ) → IsPossible supply (texts.Pdn new) whole → IsPossible supply z whole)) (sym is) (
+      record { read = given.read; took = given.took; end = end },
+      λ whole (rest, is). (
+        given.read ++ rest,
+        rest_before supply (texts.Pdn old) (texts.Pdn new) given.read given.took given.still whole rest is,
+      ),
+    )
+
+-- the same of a text of lines
+pub lines_go_on : {B S : Type 0} (g : Geometry) (supply : S → Supply) (text : Text B S) (old new : Problems B S)
+    (result : Result (Option (Problem B)) ReadFault) → text ≡ texts.Fens old
+    → problems.NextGives g (supply (problems.source_of old)) (supply (problems.source_of new)) (reader_of old)
+    (reader_of new) result → ((reader_of old).met_end ≡ true → (reader_of new).met_end ≡ true)
+    → ((began : Supply) → EndIsKnown supply began (texts.Fens old) → EndIsKnown supply began (texts.Fens new))
+    → GoesOn supply text (texts.Fens new)
+    × ((whole : List ℕ) → IsPossible supply (texts.Fens new) whole → IsPossible supply text whole)
+lines_go_on g supply text old new result is given stays end = subst (λ z. GoesOn supply z (texts.Fens new)
+    × ((whole : List ℕ) → IsPossible supply (texts.Fens new) whole → IsPossible supply z whole)) (sym is) (
+      record { read = given.read; took = given.took; end = end },
+      λ whole (rest, is). (
+        given.read ++ rest,
+        rest_before supply (texts.Fens old) (texts.Fens new) given.read given.took
+            (λ met. (given.still met, stays met)) whole rest is,
+      ),
+    )
 
 -- a game more is looked at
 pub then_comes : {B S : Type 0} (g : Geometry) (supply : S → Supply) (portion : Portion) (left after : ℕ)
@@ -266,7 +305,7 @@ then_comes g supply portion left after old new game whole found next some is com
     let rest = come.0 in
     let comes = next.comes rest come.1.may in (
       next.read ++ rest,
-      rest_before g supply old new (Some game) next whole rest come.1,
+      rest_before supply old new next.read next.took next.still whole rest come.1,
       one_looked_at portion left after (AreAhead g old (next.read ++ rest)) (AreAhead g new rest) (numbered_game game)
           found some is comes.0 comes.1 come.2,
     )
@@ -277,7 +316,7 @@ pub none_comes : {B S : Type 0} (g : Geometry) (supply : S → Supply) (portion 
     → ((rest : List ℕ) × IsRest supply whole new rest) → AreComing g supply portion left old whole []
 none_comes g supply portion left old new whole next (rest, is) = (
   next.read ++ rest,
-  rest_before g supply old new None next whole rest is,
+  rest_before supply old new next.read next.took next.still whole rest is,
   inr ([], next.comes rest is.may, sym (ap (up_to portion) (take_all left [] zero-le))),
 )
 
@@ -299,8 +338,7 @@ some_come g supply portion left old new game whole next (rest, is) =
 -- what a call for the next game answered
 pub is_next : {B S : Type 0} (g : Geometry) (supply : S → Supply) (old new : Chosen B S) (found : Option (Game B))
     → HandsOut (AreToCome g supply old) (AreToCome g supply new) (MayBe supply new) (option_map numbered_game found)
-    → IfSome found (λ _. (whole : List ℕ) → MayBe supply new whole
-    → (games : List NumberedGame) × AreToCome g supply new whole games) → GoesOn supply old.text new.text
+    → IfSome found (λ _. HaveGames g supply new) → GoesOn supply old.text new.text
     → IsNext g supply old new (option_map numbered_game found)
 is_next g supply old new None handed more on = (handed, tt, on)
 is_next g supply old new (Some game) handed more on = (handed, more, on)
@@ -309,18 +347,6 @@ is_next g supply old new (Some game) handed more on = (handed, more, on)
 
 pub GoesOn-refl : {B S : Type 0} (supply : S → Supply) (text : Text B S) → GoesOn supply text text
 GoesOn-refl supply text = record { read = []; took = Reads-nil (supply (source_of text)); end = λ began known. known }
-
-pub GoesOn-next : {B S : Type 0} (g : Geometry) (supply : S → Supply) (old mid new : Text B S) (found : Option (Game B))
-    → GoesOn supply old mid → ComesNext g supply mid new found
-    → ((began : Supply) → EndIsKnown supply began mid → EndIsKnown supply began new)
-    → GoesOn supply old new
-GoesOn-next g supply old mid new found on next end = record {
-  read = on.read ++ next.read;
-  took = Reads-trans (supply (source_of old)) (supply (source_of mid)) (supply (source_of new)) on.read next.read
-      on.took
-      next.took;
-  end = λ began known. end began (on.end began known);
-}
 
 pub GoesOn-trans : {B S : Type 0} (supply : S → Supply) (old mid new : Text B S) → GoesOn supply old mid
     → GoesOn supply mid new → GoesOn supply old new

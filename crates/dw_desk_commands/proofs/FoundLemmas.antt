@@ -1,5 +1,8 @@
--- How what is found comes together in a row of JSON.
-use Rattle.std.proofs.Common.{◌≡◌, ℕ, List, [], ◌∷◌, ◌++◌, sym, ◌∙◌, ap, subst}
+-- What is found after a number of expansions, and how it comes together in a row of JSON.
+use Rattle.std.proofs.Common.{◌≡◌, ◌+◌, ◌-◌, ℕ, List, [], ◌∷◌, ◌++◌, Option, Some, Ok, true, refl, sym, ◌∙◌, ap, subst}
+use Rattle.std.proofs.Common.{arith}
+use Rattle.std.specs.Prelude.{Result}
+use Rattle.std.proofs.lemmas.Bool.{true≢false}
 use Rattle.std.specs.Prelude.{codes}
 use Rattle.json.specs.Json.{string}
 use Rattle.json.specs.Written.{Written}
@@ -8,11 +11,36 @@ use Rattle.dw_board.specs.Placement.{Placement}
 use Rattle.dw_moves.specs.Moves.{Move}
 use Rattle.dw_report.specs.MoveTexts.{AreChoices, AreKeyTexts, AreTryTexts}
 use Rattle.dw_verdict.specs.Verdict.{Verdict, dual}
+use Rattle.dw_solve.specs.declared.stop.Stop.{Stop}
 use Rattle.dw_study.specs.Finding.{judged}
+use Rattle.dw_study.specs.Finding as of
+use Rattle.dw_study.specs.Telling.{told_by}
+use Rattle.dw_study.specs.declared.finding.Finding.{Finding}
+use Rattle.dw_study.specs.declared.finding.Finding.TheVariants.{Judged, Undecided}
+use Rattle.dw_desk_commands.specs.Finding.{MayStayOpen, is_open}
 use Rattle.dw_desk_commands.specs.FindingJson.{AreAfterKeys, AreFound, before_keys, verdict_word}
 use Rattle.dw_json.specs.Rows.{Member, count, pairs, texts}
 use Rattle.dw_json.specs.Writing.{WritesMembers}
 use Rattle.dw_json.specs.inner.Composing.{both}
+
+-- a finding, as the answer of a search
+abbrev answered : {B : Type 0} → Finding B → Result (Finding B) Stop
+answered f = Ok f
+
+-- a search for a finding that leaves it open used up the bound
+pub used_up : {B : Type 0} (each : Option ℕ) (before start after : ℕ) (f : Finding B) → start ≡ before
+    → ((k : ℕ) → answered f ≡ Ok (Undecided k)
+    → (bound : ℕ) × (each ≡ Some bound) × (after ≡ start + bound)) → MayStayOpen each (after - before) (told_by f)
+used_up each before start after (Judged k it) same so = λ is. absurd (true≢false (sym is))
+used_up each before start after (Undecided k) same so = λ is.
+    let b = so k refl in
+    let spent : b.0 ≡ after - before = omega (arith, same, b.2) in
+    b.1 ∙ ap Some spent
+
+-- and so it did if nothing more was expanded
+pub still_used_up : (each : Option ℕ) (before mid after : ℕ) (f : of.Finding) → MayStayOpen each (mid - before) f
+    → (is_open f ≡ true → after ≡ mid) → MayStayOpen each (after - before) f
+still_used_up each before mid after f up same = λ is. up is ∙ ap (λ z. Some (z - before)) (sym (same is))
 
 -- the members of a choice
 pub choice_told : (g : Geometry) (p : Placement) (verdict : Verdict) (at choices at' choices' : List Move)

@@ -1,7 +1,9 @@
 mod ProblemLemmas
 mod ReportLemmas
+mod StandingLemmas
 mod CheckingLemmas
 mod ChosenLemmas
 mod CommandLemmas
 mod FoundLemmas
+mod MendingLemmas
 mod PagingLemmas

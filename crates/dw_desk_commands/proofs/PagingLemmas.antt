@@ -5,15 +5,19 @@ use Rattle.std.proofs.Common.{append_assoc, length-append, ◌⊎◌, inl, inr, 
 use Rattle.dw_notation.specs.Streams.{Appends}
 use Rattle.std.specs.List.{All, cons_option, count_by, filter_map}
 use Rattle.std.specs.Prelude.{codes}
-use Rattle.dw_notation.specs.inner.StreamLemmas.{Appends-trans}
+use Rattle.dw_notation.specs.inner.StreamLemmas.{Appends-nil, Appends-trans}
 use Rattle.std.proofs.lemmas.Grind.{flat_map-append}
 use Rattle.std.proofs.lemmas.List.{map-append, length-map}
 use Rattle.std.proofs.lemmas.List.Elements.{All-push}
 use Rattle.std.proofs.lemmas.List.Sums.{count_by-le-length, sum_by_push}
 use Rattle.dw_board.specs.Geometry.{Geometry}
+use Rattle.dw_desk_commands.specs.declared.desk.DeskFault.{DeskFault}
 use Rattle.dw_desk_commands.specs.inner.Choosing.{HandsOut}
+use Rattle.dw_desk_commands.specs.inner.Standing.{Stands, StandsOf}
+use Rattle.dw_desk_commands.proofs.StandingLemmas.{left_after, left_so_far}
 use Rattle.dw_arguments.specs.declared.portion.Portion.{Portion}
-use Rattle.dw_desk_commands.specs.Paging.{IsPage, IsPageOf, IsPart, IsShownIn, Shown, first_of, heading_of}
+use Rattle.dw_desk_commands.specs.Paging.{IsPage, IsPageOf, IsPagePart, IsPageStop, IsPart, IsShownIn, Shown}
+use Rattle.dw_desk_commands.specs.Paging.{first_of, heading_of}
 use Rattle.dw_desk_commands.specs.Paging.{language_for, source, value}
 use Rattle.dw_desk_commands.specs.declared.desk.Counts.{Counts}
 use Rattle.dw_arguments.specs.declared.page.PageArgs.{PageArgs}
@@ -184,3 +188,164 @@ pub page_of_none : (g : Geometry) (query : PageArgs) (portion : Portion) (must_e
 page_of_none g query portion must_exist counts text same (inl page) = inl (page.0, λ none. sym same ∙ page.1)
 page_of_none g query portion must_exist counts text same (inr none) =
     inr (refl, sym same ∙ none.0, none.1, none.2, none.3)
+
+-- ---- what stands after a fault
+
+abbrev front : Geometry → PageArgs → List ℕ
+front g query = head g (language_for query.language) query.title.now
+
+-- a page with nothing but its head
+head_alone : (g : Geometry) (query : PageArgs) (games : List NumberedGame) → IsPagePart g query games (front g query)
+head_alone g query games = record {
+  games_shown = [];
+  behind = games;
+  are = refl;
+  each = λ k d lt. absurd (omega (arith, lt));
+  is = sym (append-nil (front g query));
+}
+
+-- nothing, or a beginning of the head
+pub head_left : (g : Geometry) (query : PageArgs) (games : List NumberedGame) (text : List ℕ) → text ≡ front g query
+    → IsPageStop g query games text
+head_left g query games text is = inr (subst (IsPagePart g query games) (sym is) (head_alone g query games))
+
+-- the parts of the games so far, and nothing more
+pub parts_left : (g : Geometry) (query : PageArgs) (Old New : List ℕ → List NumberedGame → Type 0) (counts : Counts)
+    (before after later : List ℕ) (so_far : SoFar g query Old New counts before after later)
+    (more : List NumberedGame) (none : List ℕ) → none ≡ []
+    → IsPageStop g query (map (λ s. s.game) so_far.shown ++ more)
+    ((front g query ++ flat_map (λ s. s.part) so_far.shown) ++ none)
+parts_left g query Old New counts before after later so_far more none is = inr (record {
+  games_shown = so_far.shown;
+  behind = more;
+  are = refl;
+  each = so_far.each;
+  is = ap (λ z. (front g query ++ flat_map (λ s. s.part) so_far.shown) ++ z) is
+      ∙ append-nil (front g query ++ flat_map (λ s. s.part) so_far.shown);
+})
+
+-- the parts of the games so far, and one more
+pub one_part_left : (g : Geometry) (query : PageArgs) (Old New : List ℕ → List NumberedGame → Type 0) (counts : Counts)
+    (before after later : List ℕ) (so_far : SoFar g query Old New counts before after later) (game : NumberedGame)
+    (more : List NumberedGame) (part : List ℕ) → ((is_refused : Bool) × (new : List ℕ)
+    × IsPart g query game.number game.said.found game.said.tags is_refused part new)
+    → IsPageStop g query (map (λ s. s.game) so_far.shown ++ game ∷ more)
+    ((front g query ++ flat_map (λ s. s.part) so_far.shown) ++ part)
+one_part_left g query Old New counts before after later so_far game more part one =
+    let xs = so_far.shown in
+    let this : Shown = record { game = game; is_refused = one.0; part = part; later = one.1 } in
+    inr (record {
+      games_shown = xs ++ this ∷ [];
+      behind = more;
+      are = sym (ap (λ t. t ++ more) (map-append (λ s. s.game) xs (this ∷ []))
+          ∙ append_assoc (map (λ s. s.game) xs) (game ∷ []) more);
+      each = All-push (IsShownIn g query) xs this so_far.each one.2;
+      is = flat_push (λ s. s.part) (front g query) xs this;
+    })
+
+-- a fault between two games
+pub left_between : (g : Geometry) (query : PageArgs) (Whole : List NumberedGame → List ℕ → Type 0)
+    (Old Mid : List ℕ → List NumberedGame → Type 0) (MayBe : List ℕ → Type 0) (counts : Counts)
+    (before after later : List ℕ) (fault : DeskFault) → SoFar g query Old Mid counts before after later
+    → ((whole : List ℕ) → MayBe whole → (games : List NumberedGame) × Mid whole games)
+    → StandsOf (IsPageStop g query) Whole MayBe Old before after fault
+left_between g query Whole Old Mid MayBe counts before after later fault so_far some =
+    left_so_far (IsPageStop g query) Whole MayBe Old before after
+    (front g query ++ flat_map (λ s. s.part) so_far.shown) fault so_far.wrote (λ whole may.
+    let more = some whole may in (
+      map (λ s. s.game) so_far.shown ++ more.0,
+      so_far.handed whole more.0 more.1,
+      subst (IsPageStop g query (map (λ s. s.game) so_far.shown ++ more.0))
+          (append-nil (front g query ++ flat_map (λ s. s.part) so_far.shown))
+          (parts_left g query Old Mid counts before after later so_far more.0 [] refl),
+    ))
+
+-- a fault at the part of a game
+pub left_within : (g : Geometry) (query : PageArgs) (Whole : List NumberedGame → List ℕ → Type 0)
+    (Old Mid New : List ℕ → List NumberedGame → Type 0) (MayBe : List ℕ → Type 0) (counts : Counts)
+    (before after written later : List ℕ) (game : NumberedGame) (fault : DeskFault)
+    → SoFar g query Old Mid counts before after later → HandsOut Mid New MayBe (Some game)
+    → ((whole : List ℕ) → MayBe whole → (games : List NumberedGame) × New whole games)
+    → Stands (λ text. text ≡ []) (λ part. (is_refused : Bool) × (new : List ℕ)
+    × IsPart g query game.number game.said.found game.said.tags is_refused part new) after written fault
+    → StandsOf (IsPageStop g query) Whole MayBe Old before written fault
+left_within g query Whole Old Mid New MayBe counts before after written later game fault so_far handed some stands =
+    left_after (IsPageStop g query) Whole (λ text. text ≡ []) (λ part. (is_refused : Bool) × (new : List ℕ)
+    × IsPart g query game.number game.said.found game.said.tags is_refused part new) MayBe Old before after written
+    (front g query ++ flat_map (λ s. s.part) so_far.shown) fault so_far.wrote stands (λ whole may.
+    let more = some whole may in (
+      map (λ s. s.game) so_far.shown ++ game ∷ more.0,
+      so_far.handed whole (game ∷ more.0) (handed whole more.0 more.1),
+      parts_left g query Old Mid counts before after later so_far (game ∷ more.0),
+      λ part one. inl (one_part_left g query Old Mid counts before after later so_far game more.0 part one),
+    ))
+
+-- a fault at the end of the page
+pub left_at_end : (g : Geometry) (query : PageArgs) (portion : Portion)
+    (Old Mid : List ℕ → List NumberedGame → Type 0) (MayBe : List ℕ → Type 0) (counts : Counts)
+    (before after written later : List ℕ) (fault : DeskFault) → SoFar g query Old Mid counts before after later
+    → HandsOut Mid Mid MayBe None → 1 ≤ counts.shown
+    → Stands (λ text. text ≡ []) (λ text. text ≡ later ++ end) after written fault
+    → StandsOf (IsPageStop g query) (λ games text. (counts : Counts) × IsPageOf g query portion games counts text) MayBe
+    Old before written fault
+left_at_end g query portion Old Mid MayBe counts before after written later fault so_far none some stands =
+    let text = front g query ++ flat_map (λ s. s.part) so_far.shown in
+    let games = map (λ s. s.game) so_far.shown in
+    left_after (IsPageStop g query) (λ games text. (counts : Counts) × IsPageOf g query portion games counts text)
+    (λ text. text ≡ []) (λ text. text ≡ later ++ end) MayBe Old before after written text fault so_far.wrote stands
+    (λ whole may. (
+      games,
+      subst (Old whole) (append-nil games) (so_far.handed whole [] (none whole may)),
+      λ nothing is. subst (λ z. IsPageStop g query z (text ++ nothing)) (append-nil games)
+          (parts_left g query Old Mid counts before after later so_far [] nothing is),
+      λ last is. inr (
+        counts,
+        (let page : IsPage g query games counts (text ++ last) =
+            record {
+              games_shown = so_far.shown;
+              are = refl;
+              each = so_far.each;
+              shown = so_far.number;
+              refused = so_far.refused;
+              is = ap (λ z. text ++ z) (is ∙ ap (λ z. z ++ end) so_far.kept
+                  ∙ append_assoc (heading_of query.solutions (language_for query.language))
+                  (flat_map (λ s. s.later) so_far.shown) end)
+                  ∙ append_assoc (front g query) (flat_map (λ s. s.part) so_far.shown) _;
+            } in
+            inl (page, λ none. absurd (not_empty g query games counts (text ++ last) page some none))),
+      ),
+    ))
+
+-- a fault on a page of no games
+pub left_of_none : (g : Geometry) (query : PageArgs) (portion : Portion) (must_exist : Bool)
+    (Old : List ℕ → List NumberedGame → Type 0) (MayBe : List ℕ → Type 0) (before after : List ℕ) (fault : DeskFault)
+    → must_exist ≡ portion.must_exist → ((whole : List ℕ) → MayBe whole → Old whole [])
+    → Stands (IsPageStop g query []) (λ text. (must_exist ≡ false) × (counts : Counts)
+    × IsPage g query [] counts text) before after fault
+    → StandsOf (IsPageStop g query) (λ games text. (counts : Counts) × IsPageOf g query portion games counts text) MayBe
+    Old before after fault
+left_of_none g query portion must_exist Old MayBe before after fault same none stands =
+    left_after (IsPageStop g query) (λ games text. (counts : Counts) × IsPageOf g query portion games counts text)
+    (IsPageStop g query []) (λ text. (must_exist ≡ false) × (counts : Counts) × IsPage g query [] counts text) MayBe Old
+    before before after [] fault (Appends-nil before) stands (λ whole may. (
+      [],
+      none whole may,
+      λ text left. left,
+      λ text all. inr (all.1, page_of_none g query portion must_exist all.1 text same (inl (all.2, all.0))),
+    ))
+
+-- a fault before any part
+pub left_of_head : (g : Geometry) (query : PageArgs) (Whole : List NumberedGame → List ℕ → Type 0)
+    (Old New : List ℕ → List NumberedGame → Type 0) (MayBe : List ℕ → Type 0) (before after : List ℕ)
+    (game : NumberedGame) (fault : DeskFault) → HandsOut Old New MayBe (Some game)
+    → ((whole : List ℕ) → MayBe whole → (games : List NumberedGame) × New whole games)
+    → Stands (λ text. text ≡ []) (λ text. text ≡ front g query) before after fault
+    → StandsOf (IsPageStop g query) Whole MayBe Old before after fault
+left_of_head g query Whole Old New MayBe before after game fault handed some stands =
+    left_after (IsPageStop g query) Whole (λ text. text ≡ []) (λ text. text ≡ front g query) MayBe Old before before
+    after [] fault (Appends-nil before) stands (λ whole may. let more = some whole may in (
+      game ∷ more.0,
+      handed whole more.0 more.1,
+      λ text none. inl none,
+      λ text is. inl (head_left g query (game ∷ more.0) text is),
+    ))

@@ -1,35 +1,25 @@
 -- The text of a problem.
-use Rattle.std.proofs.Common.{◌≡◌, ℕ, ◌-◌, ◌++◌, Bool, List, Option, Some, None, Result, Ok, Err, refl, sym, subst}
+use Rattle.std.proofs.Common.{◌≡◌, ℕ, ◌-◌, Bool, Option, Some, None, Result, Ok, Err, sym, subst}
 use Rattle.std.proofs.Common.{arith}
-use Rattle.std.specs.Prelude.{IfOk, IfSome, is_some, true}
-use Rattle.dw_notation.specs.Streams.{Appends}
-use Rattle.dw_notation.specs.inner.StreamLemmas.{Appends-trans}
-use Rattle.dw_board.specs.Geometry.{Geometry}
-use Rattle.dw_board.specs.Placement.{Placement}
-use Rattle.dw_notation.specs.Problems.{Numbered}
-use Rattle.dw_report.specs.Report.{first_line}
+use Rattle.std.specs.Prelude.{IfErr, IfOk, IfSome, OnOk, is_some, true}
 use Rattle.dw_mend.specs.Mending.{AreBounded}
-use Rattle.dw_desk_commands.specs.ProblemText.{IsFurther, IsProblemText}
-
--- a first line and what is said of the position, one after the other
-pub line_and_more : (g : Geometry) (Says : Placement → Bool → List ℕ → Type 0) (problem : Numbered) (p : Placement)
-    (refused : Bool) (further : List ℕ) (a b c : List ℕ) → problem.found ≡ Ok p → Says p refused further
-    → Appends a b (first_line g problem) → Appends b c further
-    → (text : List ℕ) × IsProblemText g Says problem refused text × Appends a c text
-line_and_more g Says problem p refused further a b c is said line more = (
-  first_line g problem ++ further,
-  record {
-    further = further;
-    follows = subst (λ z. IsFurther Says z refused further) (sym is) said;
-    is = refl;
-  },
-  Appends-trans a b c (first_line g problem) further line more,
-)
 
 -- of an answer something holds that follows from what holds of it
 pub ok_so : {T E : Type 0} (P Q : T → Type 0) (r : Result T E) → ((x : T) → P x → Q x) → IfOk r P → IfOk r Q
 ok_so P Q (Ok x) so h = so x h
 ok_so P Q (Err e) so h = tt
+
+pub done_so : {T E : Type 0} (P Q : Type 0) (r : Result T E) → (P → Q) → OnOk r P → OnOk r Q
+done_so P Q (Ok x) so h = so h
+done_so P Q (Err e) so h = tt
+
+pub err_so : {T E : Type 0} (P Q : E → Type 0) (r : Result T E) → ((e : E) → P e → Q e) → IfErr r P → IfErr r Q
+err_so P Q (Ok x) so h = tt
+err_so P Q (Err e) so h = so e h
+
+pub is_err : {T E : Type 0} (P : E → Type 0) (result : Result T E) (fault was : E) → result ≡ Err fault → fault ≡ was
+    → P was → IfErr result P
+is_err P result fault was is same holds = subst (λ z. IfErr z P) (sym is) (subst P (sym same) holds)
 
 -- as many as were expanded since
 pub bounded_from : (each : Option ℕ) (all undecided begun before after : ℕ) → begun ≡ before

@@ -20,20 +20,20 @@ abbrev pub is_open : Finding → Bool
 is_open (judged k verdict tries) = false
 is_open (undecided k) = true
 
--- a finding may leave that open only if there is a bound on positions
-abbrev pub MayStayOpen : (each : Option ℕ) → Finding → Type 0
-MayStayOpen None finding = is_open finding ≡ false
-MayStayOpen (Some bound) finding = Unit {0}
+-- a finding may leave that open only if there is a bound, and exactly that many positions were expanded
+abbrev pub MayStayOpen : (each : Option ℕ) → (expanded : ℕ) → Finding → Type 0
+MayStayOpen each expanded finding = is_open finding ≡ true → each ≡ Some expanded
 
--- the finding for a position: at exactly the given number of moves, or at the least up to it
-abbrev pub IsFound : Geometry → FindArgs → Placement → Finding → Type 0
-IsFound g query p finding =
-    IsFinding g p query.is_least query.moves.value finding × MayStayOpen query.each finding
+-- the finding for a position after a number of expansions: at exactly the given number of moves, or at the least up to
+-- it
+abbrev pub IsFound : Geometry → FindArgs → (expanded : ℕ) → Placement → Finding → Type 0
+IsFound g query expanded p finding =
+    IsFinding g p query.is_least query.moves.value finding × MayStayOpen query.each expanded finding
 
 -- the text of a finding; the problem counts as refused if it stays undecided
-abbrev pub SaysFound : Geometry → FindArgs → Placement → (refused : Bool) → List ℕ → Type 0
-SaysFound g query p refused text =
-    (finding : Finding) × IsFound g query p finding × (refused ≡ is_open finding) × IsFoundText g p finding text
+abbrev pub SaysFound : Geometry → FindArgs → (expanded : ℕ) → Placement → (refused : Bool) → List ℕ → Type 0
+SaysFound g query expanded p refused text = (finding : Finding) × IsFound g query expanded p finding
+    × (refused ≡ is_open finding) × IsFoundText g p finding text
 
 -- the first lines of the solution for a finding: those within the number of moves at which the position is judged, or
 -- none if it stays undecided
@@ -47,14 +47,14 @@ HasSolution g query p finding solution =
     MatchBool query.solution (AreLinesFor g p finding solution) (solution ≡ None)
 
 -- the row of JSON for a problem; it counts as refused if it is refused, or if it stays undecided
-abbrev pub IsJsonOf : Geometry → FindArgs → (number : ℕ) → Found → (refused : Bool) → List ℕ → Type 0
-IsJsonOf g query number (Ok p) refused text =
-    (finding : Finding) × (solution : Option LinesFrom) × IsFound g query p finding × (refused ≡ is_open finding)
+abbrev pub IsJsonOf : Geometry → FindArgs → (expanded number : ℕ) → Found → (refused : Bool) → List ℕ → Type 0
+IsJsonOf g query expanded number (Ok p) refused text = (finding : Finding) × (solution : Option LinesFrom)
+    × IsFound g query expanded p finding × (refused ≡ is_open finding)
     × HasSolution g query p finding solution × IsFoundRow g number p finding solution text
-IsJsonOf g query number (Err fault) refused text = (refused ≡ true) × (text ≡ refused_row number fault)
+IsJsonOf g query expanded number (Err fault) refused text = (refused ≡ true) × (text ≡ refused_row number fault)
 
--- the output for a problem: a text, or a row of JSON
-abbrev pub IsFindOf : Geometry → FindArgs → Numbered → (refused : Bool) → List ℕ → Type 0
-IsFindOf g query problem refused text =
-    MatchBool query.json (IsJsonOf g query problem.number problem.found refused text)
-    (IsProblemText g (SaysFound g query) problem refused text)
+-- the output for a problem after a number of expansions for it: a text, or a row of JSON
+abbrev pub IsFindOf : Geometry → FindArgs → (expanded : ℕ) → Numbered → (refused : Bool) → List ℕ → Type 0
+IsFindOf g query expanded problem refused text =
+    MatchBool query.json (IsJsonOf g query expanded problem.number problem.found refused text)
+    (IsProblemText g (SaysFound g query expanded) problem refused text)

@@ -185,3 +185,15 @@ abbrev pub IsPageOf : Geometry → PageArgs → Portion → List NumberedGame �
 IsPageOf g query portion games counts text =
     (IsPage g query games counts text × (games ≡ [] → portion.must_exist ≡ false))
     ⊎ ((games ≡ []) × (portion.must_exist ≡ true) × (counts.shown ≡ 0) × (counts.refused ≡ 0) × (text ≡ []))
+
+-- The part of a page that a stop leaves: its head, and the part of each of some first games.
+pub record IsPagePart (g : Geometry) (query : PageArgs) (games : List NumberedGame) (text : List ℕ) : Type 0 where
+  pub games_shown : List Shown
+  pub behind : List NumberedGame
+  pub are : games ≡ map (λ s. s.game) games_shown ++ behind
+  pub each : All (IsShownIn g query) games_shown
+  pub is : text ≡ head g (language_for query.language) query.title.now ++ flat_map (λ s. s.part) games_shown
+
+-- nothing, or a part of the page
+abbrev pub IsPageStop : Geometry → PageArgs → List NumberedGame → List ℕ → Type 0
+IsPageStop g query games text = (text ≡ []) ⊎ IsPagePart g query games text

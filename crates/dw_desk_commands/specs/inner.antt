@@ -4,4 +4,5 @@ pub mod Comparing
 pub mod Faults
 pub mod NextGame
 pub mod Searching
+pub mod Standing
 pub mod Tallies

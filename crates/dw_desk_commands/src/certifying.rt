@@ -1,59 +1,69 @@
 //! The command `certify`: the certificate of an answer.
-ghost use Rattle.std.specs.Prelude.{◌≡◌, ◌≤◌, IfOk};
+ghost use Rattle.std.specs.Prelude.{◌≡◌, ◌≤◌, false, IfOk};
 ghost use Rattle.dw_desk_commands.specs.Certifying.{IsCertificateText, IsCertifyOf};
+ghost use Rattle.dw_desk_commands.specs.inner.Faults.{FailsForMemory};
 ghost use Rattle.dw_games.specs.Games.{problem_of};
 
-use crate::desk::{Desk, DeskFault};
-use crate::reporting::ReportOne;
+use crate::desk::Desk;
+use crate::reporting::{MakesText, refused_output};
 use crate::watcher::DeskWatcher;
 use dw_arguments::{CertifyArgs, MemoKind};
 use dw_board::{Board, Position};
 use dw_certificate::{CertificateFault, certificate_text, certify};
 use dw_commands::{Ending, LeakedMemo, memo_of};
 use dw_games::Game;
-use dw_notation::{Sink, write_all};
-use dw_report::{RunFault, Stop, problem_line};
+use dw_report::{RunFault, Stop};
 use dw_solve::{ByTrial, Solver};
 use dw_stipulation::MoveCount;
 use dw_study::{Slices, wins_in_slices};
 use std::alloc::{AllocError, Global};
 use std::mem::replace;
 
-impl<B: Board, E> ReportOne<B, E> for CertifyArgs {
+impl<B: Board, E> MakesText<B, Ending<E>> for CertifyArgs {
     ghost says = { λ query expanded game. IsCertifyOf B.geometry query.n.value (problem_of game) };
 
-    /// Writes the certificate of whether a problem is won within `n` moves, and returns how that ended. Only the first
-    /// line of a refused problem is written.
-    fn report<W: DeskWatcher, K: Sink>(
+    ghost is_headed = { λ query. false };
+
+    ghost may_answer = { FailsForMemory };
+
+    ghost counts_on = { ⊥ };
+
+    fn has_heading(&self) -> bool {
+        false
+    }
+
+    /// Makes the certificate of whether a problem is won within `n` moves, and returns how the program ends. A refused
+    /// problem has only its first line.
+    fn text_of<W: DeskWatcher>(
         &self,
         desk: &mut Desk<B>,
         slices: &mut Slices<W>,
         game: &Game<B>,
-        sink: &mut K,
-    ) -> Result<Ending<E>, DeskFault> {
+    ) -> Result<(Vec<u8>, Ending<E>), Stop> {
         let problem = &game.problem;
-        let Ok(position) = &problem.found else {
-            write_all(sink, problem_line(problem).as_str().as_bytes())?;
-            return Ok(Ending::Refused);
+        let position = match &problem.found {
+            Ok(position) => position,
+            Err(fault) => {
+                let text = refused_output(desk.alloc, false, problem, *fault)?;
+                return Ok((text, Ending::Refused));
+            }
         };
         desk.begin(slices, problem.number);
         let searched = wins_in_slices(desk.alloc, &mut desk.solver, position, self.n.value, slices);
         slices.watcher.end();
         searched?;
         if desk.solver.dropped() > 0 {
-            return Ok(Ending::TooManyPositions);
+            return Ok((Vec::new(desk.alloc), Ending::TooManyPositions));
         }
         let expanded = desk.solver.expanded();
         match text_of(desk, position, self.n) {
-            Ok(text) => {
-                write_all(sink, text.as_slice())?;
-                Ok(Ending::Done)
+            Ok(text) => Ok((text, Ending::Done)),
+            Err(CertificateFault::Missing) => Ok((Vec::new(desk.alloc), Ending::TooManyPositions)),
+            Err(CertificateFault::Memory) => {
+                let why = Stop::Memory;
+                let ending = Ending::Failed(RunFault::Stopped { why, expanded });
+                Ok((Vec::new(desk.alloc), ending))
             }
-            Err(CertificateFault::Missing) => Ok(Ending::TooManyPositions),
-            Err(CertificateFault::Memory) => Ok(Ending::Failed(RunFault::Stopped {
-                why: Stop::Memory,
-                expanded,
-            })),
         }
     }
 }

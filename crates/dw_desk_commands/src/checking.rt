@@ -1,6 +1,6 @@
 //! The command `check`: the faults of the solution in each game, and the moves that it leaves out.
 ghost use Rattle.std.specs.Prelude.{◌≡◌, ◌+◌, ◌≤◌, ◌<◌, ◌↔◌, ℕ, List, [], Some, false, map, IfOk, OnOk, IsTrue};
-ghost use Rattle.std.specs.Prelude.{codes, if◌then◌else◌, IsErrOf};
+ghost use Rattle.std.specs.Prelude.{codes, if◌then◌else◌, IsErrOf, ⊤};
 ghost use Rattle.dw_notation.specs.Streams.{Appends};
 ghost use Rattle.std.specs.String.{string_bytes};
 ghost use Rattle.dw_board.specs.Lists.{Member};
@@ -11,7 +11,6 @@ ghost use Rattle.dw_notation.specs.Problems.{numbered};
 ghost use Rattle.std.specs.Prelude.{MatchBool, ◌&&◌};
 ghost use Rattle.dw_desk_commands.specs.Checking as of;
 ghost use Rattle.dw_desk_commands.specs.ProblemText.{AreTexts};
-ghost use Rattle.dw_desk_commands.specs.inner.Faults.{SinkFails};
 ghost use Rattle.dw_desk_commands.specs.inner.Tallies.{one_more, tallied, total};
 ghost use Rattle.dw_moves.specs.Moves.{Move};
 ghost use Rattle.dw_solve.specs.Wins.{Win};
@@ -20,13 +19,13 @@ ghost use Rattle.dw_study.specs.RemarkText.{HasTexts, IsRemarkText};
 ghost use Rattle.dw_study.specs.Remarks.{AreRemarks, Remark as AnyRemark};
 ghost use Rattle.dw_study.specs.Telling.{Say, remark_in};
 
-use crate::desk::{Desk, DeskFault};
-use crate::reporting::{ReportEach, write_refused};
+use crate::desk::Desk;
+use crate::reporting::{MakesText, push, refused_output};
 use crate::watcher::DeskWatcher;
 use dw_arguments::CheckArgs;
 use dw_board::{Board, Position};
 use dw_games::{Game, MovetextFault, MovetextFaultKind, Tree, read_movetext};
-use dw_notation::{Problem, Sink, write_all};
+use dw_notation::Problem;
 use dw_report::{Stop, problem_line};
 use dw_rows::{CheckNumbers, checked_row, refused_solution_row};
 use dw_stipulation::MoveCount;
@@ -35,23 +34,32 @@ use dw_study::{Checked, Remark, Slices, remark_text, turns_of};
 use itoa::Buffer;
 use std::alloc::{AllocError, Global};
 
-impl<B: Board> ReportEach<B> for CheckArgs {
-    ghost says = { λ query. IsCheckOf B.geometry query };
+impl<B: Board> MakesText<B, bool> for CheckArgs {
+    ghost says = { λ query expanded. IsCheckOf B.geometry query };
 
-    /// Reports one game, and returns whether it or its solution is refused, or the solution does not hold.
-    fn report<W: DeskWatcher, K: Sink>(
+    ghost is_headed = { λ query. false };
+
+    ghost may_answer = { λ refused. ⊤ };
+
+    ghost counts_on = { ⊤ };
+
+    fn has_heading(&self) -> bool {
+        false
+    }
+
+    /// Makes the text of one game, and returns whether it or its solution is refused, or the solution does not hold.
+    fn text_of<W: DeskWatcher>(
         &self,
         desk: &mut Desk<B>,
         slices: &mut Slices<W>,
         game: &Game<B>,
-        sink: &mut K,
-    ) -> Result<bool, DeskFault> {
+    ) -> Result<(Vec<u8>, bool), Stop> {
         let problem = &game.problem;
         let position = match &problem.found {
             Ok(position) => position,
             Err(fault) => {
-                write_refused(desk.alloc, self.json, problem, *fault, sink)?;
-                return Ok(true);
+                let text = refused_output(desk.alloc, self.json, problem, *fault)?;
+                return Ok((text, true));
             }
         };
         match read_movetext(desk.alloc, position, game.movetext.as_slice()) {
@@ -64,43 +72,39 @@ impl<B: Board> ReportEach<B> for CheckArgs {
                     n: n.value,
                     checked: &checked,
                 };
-                let fails = write_solution(desk.alloc, self, &solution, sink)?;
-                Ok(fails)
+                Ok(solution_text(desk.alloc, self, &solution)?)
             }
             Err(MovetextFault::Refused { what, place }) => {
-                write_fault(desk.alloc, self.json, problem, position, what, place, sink)?;
-                Ok(true)
+                let text = fault_text_of(desk.alloc, self.json, problem, position, what, place)?;
+                Ok((text, true))
             }
-            Err(MovetextFault::Memory) => Err(DeskFault::Stopped(Stop::Memory)),
+            Err(MovetextFault::Memory) => Err(Stop::Memory),
         }
     }
 }
 
-/// Writes a problem whose solution is refused: its row, or its first line and that of the fault.
-fn write_fault<B: Board, K: Sink>(
+/// Makes the text of a problem whose solution is refused: its row, or its first line and that of the fault.
+fn fault_text_of<B: Board>(
     alloc: Global,
     json: bool,
     problem: &Problem<B>,
     position: &Position<B>,
     what: MovetextFaultKind,
     place: u32,
-    sink: &mut K,
-) -> Result<(), DeskFault>
-    requires { K.is_failed sink.old ≡ false }
-    ensures text { OnOk result (Appends (K.accepted sink.old) (K.accepted sink.new)
-        (fault_text B.geometry json (numbered problem.now) position.now what place)) }
-    ensures works { OnOk result (K.is_failed sink.new ≡ false) }
-    ensures fails { SinkFails (K.is_failed sink.new) result }
+) -> Result<Vec<u8>, AllocError>
+    ensures { IfOk result (λ text. text.items
+        ≡ fault_text B.geometry json (numbered problem.now) position.now what place) }
 {
     if json {
-        let line = refused_solution_row(alloc, problem.number, position, what, place)?;
-        write_all(sink, line.as_str().as_bytes())?;
-        return Ok(());
+        return Ok(refused_solution_row(alloc, problem.number, position, what, place)?.into_bytes());
     }
-    write_all(sink, problem_line(problem).as_str().as_bytes())?;
-    let line = refused_line(alloc, what, place)?;
-    write_all(sink, line.as_str().as_bytes())?;
-    Ok(())
+    let mut text = Vec::new(alloc);
+    push(&mut text, problem_line(problem).as_str().as_bytes())?;
+    push(
+        &mut text,
+        refused_line(alloc, what, place)?.as_str().as_bytes(),
+    )?;
+    Ok(text)
 }
 
 /// A solution that was compared with all wins.
@@ -136,6 +140,7 @@ fn checked<B: Board, W: DeskWatcher>(
     ensures wins { IfOk result (λ checked. IsTrue checked.wins ↔ Win B.geometry tree.now.start n.value) }
     ensures remarks { IfOk result (λ checked. Say tree.now.paths checked.remarks.items
         (AreRemarks B.geometry tree.now.paths n.value tree.now.start [])) }
+    ensures counts { desk.old.solver.expanded ≤ desk.new.solver.expanded }
     ensures stop { IsErrOf result Limit → desk.new.solver.expanded ≡ u64.MAX }
 {
     desk.begin(slices, number);
@@ -162,29 +167,24 @@ fn refused_line(alloc: Global, what: MovetextFaultKind, place: u32) -> Result<St
     .concat(alloc)
 }
 
-/// Writes the remarks on a solution, unless it is to be left out, and returns whether it does not hold.
-fn write_solution<B: Board, K: Sink>(
+/// Makes the text of the remarks on a solution, unless it is to be left out, and returns whether it does not hold.
+fn solution_text<B: Board>(
     alloc: Global,
     query: &CheckArgs,
     solution: &Solution<'_, B>,
-    sink: &mut K,
-) -> Result<bool, DeskFault>
-    requires works { K.is_failed sink.old ≡ false }
+) -> Result<(Vec<u8>, bool), AllocError>
     requires compared { IsCompared B.geometry solution.now }
-    ensures text { IfOk result (λ refused. (text : List ℕ) × (remarks : List AnyRemark)
+    ensures { IfOk result (λ told. (remarks : List AnyRemark)
         × AreRemarks B.geometry solution.now.tree.now.paths solution.now.n solution.now.tree.now.start [] remarks
         × IsChecked B.geometry query.now (numbered solution.now.problem.now) solution.now.tree.now.start solution.now.n
-        remarks refused text
-        × Appends (K.accepted sink.old) (K.accepted sink.new) text) }
-    ensures works { IfOk result (λ _. K.is_failed sink.new ≡ false) }
-    ensures fails { SinkFails (K.is_failed sink.new) result }
+        remarks told.1 told.0.items) }
 {
     let tally = tally_of(solution.checked.remarks.as_slice());
     if is_left_out(query, solution) {
-        return Ok(!tally.holds());
+        return Ok((Vec::new(alloc), !tally.holds()));
     }
-    write_checked(alloc, query.json, solution, tally, sink)?;
-    Ok(!tally.holds())
+    let text = checked_text(alloc, query.json, solution, tally)?;
+    Ok((text, !tally.holds()))
 }
 
 /// Returns whether a solution is left out: with `--faults`, if there are no remarks on it.
@@ -196,36 +196,29 @@ fn is_left_out<B: Board>(query: &CheckArgs, solution: &Solution<'_, B>) -> bool
     query.faults && solution.checked.remarks.is_empty()
 }
 
-/// Writes the remarks on a solution: its row, or words.
-fn write_checked<B: Board, K: Sink>(
+/// Makes the text of the remarks on a solution: its row, or words.
+fn checked_text<B: Board>(
     alloc: Global,
     json: bool,
     solution: &Solution<'_, B>,
     tally: Tally,
-    sink: &mut K,
-) -> Result<(), DeskFault>
-    requires works { K.is_failed sink.old ≡ false }
+) -> Result<Vec<u8>, AllocError>
     requires compared { IsCompared B.geometry solution.now }
     requires tally { (said : List AnyRemark)
         → map (remark_in solution.now.tree.now.paths) solution.now.checked.now.remarks.items ≡ map (λ r. Some r) said
         → tallied tally ≡ counted said }
-    ensures text { (said : List AnyRemark)
+    ensures { (said : List AnyRemark)
         → map (remark_in solution.now.tree.now.paths) solution.now.checked.now.remarks.items ≡ map (λ r. Some r) said
         → AreRemarks B.geometry solution.now.tree.now.paths solution.now.n solution.now.tree.now.start [] said
-        → OnOk result ((text : List ℕ)
-        × MatchBool json (IsCheckedLine B.geometry (numbered solution.now.problem.now).number
-        solution.now.tree.now.start solution.now.n said text) (IsCheckedText B.geometry
-        (numbered solution.now.problem.now) solution.now.tree.now.start solution.now.n said text)
-        × Appends (K.accepted sink.old) (K.accepted sink.new) text) }
-    ensures works { OnOk result (K.is_failed sink.new ≡ false) }
-    ensures fails { SinkFails (K.is_failed sink.new) result }
+        → IfOk result (λ text. MatchBool json (IsCheckedLine B.geometry (numbered solution.now.problem.now).number
+        solution.now.tree.now.start solution.now.n said text.items) (IsCheckedText B.geometry
+        (numbered solution.now.problem.now) solution.now.tree.now.start solution.now.n said text.items)) }
 {
     if json {
-        let line = row_of(alloc, solution, tally)?;
-        write_all(sink, line.as_str().as_bytes())?;
-        return Ok(());
+        Ok(row_of(alloc, solution, tally)?.into_bytes())
+    } else {
+        plain_text(alloc, solution, tally)
     }
-    write_plain(alloc, solution, tally, sink)
 }
 
 /// Makes the row of a solution.
@@ -266,37 +259,45 @@ fn row_of<B: Board>(
     }
 }
 
-/// Writes the remarks on a solution in words.
-fn write_plain<B: Board, K: Sink>(
+/// Makes the text of the remarks on a solution in words.
+fn plain_text<B: Board>(
     alloc: Global,
     solution: &Solution<'_, B>,
     tally: Tally,
-    sink: &mut K,
-) -> Result<(), DeskFault>
-    requires works { K.is_failed sink.old ≡ false }
+) -> Result<Vec<u8>, AllocError>
     requires compared { IsCompared B.geometry solution.now }
     requires tally { (said : List AnyRemark)
         → map (remark_in solution.now.tree.now.paths) solution.now.checked.now.remarks.items ≡ map (λ r. Some r) said
         → tallied tally ≡ counted said }
-    ensures text { (said : List AnyRemark)
+    ensures { (said : List AnyRemark)
         → map (remark_in solution.now.tree.now.paths) solution.now.checked.now.remarks.items ≡ map (λ r. Some r) said
         → AreRemarks B.geometry solution.now.tree.now.paths solution.now.n solution.now.tree.now.start [] said
-        → OnOk result ((text : List ℕ)
-        × IsCheckedText B.geometry (numbered solution.now.problem.now) solution.now.tree.now.start solution.now.n
-        said text
-        × Appends (K.accepted sink.old) (K.accepted sink.new) text) }
-    ensures works { OnOk result (K.is_failed sink.new ≡ false) }
-    ensures fails { SinkFails (K.is_failed sink.new) result }
+        → IfOk result (λ text. IsCheckedText B.geometry (numbered solution.now.problem.now)
+        solution.now.tree.now.start solution.now.n said text.items) }
 {
     dw_study::laws::remarks_have_texts();
-    write_all(sink, problem_line(solution.problem).as_str().as_bytes())?;
-    let line = win_line(alloc, solution.checked.wins, solution.n)?;
-    write_all(sink, line.as_str().as_bytes())?;
-    let remarks = solution.checked.remarks.as_slice();
-    write_remarks(alloc, solution.tree, remarks, sink)?;
-    let line = last_line(alloc, solution.n, tally)?;
-    write_all(sink, line.as_str().as_bytes())?;
-    Ok(())
+    let mut text = Vec::new(alloc);
+    push(
+        &mut text,
+        problem_line(solution.problem).as_str().as_bytes(),
+    )?;
+    push(
+        &mut text,
+        win_line(alloc, solution.checked.wins, solution.n)?
+            .as_str()
+            .as_bytes(),
+    )?;
+    push_remarks(
+        alloc,
+        solution.tree,
+        solution.checked.remarks.as_slice(),
+        &mut text,
+    )?;
+    push(
+        &mut text,
+        last_line(alloc, solution.n, tally)?.as_str().as_bytes(),
+    )?;
+    Ok(text)
 }
 
 /// Makes the line that there is no win, if there is none.
@@ -312,44 +313,38 @@ fn win_line(alloc: Global, wins: bool, n: u8) -> Result<String, AllocError>
     }
 }
 
-/// Writes remarks on a tree, in turn.
-fn write_remarks<B: Board, K: Sink>(
+/// Appends the texts of remarks on a tree, in turn.
+fn push_remarks<B: Board>(
     alloc: Global,
     tree: &Tree<B>,
     remarks: &[Remark<B>],
-    sink: &mut K,
-) -> Result<(), DeskFault>
-    requires { K.is_failed sink.old ≡ false }
-    ensures texts { (said : List AnyRemark) → map (remark_in tree.now.paths) remarks.now ≡ map (λ r. Some r) said
+    text: &mut Vec<u8>,
+) -> Result<(), AllocError>
+    ensures { (said : List AnyRemark) → map (remark_in tree.now.paths) remarks.now ≡ map (λ r. Some r) said
         → ((r : AnyRemark) → Member r said → HasTexts B.geometry tree.now.start r)
         → OnOk result ((told : List ℕ) × AreTexts (IsRemarkText B.geometry tree.now.start) said told
-        × Appends (K.accepted sink.old) (K.accepted sink.new) told) }
-    ensures works { OnOk result (K.is_failed sink.new ≡ false) }
-    ensures fails { SinkFails (K.is_failed sink.new) result }
+        × Appends text.old.items text.new.items told) }
 {
     'remarks: for remark in remarks {
-        write_remark(alloc, tree, remark, sink)?;
+        push_remark(alloc, tree, remark, text)?;
     }
     Ok(())
 }
 
-/// Writes a remark on a tree.
-fn write_remark<B: Board, K: Sink>(
+/// Appends the text of a remark on a tree.
+fn push_remark<B: Board>(
     alloc: Global,
     tree: &Tree<B>,
     remark: &Remark<B>,
-    sink: &mut K,
-) -> Result<(), DeskFault>
-    requires { K.is_failed sink.old ≡ false }
-    ensures text { (r : AnyRemark) → remark_in tree.now.paths remark.now ≡ Some r
+    text: &mut Vec<u8>,
+) -> Result<(), AllocError>
+    ensures { (r : AnyRemark) → remark_in tree.now.paths remark.now ≡ Some r
         → HasTexts B.geometry tree.now.start r
-        → OnOk result ((text : List ℕ) × IsRemarkText B.geometry tree.now.start r text
-        × Appends (K.accepted sink.old) (K.accepted sink.new) text) }
-    ensures works { OnOk result (K.is_failed sink.new ≡ false) }
-    ensures fails { SinkFails (K.is_failed sink.new) result }
+        → OnOk result ((told : List ℕ) × IsRemarkText B.geometry tree.now.start r told
+        × Appends text.old.items text.new.items told) }
 {
-    if let Some(text) = remark_text(alloc, tree, remark)? {
-        write_all(sink, text.as_str().as_bytes())?;
+    if let Some(told) = remark_text(alloc, tree, remark)? {
+        push(text, told.as_str().as_bytes())?;
     }
     Ok(())
 }

@@ -23,7 +23,7 @@ pub(crate) struct Chosen<'a, B: Board, S> {
 impl<'a, B: Board, S: Source> Chosen<'a, B, S> {
     ghost use Rattle.dw_desk_commands.specs.Chosen.{is_in};
     ghost use Rattle.dw_desk_commands.specs.inner.Choosing.{HandsOut};
-    ghost use Rattle.dw_desk_commands.specs.inner.Choosing.{AreToCome, GoesOn, MayBe, is_met};
+    ghost use Rattle.dw_desk_commands.specs.inner.Choosing.{AreToCome, GoesOn, HaveGames, MayBe, is_met};
     ghost use Rattle.dw_desk_commands.specs.inner.Choosing.{IsFresh, Runs, lender, source_of};
     ghost use Rattle.dw_desk_commands.specs.inner.Faults.{IsCaused};
     ghost use Rattle.dw_games.specs.GameReading.{numbered_game};
@@ -72,9 +72,9 @@ impl<'a, B: Board, S: Source> Chosen<'a, B, S> {
         requires { Runs self.old.text }
         ensures given { IfOk result (λ found. HandsOut (AreToCome B.geometry S.supply self.old)
             (AreToCome B.geometry S.supply self.new) (MayBe S.supply self.new) (option_map numbered_game found)) }
-        ensures more { IfOk result (λ found. IfSome found (λ _. (whole : List ℕ) → MayBe S.supply self.new whole
-            → (games : List NumberedGame) × AreToCome B.geometry S.supply self.new whole games)) }
-        ensures on { IfOk result (λ _. GoesOn S.supply self.old.text self.new.text) }
+        ensures more { IfOk result (λ found. IfSome found (λ _. HaveGames B.geometry S.supply self.new)) }
+        ensures on { GoesOn S.supply self.old.text self.new.text }
+        ensures possible { (whole : List ℕ) → MayBe S.supply self.new whole → MayBe S.supply self.old whole }
         ensures portion { self.new.portion ≡ self.old.portion }
         ensures fewer { IfOk result (λ found. IfSome found (λ _. self.new.left < self.old.left)) }
         ensures lender { lender self.new.text ≡ lender self.old.text }
@@ -126,8 +126,8 @@ enum Text<'a, B: Board, S> {
 
 impl<'a, B: Board, S: Source> Text<'a, B, S> {
     ghost use Rattle.dw_desk_commands.specs.Chosen.{AreGamesIn};
-    ghost use Rattle.dw_desk_commands.specs.inner.Choosing.{AreAhead, ComesNext, EndIsKnown, Runs, lender, source_of};
-    ghost use Rattle.dw_notation.specs.Streams.{Supply};
+    ghost use Rattle.dw_desk_commands.specs.inner.Choosing.{AreAhead, ComesNext, EndIsKnown, GoesOn, IsPossible};
+    ghost use Rattle.dw_desk_commands.specs.inner.Choosing.{Runs, lender, source_of};
     ghost use Rattle.dw_desk_commands.specs.inner.Faults.{IsCaused};
     ghost use Rattle.dw_games.specs.Games.{NumberedGame};
 
@@ -137,6 +137,7 @@ impl<'a, B: Board, S: Source> Text<'a, B, S> {
         ensures source { source_of result ≡ source.old }
         ensures games { (bytes : List ℕ) (games : List NumberedGame) → AreAhead B.geometry result bytes games
             → AreGamesIn B.geometry form bytes games }
+        ensures some { (bytes : List ℕ) → (games : List NumberedGame) × AreAhead B.geometry result bytes games }
         ensures end { EndIsKnown S.supply (S.supply source.old) result }
         ensures lender { lender result ≡ source.entry.ghost_name }
         ensures runs { Runs result }
@@ -162,7 +163,8 @@ impl<'a, B: Board, S: Source> Text<'a, B, S> {
     fn next(&mut self, alloc: Global) -> Result<Option<Game<B>>, DeskFault>
         requires { Runs self.old }
         ensures given { IfOk result (ComesNext B.geometry S.supply self.old self.new) }
-        ensures end { (began : Supply) → EndIsKnown S.supply began self.old → EndIsKnown S.supply began self.new }
+        ensures on { GoesOn S.supply self.old self.new }
+        ensures possible { (whole : List ℕ) → IsPossible S.supply self.new whole → IsPossible S.supply self.old whole }
         ensures lender { lender self.new ≡ lender self.old }
         ensures cause { IfErr result (IsCaused (S.is_failed (source_of self.new)) false) }
         ensures runs { OnOk result (Runs self.new) }

@@ -1,15 +1,18 @@
 //! The solver and the counters that all commands share.
-ghost use Rattle.std.specs.Prelude.{◌≡◌, ◌⊎◌, ◌+◌, ◌<◌, ◌≤◌, false, if◌then◌else◌, Bool, IfOk, IfErr};
-ghost use Rattle.dw_desk_commands.specs.Commands.{DoesIt, Obeys, form_for};
-ghost use Rattle.dw_desk_commands.specs.Ending.{FailsForCause, HasCause, ending_after};
+ghost use Rattle.std.specs.Prelude.{◌≡◌, ◌⊎◌, ◌+◌, ◌-◌, ◌<◌, ◌≤◌, false, if◌then◌else◌, Bool, ℕ, List, IfOk, IfErr};
+ghost use Rattle.dw_desk_commands.specs.Commands.{DoesIt, Leaves, Obeys, Tells, form_for};
+ghost use Rattle.dw_desk_commands.specs.Ending.{FailsForCause, ending_after};
 ghost use Rattle.dw_desk_commands.specs.declared.desk.DeskFault.TheVariants as because;
-ghost use Rattle.dw_desk_commands.specs.inner.Choosing.{IsFresh, source_of};
+ghost use Rattle.dw_desk_commands.specs.inner.Choosing.{AreToCome, GoesOn, IsFresh, MayBe, lender, source_of};
+ghost use Rattle.dw_desk_commands.specs.inner.Standing.{StandsOf};
+ghost use Rattle.dw_commands.specs.declared.ending.Ending.{Ending};
+ghost use Rattle.std.specs.Borrow.{Bor};
 ghost use Rattle.dw_desk_commands.specs.inner.Faults.{CommandFails, FailsForMemory, of_game, of_mend, run_fault};
 ghost use Rattle.dw_solve.specs.declared.stop.Stop.TheVariants as stops;
 
 use crate::chosen::Chosen;
 use crate::paging::page_problems;
-use crate::reporting::{report_all, report_first};
+use crate::reporting::{InText, report_all, report_first};
 use crate::watcher::DeskWatcher;
 use crate::writing::Line;
 use dw_arguments::{DeskArgs, Task};
@@ -163,7 +166,8 @@ impl<B: Board> Desk<B> {
 
 /// Runs a command on the problems of a source, and returns how the program ends. The board must have 10 or 8 rows, and
 /// neither the source nor the sink may have failed before. It fails if memory is refused, if a stream fails, or if
-/// 2^64 - 1 positions are expanded; then the contract does not say what was written.
+/// 2^64 - 1 positions are expanded. Then a beginning of the output was written: whole texts of the problems before, and
+/// of the next one's text nothing, or whole lines. After a failed write it may end at any byte.
 pub fn run_on<'a, B: Board, W: DeskWatcher, S: Source, K: Sink>(
     alloc: Global,
     slices: &mut Slices<W>,
@@ -178,41 +182,41 @@ pub fn run_on<'a, B: Board, W: DeskWatcher, S: Source, K: Sink>(
         (K.accepted sink.new) result }
     ensures fails { FailsForCause (S.is_failed source.new) (K.is_failed sink.new) result }
 {
+    let mut chosen = Chosen::<B, S>::new(alloc, source, form_of(args), args.portion);
+    let ending = run_chosen(alloc, slices, args, &mut chosen, sink);
+    // Chosen problems that are dropped would not tell how much was read.
+    let _ = chosen.into_source();
+    ending
+}
+
+/// Runs a command on the chosen problems.
+fn run_chosen<'a, B: Board, W: DeskWatcher, S: Source, K: Sink>(
+    alloc: Global,
+    slices: &mut Slices<W>,
+    args: &DeskArgs<'a>,
+    chosen: &mut Chosen<'_, B, S>,
+    sink: &mut K,
+) -> Ending<&'a str>
+    requires rows { (B.geometry.rows ≡ 10) ⊎ (B.geometry.rows ≡ 8) }
+    requires fresh { IsFresh B.geometry S.supply (form_for args.now.task args.now.form) args.now.portion
+        chosen.old }
+    requires sink { K.is_failed sink.old ≡ false }
+    ensures obeys { Obeys B.geometry args.now (S.supply (source_of chosen.old.text))
+        (S.supply (source_of chosen.new.text)) (K.accepted sink.old) (K.accepted sink.new) result }
+    ensures fails { FailsForCause (S.is_failed (source_of chosen.new.text)) (K.is_failed sink.new) result }
+    ensures source { lender chosen.new.text ≡ lender chosen.old.text }
+{
     let Ok(mut desk) = Desk::<B>::new(alloc, args) else {
         return Ending::no_memory();
     };
-    match dispatch(&mut desk, slices, args, source, sink) {
+    match dispatch(&mut desk, slices, args, chosen, sink) {
         Ok(ending) => ending,
         Err(fault) => Ending::Failed(fault.in_run(desk.solver.expanded())),
     }
 }
 
-/// Runs a command on the problems of a source, unless something stops it.
-fn dispatch<'a, B: Board, W: DeskWatcher, S: Source, K: Sink>(
-    desk: &mut Desk<B>,
-    slices: &mut Slices<W>,
-    args: &DeskArgs<'a>,
-    source: &mut S,
-    sink: &mut K,
-) -> Result<Ending<&'a str>, DeskFault>
-    requires rows { (B.geometry.rows ≡ 10) ⊎ (B.geometry.rows ≡ 8) }
-    requires source { S.is_failed source.old ≡ false }
-    requires sink { K.is_failed sink.old ≡ false }
-    ensures does { IfOk result (DoesIt B.geometry args.now (S.supply source.old) (S.supply source.new)
-        (K.accepted sink.old) (K.accepted sink.new)) }
-    ensures told { IfOk result FailsForMemory }
-    ensures fails { IfErr result (λ fault. HasCause (S.is_failed source.new) (K.is_failed sink.new)
-        (run_fault fault desk.new.solver.expanded)) }
-{
-    let mut chosen = Chosen::<B, S>::new(desk.alloc, source, form_of(args), args.portion);
-    let result = do_with(desk, slices, args, &mut chosen, sink);
-    // Chosen problems that are dropped would not tell how much was read.
-    let _ = chosen.into_source();
-    result
-}
-
 /// Runs a command on the chosen problems, unless something stops it.
-fn do_with<'a, B: Board, W: DeskWatcher, S: Source, K: Sink>(
+fn dispatch<'a, B: Board, W: DeskWatcher, S: Source, K: Sink>(
     desk: &mut Desk<B>,
     slices: &mut Slices<W>,
     args: &DeskArgs<'a>,
@@ -223,42 +227,49 @@ fn do_with<'a, B: Board, W: DeskWatcher, S: Source, K: Sink>(
     requires fresh { IsFresh B.geometry S.supply (form_for args.now.task args.now.form) args.now.portion
         chosen.old }
     requires sink { K.is_failed sink.old ≡ false }
-    ensures does { IfOk result (DoesIt B.geometry args.now (S.supply (source_of chosen.old.text))
-        (S.supply (source_of chosen.new.text)) (K.accepted sink.old) (K.accepted sink.new)) }
+    ensures does { IfOk result (DoesIt B.geometry args.now (desk.new.solver.expanded - desk.old.solver.expanded)
+        (S.supply (source_of chosen.old.text)) (S.supply (source_of chosen.new.text)) (K.accepted sink.old)
+        (K.accepted sink.new)) }
     ensures told { IfOk result FailsForMemory }
     ensures ends { CommandFails S.is_failed (K.is_failed sink.new) desk.new.solver.expanded chosen.old chosen.new
         result }
+    ensures on { GoesOn S.supply chosen.old.text chosen.new.text }
+    ensures stands { IfErr result (StandsOf (Leaves B.geometry args.now.task) (λ games text. (ending : Ending (Bor
+        (List ℕ)))
+        × (expanded : ℕ) × Tells B.geometry args.now.portion args.now.task expanded games ending text)
+        (MayBe S.supply chosen.new) (AreToCome B.geometry S.supply chosen.old)
+        (K.accepted sink.old) (K.accepted sink.new)) }
 {
     match args.task {
         Task::Find(query) => {
-            return Ok(report_all(&query, desk, slices, chosen, sink)?.ending(args));
+            let command = InText { command: &query };
+            return Ok(report_all(&command, desk, slices, chosen, sink)?.ending(args));
         }
         Task::Check(query) => {
-            return Ok(report_all(&query, desk, slices, chosen, sink)?.ending(args));
+            let command = InText { command: &query };
+            return Ok(report_all(&command, desk, slices, chosen, sink)?.ending(args));
         }
         Task::Solution(query) => {
-            return Ok(report_all(&query, desk, slices, chosen, sink)?.ending(args));
+            let command = InText { command: &query };
+            return Ok(report_all(&command, desk, slices, chosen, sink)?.ending(args));
         }
         Task::Page(query) => {
             return Ok(page_problems(desk, slices, chosen, &query, sink)?.ending(args));
         }
         Task::Certify(query) => {
-            return report_first::<&'a str, _, _, _, _, _>(&query, desk, slices, chosen, sink);
+            let command = InText { command: &query };
+            return report_first::<&'a str, _, _, _, _, _>(&command, desk, slices, chosen, sink);
         }
         Task::Moves(query) => {
-            return report_first::<&'a str, _, _, _, _, _>(&query, desk, slices, chosen, sink);
+            let command = InText { command: &query };
+            return report_first::<&'a str, _, _, _, _, _>(&command, desk, slices, chosen, sink);
         }
         Task::Mend(query) => {
             return report_first::<&'a str, _, _, _, _, _>(&query, desk, slices, chosen, sink);
         }
         Task::Token { line } => {
-            return report_first::<&'a str, _, _, _, _, _>(
-                &Line { text: line },
-                desk,
-                slices,
-                chosen,
-                sink,
-            );
+            let command = Line { text: line };
+            return report_first::<&'a str, _, _, _, _, _>(&command, desk, slices, chosen, sink);
         }
     }
 }

@@ -1,93 +1,78 @@
 //! The command `find`: the verdict on each problem, at the least number of moves within which it is won or at a given
 //! number.
-ghost use Rattle.std.specs.Prelude.{◌≡◌, ℕ, List, false, IfOk, IfSome, IsErrOf};
-ghost use Rattle.dw_notation.specs.Streams.{Appends};
+ghost use Rattle.std.specs.Prelude.{◌≡◌, ◌≤◌, ◌-◌, ◌++◌, ⊤, not, true, IfOk, IsErrOf};
 ghost use Rattle.std.specs.String.{string_bytes};
 ghost use Rattle.dw_desk_commands.specs.Finding.{HasSolution, IsFindOf, IsFound, IsJsonOf, SaysFound, is_open};
 ghost use Rattle.dw_desk_commands.specs.ProblemText.{IsProblemText};
-ghost use Rattle.dw_desk_commands.specs.inner.Faults.{ReportFails};
 ghost use Rattle.dw_desk_commands.specs.inner.Searching.{IsBounded};
 ghost use Rattle.dw_games.specs.Games.{problem_of};
-ghost use Rattle.dw_notation.specs.Problems.{Numbered, numbered};
+ghost use Rattle.dw_notation.specs.Problems.{numbered};
+ghost use Rattle.dw_report.specs.Report.{first_line};
 ghost use Rattle.dw_solve.specs.declared.stop.Stop.TheVariants.{Limit};
 ghost use Rattle.dw_study.specs.Telling.{told_by};
 
-use crate::desk::{Desk, DeskFault};
+use crate::desk::Desk;
 use crate::json_rows::found_line;
-use crate::reporting::ReportEach;
+use crate::reporting::MakesText;
 use crate::solving::lines_within;
 use crate::watcher::DeskWatcher;
 use dw_arguments::{FindArgs, USUAL_LINES};
 use dw_board::{Board, Position};
 use dw_games::Game;
-use dw_notation::{Problem, Sink, write_all};
-use dw_report::{Stop, problem_line, refused_line};
+use dw_notation::Problem;
+use dw_report::{Stop, refused_line};
 use dw_solution::FirstLines;
 use dw_study::find::find;
 use dw_study::{FindBounds, Finding, Slices, found_text};
 
-impl<B: Board> ReportEach<B> for FindArgs {
-    ghost says = { λ query game. IsFindOf B.geometry query (problem_of game) };
+impl<B: Board> MakesText<B, bool> for FindArgs {
+    ghost says = { λ query expanded game. IsFindOf B.geometry query expanded (problem_of game) };
 
-    fn report<W: DeskWatcher, K: Sink>(
+    ghost is_headed = { λ query. not query.json };
+
+    ghost may_answer = { λ refused. ⊤ };
+
+    ghost counts_on = { ⊤ };
+
+    fn has_heading(&self) -> bool {
+        !self.json
+    }
+
+    fn text_of<W: DeskWatcher>(
         &self,
         desk: &mut Desk<B>,
         slices: &mut Slices<W>,
         game: &Game<B>,
-        sink: &mut K,
-    ) -> Result<bool, DeskFault> {
+    ) -> Result<(Vec<u8>, bool), Stop> {
         if self.json {
-            report_in_json(desk, slices, self, &game.problem, sink)
+            let (row, is_refused) = json_of(desk, slices, self, &game.problem)?;
+            Ok((row.into_bytes(), is_refused))
         } else {
-            report_in_words(desk, slices, self, &game.problem, sink)
+            let (words, is_refused) = words_of(desk, slices, self, &game.problem)?;
+            Ok((words.into_bytes(), is_refused))
         }
     }
 }
 
-/// Reports one problem in words: its first line, and the result of the search.
-fn report_in_words<B: Board, W: DeskWatcher, K: Sink>(
+/// Makes the text after the first line of one problem, and returns whether it was refused or stayed undecided.
+fn words_of<B: Board, W: DeskWatcher>(
     desk: &mut Desk<B>,
     slices: &mut Slices<W>,
     query: &FindArgs,
     problem: &Problem<B>,
-    sink: &mut K,
-) -> Result<bool, DeskFault>
-    requires { K.is_failed sink.old ≡ false }
-    ensures text { IfOk result (λ refused. (text : List ℕ)
-        × IsProblemText B.geometry (SaysFound B.geometry query.now) (numbered problem.now)
-        refused text
-        × Appends (K.accepted sink.old) (K.accepted sink.new) text) }
-    ensures works { IfOk result (λ _. K.is_failed sink.new ≡ false) }
-    ensures fails { ReportFails (K.is_failed sink.new) desk.new.solver.expanded result }
+) -> Result<(String, bool), Stop>
+    ensures text { IfOk result (λ told. IsProblemText B.geometry (SaysFound B.geometry query.now
+        (desk.new.solver.expanded - desk.old.solver.expanded)) (numbered problem.now) told.1
+        (first_line B.geometry (numbered problem.now) ++ string_bytes told.0)) }
+    ensures counts { desk.old.solver.expanded ≤ desk.new.solver.expanded }
+    ensures stop { IsErrOf result Limit → desk.new.solver.expanded ≡ u64.MAX }
 {
-    write_all(sink, problem_line(problem).as_str().as_bytes())?;
     let Ok(position) = &problem.found else {
-        return Ok(true);
+        return Ok((String::new(desk.alloc), true));
     };
     let finding = search(desk, slices, query, problem.number, position)?;
     let text = found_text(desk.alloc, position, &finding)?;
-    write_all(sink, text.as_str().as_bytes())?;
-    Ok(is_undecided(&finding))
-}
-
-/// Reports one problem as a line of JSON.
-fn report_in_json<B: Board, W: DeskWatcher, K: Sink>(
-    desk: &mut Desk<B>,
-    slices: &mut Slices<W>,
-    query: &FindArgs,
-    problem: &Problem<B>,
-    sink: &mut K,
-) -> Result<bool, DeskFault>
-    requires { K.is_failed sink.old ≡ false }
-    ensures text { IfOk result (λ refused. (text : List ℕ)
-        × IsJsonOf B.geometry query.now problem.now.number problem.now.found refused text
-        × Appends (K.accepted sink.old) (K.accepted sink.new) text) }
-    ensures works { IfOk result (λ _. K.is_failed sink.new ≡ false) }
-    ensures fails { ReportFails (K.is_failed sink.new) desk.new.solver.expanded result }
-{
-    let (line, is_refused) = json_of(desk, slices, query, problem)?;
-    write_all(sink, line.as_str().as_bytes())?;
-    Ok(is_refused)
+    Ok((text, is_undecided(&finding)))
 }
 
 /// Makes the line of JSON of one problem, and returns whether it was refused or stayed undecided.
@@ -97,8 +82,10 @@ fn json_of<B: Board, W: DeskWatcher>(
     query: &FindArgs,
     problem: &Problem<B>,
 ) -> Result<(String, bool), Stop>
-    ensures row { IfOk result (λ told. IsJsonOf B.geometry query.now problem.now.number
-        problem.now.found told.1 (string_bytes told.0)) }
+    ensures row { IfOk result (λ told. IsJsonOf B.geometry query.now
+        (desk.new.solver.expanded - desk.old.solver.expanded) problem.now.number problem.now.found told.1
+        (string_bytes told.0)) }
+    ensures counts { desk.old.solver.expanded ≤ desk.new.solver.expanded }
     ensures stop { IsErrOf result Limit → desk.new.solver.expanded ≡ u64.MAX }
 {
     let number = problem.number;
@@ -122,6 +109,8 @@ fn solution_lines<B: Board>(
     finding: &Finding<B>,
 ) -> Result<Option<FirstLines<B>>, Stop>
     ensures solution { IfOk result (HasSolution B.geometry query.now position.now (told_by finding.now)) }
+    ensures same { is_open (told_by finding.now) ≡ true → desk.new.solver.expanded ≡ desk.old.solver.expanded }
+    ensures counts { desk.old.solver.expanded ≤ desk.new.solver.expanded }
     ensures stop { IsErrOf result Limit → desk.new.solver.expanded ≡ u64.MAX }
 {
     if !query.solution {
@@ -152,14 +141,15 @@ fn search<B: Board, W: DeskWatcher>(
     number: u32,
     position: &Position<B>,
 ) -> Result<Finding<B>, Stop>
-    ensures found { IfOk result (λ finding. IsFound B.geometry query.now position.now
-        (told_by finding)) }
-    ensures bounded { IfSome query.now.each (λ _. IfOk result (IsBounded B.geometry position.now query.now.moves.value
-        slices.old.first query.now.each desk.new.solver)) }
+    ensures found { IfOk result (λ finding. IsFound B.geometry query.now
+        (desk.new.solver.expanded - desk.old.solver.expanded) position.now (told_by finding)) }
+    ensures bounded { IfOk result (IsBounded B.geometry position.now query.now.moves.value slices.old.first
+        query.now.each desk.old.solver.expanded desk.new.solver) }
+    ensures counts { desk.old.solver.expanded ≤ desk.new.solver.expanded }
     ensures stop { IsErrOf result Limit → desk.new.solver.expanded ≡ u64.MAX }
 {
     if query.each.is_some() {
-        desk.solver.reset();
+        desk.solver.clear_memo();
     }
     let bounds = FindBounds {
         moves: query.moves,

@@ -1,14 +1,12 @@
 //! The command `mend`: the sound problems that are one change away from a problem.
-ghost use Rattle.std.specs.Prelude.{◌≡◌, ◌==◌, if◌then◌else◌, false, not, OnOk};
-ghost use Rattle.dw_notation.specs.Streams.{Appends};
-ghost use Rattle.dw_desk_commands.specs.Mending.{IsMendOf, front, wording_for};
-ghost use Rattle.dw_desk_commands.specs.inner.Faults.{SinkFails};
-ghost use Rattle.dw_notation.specs.Problems.{numbered};
+ghost use Rattle.std.specs.Prelude.{◌≡◌, ◌==◌, ⊤, if◌then◌else◌, not};
+ghost use Rattle.dw_desk_commands.specs.Mending.{IsMendOf, IsMendPart, wording_for};
+ghost use Rattle.dw_desk_commands.specs.inner.Faults.{FailsForMemory};
 ghost use Rattle.dw_commands.specs.declared.ending.Ending.TheVariants.{Done, Refused};
 ghost use Rattle.dw_games.specs.Games.{problem_of};
 
 use crate::desk::{Desk, DeskFault};
-use crate::reporting::{ReportOne, write_refused};
+use crate::reporting::{Report, refused_output, write_heading};
 use crate::watcher::DeskWatcher;
 use dw_arguments::MendArgs;
 use dw_board::Board;
@@ -16,13 +14,18 @@ use dw_commands::Ending;
 use dw_games::Game;
 use dw_mend::mend::mend;
 use dw_mend::{MendBounds, Mended, Wording};
-use dw_notation::{Problem, Sink, write_all};
+use dw_notation::{Sink, write_all};
 use dw_parts::Part;
-use dw_report::problem_line;
 use dw_study::Slices;
 
-impl<B: Board, E> ReportOne<B, E> for MendArgs {
+impl<B: Board, E> Report<B, Ending<E>> for MendArgs {
     ghost says = { λ query expanded game. IsMendOf B.geometry query expanded (problem_of game) };
+
+    ghost leaves = { λ query game. IsMendPart B.geometry query (problem_of game) };
+
+    ghost may_answer = { FailsForMemory };
+
+    ghost counts_on = { ⊤ };
 
     /// Writes the sound neighbours of a problem, each as soon as it is found, and returns how that ended. Only the
     /// first line or the row of a refused problem is written.
@@ -37,11 +40,12 @@ impl<B: Board, E> ReportOne<B, E> for MendArgs {
         let position = match &problem.found {
             Ok(position) => position,
             Err(fault) => {
-                write_refused(desk.alloc, self.json, problem, *fault, sink)?;
+                let text = refused_output(desk.alloc, self.json, problem, *fault)?;
+                write_all(sink, text.as_slice())?;
                 return Ok(Ending::Refused);
             }
         };
-        write_front(self, problem, sink)?;
+        write_heading(!self.json, problem, sink)?;
         let bounds = MendBounds {
             moves: self.n,
             each: self.each,
@@ -63,24 +67,6 @@ fn wording_for(json: bool) -> Wording
     ensures { result ≡ wording_for json }
 {
     if json { Wording::Row } else { Wording::Words }
-}
-
-/// Writes the text before the neighbours: the problem's first line, or nothing.
-fn write_front<B: Board, K: Sink>(
-    query: &MendArgs,
-    problem: &Problem<B>,
-    sink: &mut K,
-) -> Result<(), DeskFault>
-    requires { K.is_failed sink.old ≡ false }
-    ensures text { OnOk result (Appends (K.accepted sink.old) (K.accepted sink.new)
-        (front B.geometry query.now (numbered problem.now))) }
-    ensures works { OnOk result (K.is_failed sink.new ≡ false) }
-    ensures fails { SinkFails (K.is_failed sink.new) result }
-{
-    if !query.json {
-        write_all(sink, problem_line(problem).as_str().as_bytes())?;
-    }
-    Ok(())
 }
 
 /// Returns how the command ends: as with a refused problem, if a neighbour stays undecided.

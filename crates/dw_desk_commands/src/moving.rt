@@ -1,17 +1,18 @@
 //! The command `moves`: the effect of each first move of a problem.
-ghost use Rattle.std.specs.Prelude.{◌≡◌, ℕ, List, false, IfOk, IsErrOf};
-ghost use Rattle.dw_notation.specs.Streams.{Appends};
+ghost use Rattle.std.specs.Prelude.{◌≡◌, ◌≤◌, ◌++◌, ⊤, if◌then◌else◌, not, IfOk, IsErrOf};
 ghost use Rattle.std.specs.String.{string_bytes};
 ghost use Rattle.dw_desk_commands.specs.Moving.{IsFirstMovesLine, IsMovesOf, SaysFirstMoves};
 ghost use Rattle.dw_desk_commands.specs.ProblemText.{IsProblemText};
-ghost use Rattle.dw_desk_commands.specs.inner.Faults.{ReportFails};
+ghost use Rattle.dw_desk_commands.specs.inner.Faults.{FailsForMemory};
 ghost use Rattle.dw_first_moves.specs.FirstMoves.{AreFirstMoves};
 ghost use Rattle.dw_games.specs.Games.{problem_of};
+ghost use Rattle.dw_commands.specs.declared.ending.Ending.TheVariants.{Done, Refused};
 ghost use Rattle.dw_notation.specs.Problems.{numbered};
+ghost use Rattle.dw_report.specs.Report.{first_line};
 ghost use Rattle.dw_solve.specs.declared.stop.Stop.TheVariants.{Limit};
 
-use crate::desk::{Desk, DeskFault};
-use crate::reporting::ReportOne;
+use crate::desk::Desk;
+use crate::reporting::MakesText;
 use crate::watcher::DeskWatcher;
 use dw_arguments::MovesArgs;
 use dw_board::{Board, Position};
@@ -19,81 +20,72 @@ use dw_commands::Ending;
 use dw_first_moves::first_moves::first_moves;
 use dw_first_moves::{FirstMoves, first_moves_text};
 use dw_games::Game;
-use dw_notation::{Problem, Sink, write_all};
+use dw_notation::Problem;
 use dw_parts::Part;
-use dw_report::{Stop, problem_line, refused_line};
+use dw_report::{Stop, refused_line};
 use dw_rows::first_moves_row;
 use dw_study::Slices;
 
-impl<B: Board, E> ReportOne<B, E> for MovesArgs {
+impl<B: Board, E> MakesText<B, Ending<E>> for MovesArgs {
     ghost says = { λ query expanded game.
         IsMovesOf B.geometry query (problem_of game) };
 
-    /// Writes the effects of the first moves of a problem, and returns how that ended. Only the first line or the row
-    /// of a refused problem is written.
-    fn report<W: DeskWatcher, K: Sink>(
+    ghost is_headed = { λ query. not query.json };
+
+    ghost may_answer = { FailsForMemory };
+
+    ghost counts_on = { ⊤ };
+
+    fn has_heading(&self) -> bool {
+        !self.json
+    }
+
+    /// Makes the effects of the first moves of a problem, and returns how the program ends.
+    fn text_of<W: DeskWatcher>(
         &self,
         desk: &mut Desk<B>,
         slices: &mut Slices<W>,
         game: &Game<B>,
-        sink: &mut K,
-    ) -> Result<Ending<E>, DeskFault> {
-        let is_refused = if self.json {
-            write_row(desk, slices, self, &game.problem, sink)?
+    ) -> Result<(Vec<u8>, Ending<E>), Stop> {
+        if self.json {
+            let (row, is_refused) = row_of(desk, slices, self, &game.problem)?;
+            Ok((row.into_bytes(), ending_if(is_refused)))
         } else {
-            write_plain(desk, slices, self, &game.problem, sink)?
-        };
-        if is_refused {
-            Ok(Ending::Refused)
-        } else {
-            Ok(Ending::Done)
+            let (words, is_refused) = words_of(desk, slices, self, &game.problem)?;
+            Ok((words.into_bytes(), ending_if(is_refused)))
         }
     }
 }
 
-/// Writes a problem in words: its first line, and the effects of its first moves. Returns whether it is refused.
-fn write_plain<B: Board, W: DeskWatcher, K: Sink>(
-    desk: &mut Desk<B>,
-    slices: &mut Slices<W>,
-    query: &MovesArgs,
-    problem: &Problem<B>,
-    sink: &mut K,
-) -> Result<bool, DeskFault>
-    requires { K.is_failed sink.old ≡ false }
-    ensures text { IfOk result (λ refused. (text : List ℕ)
-        × IsProblemText B.geometry (SaysFirstMoves B.geometry query.now.n.value query.now.part query.now.parts)
-        (numbered problem.now) refused text
-        × Appends (K.accepted sink.old) (K.accepted sink.new) text) }
-    ensures fails { ReportFails (K.is_failed sink.new) desk.new.solver.expanded result }
+/// Returns how the program ends after a problem.
+fn ending_if<E>(is_refused: bool) -> Ending<E>
+    ensures { result ≡ (if is_refused then Refused else Done) }
 {
-    write_all(sink, problem_line(problem).as_str().as_bytes())?;
-    let Ok(position) = &problem.found else {
-        return Ok(true);
-    };
-    let found = searched(desk, slices, query, problem.number, position)?;
-    let text = first_moves_text(desk.alloc, &found)?;
-    write_all(sink, text.as_str().as_bytes())?;
-    Ok(false)
+    if is_refused {
+        Ending::Refused
+    } else {
+        Ending::Done
+    }
 }
 
-/// Writes a problem as a row, and returns whether it is refused.
-fn write_row<B: Board, W: DeskWatcher, K: Sink>(
+/// Makes the text after the first line of a problem: the effects of its first moves. Returns whether it is refused.
+fn words_of<B: Board, W: DeskWatcher>(
     desk: &mut Desk<B>,
     slices: &mut Slices<W>,
     query: &MovesArgs,
     problem: &Problem<B>,
-    sink: &mut K,
-) -> Result<bool, DeskFault>
-    requires { K.is_failed sink.old ≡ false }
-    ensures text { IfOk result (λ refused. (text : List ℕ)
-        × IsFirstMovesLine B.geometry query.now.n.value query.now.part query.now.parts problem.now.number
-        problem.now.found refused text
-        × Appends (K.accepted sink.old) (K.accepted sink.new) text) }
-    ensures fails { ReportFails (K.is_failed sink.new) desk.new.solver.expanded result }
+) -> Result<(String, bool), Stop>
+    ensures text { IfOk result (λ told. IsProblemText B.geometry
+        (SaysFirstMoves B.geometry query.now.n.value query.now.part query.now.parts) (numbered problem.now) told.1
+        (first_line B.geometry (numbered problem.now) ++ string_bytes told.0)) }
+    ensures counts { desk.old.solver.expanded ≤ desk.new.solver.expanded }
+    ensures stop { IsErrOf result Limit → desk.new.solver.expanded ≡ u64.MAX }
 {
-    let (line, is_refused) = row_of(desk, slices, query, problem)?;
-    write_all(sink, line.as_str().as_bytes())?;
-    Ok(is_refused)
+    let Ok(position) = &problem.found else {
+        return Ok((String::new(desk.alloc), true));
+    };
+    let found = searched(desk, slices, query, problem.number, position)?;
+    Ok((first_moves_text(desk.alloc, &found)?, false))
 }
 
 /// Makes the row of a problem, and returns whether it is refused.
@@ -105,6 +97,7 @@ fn row_of<B: Board, W: DeskWatcher>(
 ) -> Result<(String, bool), Stop>
     ensures row { IfOk result (λ told. IsFirstMovesLine B.geometry query.now.n.value query.now.part query.now.parts
         problem.now.number problem.now.found told.1 (string_bytes told.0)) }
+    ensures counts { desk.old.solver.expanded ≤ desk.new.solver.expanded }
     ensures stop { IsErrOf result Limit → desk.new.solver.expanded ≡ u64.MAX }
 {
     let number = problem.number;
@@ -129,6 +122,7 @@ fn searched<B: Board, W: DeskWatcher>(
     ensures start { IfOk result (λ found. found.start ≡ position.now) }
     ensures effects { IfOk result (λ found. AreFirstMoves B.geometry position.now query.now.n.value query.now.part
         query.now.parts found.effects) }
+    ensures counts { desk.old.solver.expanded ≤ desk.new.solver.expanded }
     ensures stop { IsErrOf result Limit → desk.new.solver.expanded ≡ u64.MAX }
 {
     let part = Part {

@@ -1,12 +1,14 @@
 //! The command `page`: all problems on a page, with diagrams and solutions.
-ghost use Rattle.std.specs.Prelude.{◌≡◌, ◌≤◌, ◌⊎◌, ◌++◌, ◌∷◌, [], ℕ, List, true, false, IfOk, OnOk, map};
+ghost use Rattle.std.specs.Prelude.{◌≡◌, ◌≤◌, ◌⊎◌, ◌++◌, ◌∷◌, [], ℕ, Bool, List, true, false, IfErr, IfOk, OnOk, map};
 ghost use Rattle.std.specs.Prelude.{filter_map, option_map, Err, IsErrOf};
 ghost use Rattle.dw_notation.specs.Streams.{Appends};
-ghost use Rattle.dw_desk_commands.specs.Paging.{HasMoves, IsPage, IsPageOf, IsPart, IsPositionPart, IsSolved, Stands};
+ghost use Rattle.dw_desk_commands.specs.Paging.{HasMoves, IsPage, IsPageOf, IsPageStop, IsPart, IsPositionPart};
+ghost use Rattle.dw_desk_commands.specs.Paging.{IsSolved, Stands as StandsAt};
 ghost use Rattle.dw_desk_commands.specs.Paging.{language_for, task_part};
 ghost use Rattle.dw_desk_commands.specs.Paging as of;
 ghost use Rattle.dw_desk_commands.specs.Finding.{is_open};
-ghost use Rattle.dw_desk_commands.specs.inner.Choosing.{AreToCome, GoesOn, MayBe, Runs};
+ghost use Rattle.dw_desk_commands.specs.inner.Choosing.{AreToCome, GoesOn, HaveGames, MayBe, Runs};
+ghost use Rattle.dw_desk_commands.specs.inner.Standing.{Stands, StandsOf};
 ghost use Rattle.dw_desk_commands.specs.inner.Faults.{CommandFails, ReportFails, SinkFails};
 ghost use Rattle.dw_games.specs.GameReading.{numbered_game};
 ghost use Rattle.dw_games.specs.Games.{NumberedGame};
@@ -49,14 +51,19 @@ pub(crate) fn page_problems<B: Board, W: DeskWatcher, S: Source, K: Sink>(
 ) -> Result<Counts, DeskFault>
     requires works { K.is_failed sink.old ≡ false }
     requires runs { Runs chosen.old.text }
+    requires games { HaveGames B.geometry S.supply chosen.old }
     ensures report { IfOk result (λ counts. (games : List NumberedGame) × (text : List ℕ)
         × ((whole : List ℕ) → MayBe S.supply chosen.new whole
         → AreToCome B.geometry S.supply chosen.old whole games)
         × IsPageOf B.geometry query.now chosen.old.portion games counts text
         × Appends (K.accepted sink.old) (K.accepted sink.new) text) }
-    ensures on { IfOk result (λ _. GoesOn S.supply chosen.old.text chosen.new.text) }
+    ensures on { GoesOn S.supply chosen.old.text chosen.new.text }
     ensures ends { CommandFails S.is_failed (K.is_failed sink.new) desk.new.solver.expanded chosen.old chosen.new
         result }
+    ensures stands { IfErr result (StandsOf (IsPageStop B.geometry query.now)
+        (λ games text. (counts : Counts) × IsPageOf B.geometry query.now chosen.old.portion games counts text)
+        (MayBe S.supply chosen.new) (AreToCome B.geometry S.supply chosen.old)
+        (K.accepted sink.old) (K.accepted sink.new)) }
 {
     let Some(first) = chosen.next()? else {
         return empty_page::<B, K>(desk.alloc, query, chosen.must_exist(), sink);
@@ -84,6 +91,8 @@ fn empty_page<B: Board, K: Sink>(
         ⊎ ((must_exist ≡ true) × (counts.shown ≡ 0) × (counts.refused ≡ 0) × (text ≡ [])))
         × Appends (K.accepted sink.old) (K.accepted sink.new) text) }
     ensures fails { SinkFails (K.is_failed sink.new) result }
+    ensures stands { IfErr result (Stands (IsPageStop B.geometry query.now []) (λ text. (must_exist ≡ false)
+        × (counts : Counts) × IsPage B.geometry query.now [] counts text) (K.accepted sink.old) (K.accepted sink.new)) }
 {
     if must_exist {
         return Ok(Counts::default());
@@ -107,11 +116,27 @@ fn begin_page<B: Board, K: Sink>(
         ≡ of.heading_of query.now.solutions (language_for query.now.language)) }
     ensures works { IfOk result (λ _. K.is_failed sink.new ≡ false) }
     ensures fails { SinkFails (K.is_failed sink.new) result }
+    ensures stands { IfErr result (Stands (λ text. text ≡ [])
+        (λ text. text ≡ head B.geometry (language_for query.now.language) query.now.title.now)
+        (K.accepted sink.old) (K.accepted sink.new)) }
 {
     let mut head = Vec::new(alloc);
     push_head::<B>(alloc, &mut head, &look_of(query))?;
-    write_all(sink, head.as_slice())?;
-    Ok(heading_of(alloc, query)?)
+    let later = heading_of(alloc, query)?;
+    write_piece(head.as_slice(), sink)?;
+    Ok(later)
+}
+
+/// Writes a piece of a page.
+fn write_piece<K: Sink>(piece: &[u8], sink: &mut K) -> Result<(), DeskFault>
+    requires { K.is_failed sink.old ≡ false }
+    ensures text { OnOk result (Appends (K.accepted sink.old) (K.accepted sink.new) piece.now) }
+    ensures works { OnOk result (K.is_failed sink.new ≡ false) }
+    ensures fails { SinkFails (K.is_failed sink.new) result }
+    ensures stands { IfErr result (Stands (λ text. text ≡ []) (λ text. text ≡ piece.now) (K.accepted sink.old)
+        (K.accepted sink.new)) }
+{
+    Ok(write_all(sink, piece)?)
 }
 
 /// Makes the heading of the solutions, if they stand at the end.
@@ -131,10 +156,11 @@ fn end_page<K: Sink>(alloc: Global, later: &mut Vec<u8>, sink: &mut K) -> Result
     requires { K.is_failed sink.old ≡ false }
     ensures text { OnOk result (Appends (K.accepted sink.old) (K.accepted sink.new) (later.old.items ++ end)) }
     ensures fails { SinkFails (K.is_failed sink.new) result }
+    ensures stands { IfErr result (Stands (λ text. text ≡ []) (λ text. text ≡ later.old.items ++ end)
+        (K.accepted sink.old) (K.accepted sink.new)) }
 {
     push_end(alloc, later)?;
-    write_all(sink, later.as_slice())?;
-    Ok(())
+    write_piece(later.as_slice(), sink)
 }
 
 /// Writes the part of a problem, and returns whether the problem is refused.
@@ -153,20 +179,36 @@ fn write_part<B: Board, W: DeskWatcher, K: Sink>(
         × Appends (K.accepted sink.old) (K.accepted sink.new) part) }
     ensures works { IfOk result (λ _. K.is_failed sink.new ≡ false) }
     ensures fails { ReportFails (K.is_failed sink.new) desk.new.solver.expanded result }
+    ensures stands { IfErr result (Stands (λ text. text ≡ []) (λ part. (is_refused : Bool) × (new : List ℕ)
+        × IsPart B.geometry query.now (numbered_game game.now).number (numbered_game game.now).said.found
+        (numbered_game game.now).said.tags is_refused part new) (K.accepted sink.old) (K.accepted sink.new)) }
+{
+    let (part, is_refused) = part_of(desk, slices, query, game, later)?;
+    write_piece(part.as_slice(), sink)?;
+    Ok(is_refused)
+}
+
+/// Makes the part of a problem, and returns whether the problem is refused.
+fn part_of<B: Board, W: DeskWatcher>(
+    desk: &mut Desk<B>,
+    slices: &mut Slices<W>,
+    query: &PageArgs<'_>,
+    game: &Game<B>,
+    later: &mut Vec<u8>,
+) -> Result<(Vec<u8>, bool), Stop>
+    ensures part { IfOk result (λ made. (new : List ℕ) × IsPart B.geometry query.now
+        (numbered_game game.now).number (numbered_game game.now).said.found (numbered_game game.now).said.tags
+        made.1 made.0.items new × (later.new.items ≡ later.old.items ++ new)) }
+    ensures stop { IsErrOf result Limit → desk.new.solver.expanded ≡ u64.MAX }
 {
     let number = game.problem.number;
     match &game.problem.found {
         Ok(position) => {
             let section = game.tags.as_slice();
             let part = known_part(desk, slices, query, number, position, section, later)?;
-            write_all(sink, part.as_slice())?;
-            Ok(false)
+            Ok((part, false))
         }
-        Err(fault) => {
-            let part = refused_part(desk.alloc, query, number, *fault)?;
-            write_all(sink, part.as_slice())?;
-            Ok(true)
-        }
+        Err(fault) => Ok((refused_part(desk.alloc, query, number, *fault)?, true)),
     }
 }
 
@@ -302,7 +344,7 @@ fn push_placed<B: Board>(
 ) -> Result<(), Stop>
     requires verdict { IsVerdict B.geometry task.now.position.now task.now.moves.value (said_by judged.now.verdict) }
     requires tries { Tries B.geometry task.now.position.now task.now.moves.value judged.now.tries.items }
-    ensures solution { OnOk result ((behind new : List ℕ) × Stands query.now.solutions (IsSolved B.geometry
+    ensures solution { OnOk result ((behind new : List ℕ) × StandsAt query.now.solutions (IsSolved B.geometry
         (language_for query.now.language) query.now.lines query.now.tries task.now.number
         task.now.position.now task.now.moves.value) behind
         new

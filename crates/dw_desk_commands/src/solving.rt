@@ -1,5 +1,5 @@
 //! The command `solution`: each problem with its solution, as a game of a PDN file or as a row of JSON.
-ghost use Rattle.std.specs.Prelude.{◌≡◌, ◌≤◌, ℕ, List, false, map, IfOk, OnOk, IsErrOf};
+ghost use Rattle.std.specs.Prelude.{◌≡◌, ◌≤◌, ◌++◌, ℕ, ⊤, List, codes, false, map, IfOk, OnOk, IsErrOf};
 ghost use Rattle.dw_notation.specs.Streams.{Appends};
 ghost use Rattle.std.specs.List.{flat_map};
 ghost use Rattle.std.specs.String.{string_bytes};
@@ -7,19 +7,18 @@ ghost use Rattle.dw_desk_commands.specs.Solving.{AreFirstLines, AreWrittenTags, 
 ghost use Rattle.dw_desk_commands.specs.Solving.{IsSolutionLine, IsNumberOf, IsSolutionOf, new_lines, own_line};
 ghost use Rattle.dw_study.specs.Finding.{IsJudgedAt};
 ghost use Rattle.dw_desk_commands.specs.Solving as of;
-ghost use Rattle.dw_desk_commands.specs.inner.Faults.{ReportFails, SinkFails};
 ghost use Rattle.dw_games.specs.TagRows.{tag_text};
 ghost use Rattle.dw_solve.specs.declared.stop.Stop.TheVariants.{Limit};
 ghost use Rattle.dw_verdict.specs.Judging.{said_by};
 ghost use Rattle.dw_verdict.specs.Verdict.{IsVerdict};
 
-use crate::desk::{Desk, DeskFault};
-use crate::reporting::ReportEach;
+use crate::desk::Desk;
+use crate::reporting::{MakesText, push};
 use crate::watcher::DeskWatcher;
 use dw_arguments::SolutionArgs;
 use dw_board::{Board, Position, fen_text};
 use dw_games::{Game, Tag, read_tags};
-use dw_notation::{Problem, ProblemFault, Sink, write_all};
+use dw_notation::{Problem, ProblemFault};
 use dw_report::{Stop, refusal_text, refused_line};
 use dw_rows::solution_row;
 use dw_solution::movetext::movetext;
@@ -30,75 +29,73 @@ use dw_verdict::Verdict;
 use itoa::Buffer;
 use std::alloc::{AllocError, Global};
 
-impl<B: Board> ReportEach<B> for SolutionArgs {
-    ghost says = { λ query. IsSolutionOf B.geometry query };
+impl<B: Board> MakesText<B, bool> for SolutionArgs {
+    ghost says = { λ query expanded. IsSolutionOf B.geometry query };
 
-    /// Writes a problem as a game, or as a row, and returns whether it is refused.
-    fn report<W: DeskWatcher, K: Sink>(
+    ghost is_headed = { λ query. false };
+
+    ghost may_answer = { λ refused. ⊤ };
+
+    ghost counts_on = { ⊤ };
+
+    fn has_heading(&self) -> bool {
+        false
+    }
+
+    /// Makes a game, or a row, of a problem, and returns whether it is refused.
+    fn text_of<W: DeskWatcher>(
         &self,
         desk: &mut Desk<B>,
         slices: &mut Slices<W>,
         game: &Game<B>,
-        sink: &mut K,
-    ) -> Result<bool, DeskFault> {
+    ) -> Result<(Vec<u8>, bool), Stop> {
         if self.json {
-            write_row(desk, slices, self, &game.problem, sink)
+            let (row, is_refused) = row_of(desk, slices, self, &game.problem)?;
+            Ok((row.into_bytes(), is_refused))
         } else {
-            write_game(desk, slices, self, game, sink)
+            game_of(desk, slices, self, game)
         }
     }
 }
 
-/// Writes a problem as a game, with the tags of its section, and returns whether it is refused.
-fn write_game<B: Board, W: DeskWatcher, K: Sink>(
+/// Makes a game of a problem, with the tags of its section, and returns whether it is refused.
+fn game_of<B: Board, W: DeskWatcher>(
     desk: &mut Desk<B>,
     slices: &mut Slices<W>,
     query: &SolutionArgs,
     game: &Game<B>,
-    sink: &mut K,
-) -> Result<bool, DeskFault>
-    requires { K.is_failed sink.old ≡ false }
-    ensures text { IfOk result (λ refused. (text : List ℕ)
-        × IsGameFor B.geometry query.now game.now.problem.number game.now.problem.found game.now.tags.items refused text
-        × Appends (K.accepted sink.old) (K.accepted sink.new) text) }
-    ensures works { IfOk result (λ _. K.is_failed sink.new ≡ false) }
-    ensures fails { ReportFails (K.is_failed sink.new) desk.new.solver.expanded result }
+) -> Result<(Vec<u8>, bool), Stop>
+    ensures text { IfOk result (λ told. IsGameFor B.geometry query.now game.now.problem.number game.now.problem.found
+        game.now.tags.items told.1 told.0.items) }
+    ensures counts { desk.old.solver.expanded ≤ desk.new.solver.expanded }
+    ensures stop { IsErrOf result Limit → desk.new.solver.expanded ≡ u64.MAX }
 {
     let number = game.problem.number;
     match &game.problem.found {
         Ok(position) => {
             let solved = searched(desk, slices, query, number, position)?;
-            write_tags(desk, position, game.tags.as_slice(), sink)?;
-            write_all(sink, solved.movetext.text.as_slice())?;
-            write_all(sink, b"\n\n")?;
-            Ok(false)
+            let text = written_game(desk.alloc, position, game.tags.as_slice(), &solved)?;
+            Ok((text, false))
         }
-        Err(fault) => {
-            let text = refused_game(desk.alloc, number, *fault)?;
-            write_all(sink, text.as_str().as_bytes())?;
-            Ok(true)
-        }
+        Err(fault) => Ok((refused_game(desk.alloc, number, *fault)?.into_bytes(), true)),
     }
 }
 
-/// Writes a problem as a row, and returns whether it is refused.
-fn write_row<B: Board, W: DeskWatcher, K: Sink>(
-    desk: &mut Desk<B>,
-    slices: &mut Slices<W>,
-    query: &SolutionArgs,
-    problem: &Problem<B>,
-    sink: &mut K,
-) -> Result<bool, DeskFault>
-    requires { K.is_failed sink.old ≡ false }
-    ensures text { IfOk result (λ refused. (text : List ℕ)
-        × IsSolutionLine B.geometry query.now problem.now.number problem.now.found refused text
-        × Appends (K.accepted sink.old) (K.accepted sink.new) text) }
-    ensures works { IfOk result (λ _. K.is_failed sink.new ≡ false) }
-    ensures fails { ReportFails (K.is_failed sink.new) desk.new.solver.expanded result }
+/// Makes the text of a game: its tags, its movetext, and an empty line.
+fn written_game<B: Board>(
+    alloc: Global,
+    position: &Position<B>,
+    section: &[u8],
+    solved: &Solved<B>,
+) -> Result<Vec<u8>, AllocError>
+    ensures { IfOk result (λ text. (tags : List ℕ) × AreWrittenTags B.geometry position.now section.now tags
+        × (text.items ≡ tags ++ (solved.now.movetext.text.items ++ codes "\n\n"))) }
 {
-    let (line, is_refused) = row_of(desk, slices, query, problem)?;
-    write_all(sink, line.as_str().as_bytes())?;
-    Ok(is_refused)
+    let mut text = Vec::new(alloc);
+    push_tags(alloc, position, section, &mut text)?;
+    push(&mut text, solved.movetext.text.as_slice())?;
+    push(&mut text, b"\n\n")?;
+    Ok(text)
 }
 
 /// Makes the row of a problem, and says whether the problem is refused.
@@ -110,6 +107,7 @@ fn row_of<B: Board, W: DeskWatcher>(
 ) -> Result<(String, bool), Stop>
     ensures row { IfOk result (λ told. IsSolutionLine B.geometry query.now problem.now.number problem.now.found told.1
         (string_bytes told.0)) }
+    ensures counts { desk.old.solver.expanded ≤ desk.new.solver.expanded }
     ensures stop { IsErrOf result Limit → desk.new.solver.expanded ≡ u64.MAX }
 {
     let number = problem.number;
@@ -151,6 +149,7 @@ fn searched<B: Board, W: DeskWatcher>(
     ensures solved { IfOk result (λ s. (n : ℕ) × IsNumberOf B.geometry query.now position.now n
         × IsMovetextOf B.geometry position.now n query.now.lines s.heading s.first s.movetext.lines
         s.movetext.text.items) }
+    ensures counts { desk.old.solver.expanded ≤ desk.new.solver.expanded }
     ensures stop { IsErrOf result Limit → desk.new.solver.expanded ≡ u64.MAX }
 {
     desk.begin(slices, number);
@@ -169,6 +168,7 @@ fn solution_of<B: Board, W: DeskWatcher>(
     ensures solved { IfOk result (λ s. (n : ℕ) × IsNumberOf B.geometry query.now position.now n
         × IsMovetextOf B.geometry position.now n query.now.lines s.heading s.first s.movetext.lines
         s.movetext.text.items) }
+    ensures counts { desk.old.solver.expanded ≤ desk.new.solver.expanded }
     ensures stop { IsErrOf result Limit → desk.new.solver.expanded ≡ u64.MAX }
 {
     let moves = number_for(desk, slices, query, position)?;
@@ -184,6 +184,7 @@ fn number_for<B: Board, W: DeskWatcher>(
     position: &Position<B>,
 ) -> Result<MoveCount, Stop>
     ensures number { IfOk result (λ moves. IsNumberOf B.geometry query.now position.now moves.value) }
+    ensures counts { desk.old.solver.expanded ≤ desk.new.solver.expanded }
     ensures stop { IsErrOf result Limit → desk.new.solver.expanded ≡ u64.MAX }
 {
     if query.is_least {
@@ -201,6 +202,7 @@ fn least_number<B: Board, W: DeskWatcher>(
     most: MoveCount,
 ) -> Result<MoveCount, Stop>
     ensures number { IfOk result (λ moves. IsJudgedAt B.geometry position.now most.value moves.value) }
+    ensures counts { desk.old.solver.expanded ≤ desk.new.solver.expanded }
     ensures stop { IsErrOf result Limit → desk.new.solver.expanded ≡ u64.MAX }
 {
     dw_solve::laws::wins_are_decided();
@@ -233,6 +235,7 @@ pub(crate) fn solved_within<B: Board>(
     requires verdict { IsVerdict B.geometry position.now moves.value (said_by verdict.now) }
     ensures solved { IfOk result (λ s. IsMovetextOf B.geometry position.now moves.value lines s.heading s.first
         s.movetext.lines s.movetext.text.items) }
+    ensures counts { desk.old.solver.expanded ≤ desk.new.solver.expanded }
     ensures stop { IsErrOf result Limit → desk.new.solver.expanded ≡ u64.MAX }
 {
     let first = lines_within(desk, position, moves, lines)?;
@@ -256,6 +259,7 @@ pub(crate) fn lines_within<B: Board>(
     most: usize,
 ) -> Result<FirstLines<B>, Stop>
     ensures lines { IfOk result (AreFirstLines B.geometry position.now moves.value most) }
+    ensures counts { desk.old.solver.expanded ≤ desk.new.solver.expanded }
     ensures stop { IsErrOf result Limit → desk.new.solver.expanded ≡ u64.MAX }
 {
     dw_list::laws::lines_exist();
@@ -274,37 +278,28 @@ fn kind_of<B: Board>(verdict: &Verdict<B>) -> VerdictKind
     }
 }
 
-/// Writes the tags of a game, and the empty line after them: those of its section but for `GameType` and `FEN`, as they
-/// stood, and then these two.
-fn write_tags<B: Board, K: Sink>(
-    desk: &Desk<B>,
+/// Appends the tags of a game, and the empty line after them: those of its section but for `GameType` and `FEN`, as
+/// they stood, and then these two.
+fn push_tags<B: Board>(
+    alloc: Global,
     position: &Position<B>,
     section: &[u8],
-    sink: &mut K,
-) -> Result<(), DeskFault>
-    requires { K.is_failed sink.old ≡ false }
-    ensures tags { OnOk result ((text : List ℕ) × AreWrittenTags B.geometry position.now section.now text
-        × Appends (K.accepted sink.old) (K.accepted sink.new) text) }
-    ensures works { OnOk result (K.is_failed sink.new ≡ false) }
-    ensures fails { SinkFails (K.is_failed sink.new) result }
+    text: &mut Vec<u8>,
+) -> Result<(), AllocError>
+    ensures { OnOk result ((tags : List ℕ) × AreWrittenTags B.geometry position.now section.now tags
+        × Appends text.old.items text.new.items tags) }
 {
-    let tags = read_tags(desk.alloc, section)?;
-    write_own_tags(tags.as_slice(), sink)?;
-    let text = new_tags(desk.alloc, position)?;
-    write_all(sink, text.as_str().as_bytes())?;
-    Ok(())
+    let tags = read_tags(alloc, section)?;
+    push_own_tags(tags.as_slice(), text)?;
+    push(text, new_tags(alloc, position)?.as_str().as_bytes())
 }
 
-/// Writes the tags of a section but for those that are written anew.
-fn write_own_tags<K: Sink>(tags: &[Tag<'_>], sink: &mut K) -> Result<(), DeskFault>
-    requires { K.is_failed sink.old ≡ false }
-    ensures lines { OnOk result (Appends (K.accepted sink.old) (K.accepted sink.new)
-        (flat_map own_line (map tag_text tags.now))) }
-    ensures works { OnOk result (K.is_failed sink.new ≡ false) }
-    ensures fails { SinkFails (K.is_failed sink.new) result }
+/// Appends the tags of a section but for those that are written anew.
+fn push_own_tags(tags: &[Tag<'_>], text: &mut Vec<u8>) -> Result<(), AllocError>
+    ensures { OnOk result (Appends text.old.items text.new.items (flat_map own_line (map tag_text tags.now))) }
 {
     'tags: for tag in tags {
-        write_own(tag, sink)?;
+        push_own(tag, text)?;
     }
     Ok(())
 }
@@ -328,16 +323,13 @@ fn type_line<B: Board>() -> &'static str
     }
 }
 
-/// Writes a tag in a line of its own, unless it is written anew.
-fn write_own<K: Sink>(tag: &Tag<'_>, sink: &mut K) -> Result<(), DeskFault>
-    requires { K.is_failed sink.old ≡ false }
-    ensures line { OnOk result (Appends (K.accepted sink.old) (K.accepted sink.new) (own_line (tag_text tag.now))) }
-    ensures works { OnOk result (K.is_failed sink.new ≡ false) }
-    ensures fails { SinkFails (K.is_failed sink.new) result }
+/// Appends a tag in a line of its own, unless it is written anew.
+fn push_own(tag: &Tag<'_>, text: &mut Vec<u8>) -> Result<(), AllocError>
+    ensures { OnOk result (Appends text.old.items text.new.items (own_line (tag_text tag.now))) }
 {
     if !tag.is_named(b"GameType") && !tag.is_named(b"FEN") {
-        write_all(sink, tag.text)?;
-        write_all(sink, b"\n")?;
+        push(text, tag.text)?;
+        push(text, b"\n")?;
     }
     Ok(())
 }

@@ -1,20 +1,23 @@
 //! The command `token`: a line of play as a token.
-ghost use Rattle.std.specs.Prelude.{◌≡◌, ◌⊎◌, ℕ, List, false, IfOk};
+ghost use Rattle.std.specs.Prelude.{◌≡◌, ◌⊎◌, ◌≤◌, ◌%◌, ◌++◌, ⊤, [], codes, false, length, IfErr, OnErr, OnOk};
+ghost use Rattle.dw_list.specs.Tokens.{token_of};
 ghost use Rattle.dw_notation.specs.Streams.{Appends};
+ghost use Rattle.dw_notation.specs.Writes.{StopsShort};
+ghost use Rattle.dw_desk_commands.specs.declared.desk.DeskFault.TheVariants as because;
 ghost use Rattle.dw_desk_commands.specs.Writing.{IsTokenFor};
 ghost use Rattle.dw_desk_commands.specs.inner.Faults.{FailsForMemory, SinkFails};
 
 use crate::desk::{Desk, DeskFault};
-use crate::reporting::ReportOne;
+use crate::reporting::Report;
 use crate::watcher::DeskWatcher;
-use dw_board::{Board, Position};
+use dw_board::Board;
 use dw_commands::Ending;
 use dw_games::{Game, LineFault, read_line};
 use dw_list::write_token;
-use dw_notation::{ProblemFault, Sink, write_all};
+use dw_moves::Move;
+use dw_notation::{Sink, write_all};
 use dw_report::Stop;
 use dw_study::Slices;
-use std::alloc::Global;
 
 /// The line whose token is requested.
 #[derive(Clone, Copy)]
@@ -22,10 +25,16 @@ pub(crate) struct Line<'a> {
     pub(crate) text: &'a str,
 }
 
-impl<B: Board, E> ReportOne<B, E> for Line<'_> {
+impl<B: Board, E> Report<B, Ending<E>> for Line<'_> {
     ghost asks = { λ line. (B.geometry.rows ≡ 10) ⊎ (B.geometry.rows ≡ 8) };
 
     ghost says = { λ line expanded game. IsTokenFor B.geometry line.text.now game.said.found };
+
+    ghost leaves = { λ line game text. text ≡ [] };
+
+    ghost may_answer = { FailsForMemory };
+
+    ghost counts_on = { ⊤ };
 
     /// Writes the token of the line in a problem, and returns how that ended. If anything is refused, nothing is
     /// written.
@@ -36,39 +45,40 @@ impl<B: Board, E> ReportOne<B, E> for Line<'_> {
         game: &Game<B>,
         sink: &mut K,
     ) -> Result<Ending<E>, DeskFault> {
-        write_token_of(desk.alloc, &game.problem.found, self.text, sink)
+        let position = match &game.problem.found {
+            Ok(position) => position,
+            Err(fault) => return Ok(Ending::ProblemRefused(*fault)),
+        };
+        match read_line(desk.alloc, position, self.text.as_bytes()) {
+            Ok(moves) => {
+                write_line(moves.as_slice(), sink)?;
+                Ok(Ending::Done)
+            }
+            Err(LineFault::Refused { what, place }) => Ok(Ending::LineRefused {
+                number: what.number(),
+                name: what.name(),
+                place,
+            }),
+            Err(LineFault::Memory) => Err(DeskFault::Stopped(Stop::Memory)),
+        }
     }
 }
 
-/// Writes the token of a line of a problem, if it has a position.
-fn write_token_of<T, B: Board, K: Sink>(
-    alloc: Global,
-    found: &Result<Position<B>, ProblemFault>,
-    line: &str,
-    sink: &mut K,
-) -> Result<Ending<T>, DeskFault>
+/// Writes the token of a line, and a line end.
+fn write_line<B: Board, K: Sink>(line: &[Move<B>], sink: &mut K) -> Result<(), DeskFault>
+    requires odd { length line.now % 2 ≡ 1 }
+    requires most { length line.now ≤ 39 }
     requires rows { (B.geometry.rows ≡ 10) ⊎ (B.geometry.rows ≡ 8) }
-    requires sink { K.is_failed sink.old ≡ false }
-    ensures report { IfOk result (λ ending. (text : List ℕ) × IsTokenFor B.geometry line.now found.now ending text
-        × Appends (K.accepted sink.old) (K.accepted sink.new) text) }
-    ensures told { IfOk result FailsForMemory }
+    requires works { K.is_failed sink.old ≡ false }
+    ensures ok { OnOk result (Appends (K.accepted sink.old) (K.accepted sink.new)
+        (token_of B.geometry line.now ++ codes "\n")) }
+    ensures works { OnOk result (K.is_failed sink.new ≡ false) }
     ensures fails { SinkFails (K.is_failed sink.new) result }
+    ensures short { OnErr result (StopsShort (K.accepted sink.old) (K.accepted sink.new)
+        (token_of B.geometry line.now ++ codes "\n")) }
+    ensures write { IfErr result (λ fault. fault ≡ because.Write) }
 {
-    let position = match found {
-        Ok(position) => position,
-        Err(fault) => return Ok(Ending::ProblemRefused(*fault)),
-    };
-    match read_line(alloc, position, line.as_bytes()) {
-        Ok(moves) => {
-            write_token(moves.as_slice(), sink)?;
-            write_all(sink, b"\n")?;
-            Ok(Ending::Done)
-        }
-        Err(LineFault::Refused { what, place }) => Ok(Ending::LineRefused {
-            number: what.number(),
-            name: what.name(),
-            place,
-        }),
-        Err(LineFault::Memory) => Err(DeskFault::Stopped(Stop::Memory)),
-    }
+    write_token(line, sink)?;
+    write_all(sink, b"\n")?;
+    Ok(())
 }

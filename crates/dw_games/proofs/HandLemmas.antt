@@ -1,7 +1,7 @@
 -- Lemmas on handing out games.
 use Rattle.std.proofs.Common.{◌≡◌, ◌+◌, ◌<◌, ◌≤◌, nat_lt, cond, MatchBool, ℕ, List, [], ◌∷◌, ◌++◌, take, drop, Bool}
 use Rattle.std.proofs.Common.{true, false, Option, Some, None, Result, Ok, Err, refl, sym, ap, ◌∙◌, subst, append_assoc}
-use Rattle.std.proofs.lemmas.Bool.{lt-ltb, le-ltb, ltb-true}
+use Rattle.std.proofs.lemmas.Bool.{lt-ltb, le-ltb, ltb-true, true≢false}
 use Rattle.dw_notation.specs.inner.StreamLemmas.{Reads-nil}
 use Rattle.dw_board.specs.Geometry.{Geometry}
 use Rattle.dw_notation.specs.TextLines.{Found}
@@ -348,6 +348,14 @@ fresh g input handed bytes games none zero ahead =
       has = marked.1;
       numbers = ahead.numbers ∙ ap (λ n. games_from n ahead.said) zero;
     }
+
+pub fresh_some : TextsOfTagsSay → {S : Type 0} (g : Geometry) (input : Input S) (handed : ℕ) (bytes : List ℕ)
+    → input.met_end ≡ false → (games : List NumberedGame) × IsAhead g input Reading handed bytes games
+fresh_some say g input handed bytes unmet =
+    let some = stands_some say g Reading (input.unread ++ bytes) in (
+      games_from handed some.0,
+      record { said = some.0; over = λ met. absurd (true≢false (sym met ∙ unmet)); stands = some.1; numbers = refl },
+    )
 
 -- ---- a comment is left open, and was not yet told
 pub open_given : {B S : Type 0} (g : Geometry) (supply : S → Supply) (old new : Games B S) (game : Game B)

@@ -11,6 +11,7 @@ pub mod OneGamesLemmas
 pub mod ToldLemmas
 pub mod TagNameLemmas
 pub mod TagRowLemmas
+pub mod SignLemmas
 pub mod TokenLemmas
 pub mod PlaceLemmas
 pub mod LinkLemmas
@@ -20,6 +21,7 @@ pub mod TreeLemmas
 pub mod ReadingLemmas
 pub mod LongLemmas
 pub mod TakenLemmas
+pub mod ForcedLemmas
 pub mod WholeLemmas
 pub mod TokenRowLemmas
 pub mod StepLemmas

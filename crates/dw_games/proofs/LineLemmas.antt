@@ -9,7 +9,7 @@ use Rattle.dw_board.specs.Placement.{Placement}
 use Rattle.dw_board.specs.Lists.{Member}
 use Rattle.dw_moves.specs.Moves.{Move}
 use Rattle.dw_games.specs.Tokens.{Token, AreTokens}
-use Rattle.dw_games.specs.Play.{IsResult, AreComments, IsVariation, empty, passed, move, variation}
+use Rattle.dw_games.specs.Play.{IsResult, AreComments, IsVariation, empty, passed, move, forced, variation}
 use Rattle.dw_games.specs.Movetext.{AreDistinct, nothing, again, first}
 use Rattle.dw_games.specs.Faults.{cut_off, behind_result}
 use Rattle.dw_games.specs.Lines.{IsStraight, IsPlainGame, going_on, ended, IsWrittenLine, line_fault_of, other}
@@ -46,6 +46,8 @@ module _ (g : Geometry) (p : Placement) where
   any_room empty h = empty
   any_room (passed {ts = ts} t v is) h = passed t (any_room v (none_parts ts (t ∷ []) h).0) is
   any_room (move {ts = ts} {t = t} v low is) h = move (any_room v (none_parts ts (t ∷ []) h).0) low is
+  any_room (forced {ts = ts} {t = t} v low defence is) h =
+      forced (any_room v (none_parts ts (t ∷ []) h).0) low defence is
   any_room (variation {ts = ts} {us = us} moves last opening closing v o w c) h =
       let rest = none_parts ts (opening ∷ (us ++ closing ∷ [])) h in absurd (rest.1.0 o)
 
@@ -84,6 +86,11 @@ paths_are g p empty e = refl
 paths_are g p (passed t v is) e = paths_are g p v e
 paths_are g p (move {before = before} {moves = moves} {m = m} v low is) e =
     ap (λ z. z ++ (before ++ (moves ++ m ∷ [])) ∷ []) (paths_are g p v e) ∙ sym (beginnings_more before moves m)
+paths_are g p (forced {before = before} {moves = moves} {reply = r} {m = m} v low defence is) e =
+    ap (λ z. (z ++ (before ++ (moves ++ r ∷ [])) ∷ []) ++ (before ++ ((moves ++ r ∷ []) ++ m ∷ [])) ∷ [])
+    (paths_are g p v e)
+    ∙ (ap (λ z. z ++ (before ++ ((moves ++ r ∷ []) ++ m ∷ [])) ∷ []) (sym (beginnings_more before moves r))
+    ∙ sym (beginnings_more before (moves ++ r ∷ []) m))
 paths_are g p (variation moves last opening closing v o w c) e = absurd (omega (arith, e))
 
 parted : (moves : List Move) → (moves ≡ []) ⊎ ((front : List Move) × (last : Move) × (moves ≡ front ++ last ∷ []))

@@ -13,6 +13,7 @@ use Rattle.dw_games.specs.Play.{IsOver, AreComments, after}
 use Rattle.dw_games.specs.Movetext.{IsGame, AreDistinct, nothing, again, first, IsTree}
 use Rattle.dw_games.specs.Faults.{IsOpen, HasForm, IsRefused, IsUnreadable, FaultAt, FaultAtEnd, IsFirstFault}
 use Rattle.dw_games.specs.Faults.{outermost, inner, unreadable, no_such_move, ambiguous, no_move_before, none_open}
+use Rattle.dw_games.specs.Faults.{ambiguous_after_reply, no_reply}
 use Rattle.dw_games.specs.Faults.{within, behind_result, cut_off, too_deep, too_long, too_large, at_token, at_end}
 use Rattle.dw_games.specs.Faults.{no_move}
 use Rattle.dw_games.specs.Faults as faults
@@ -23,11 +24,12 @@ use Rattle.dw_games.specs.declared.movetext.TheConstants.{MAX_PATH, MAX_OPEN}
 use Rattle.dw_games.specs.declared.fault.MovetextFaultKind.{MovetextFaultKind}
 use Rattle.dw_games.specs.declared.fault.MovetextFaultKind.TheVariants.{Token as NoToken, NoSuchMove, Ambiguous}
 use Rattle.dw_games.specs.declared.fault.MovetextFaultKind.TheVariants.{Variation, Unclosed, Rest, TooDeep, TooLong}
-use Rattle.dw_games.specs.declared.fault.MovetextFaultKind.TheVariants.{Empty}
+use Rattle.dw_games.specs.declared.fault.MovetextFaultKind.TheVariants.{Empty, Reply}
 use Rattle.dw_games.proofs.PathLemmas.{filled, last_same}
-use Rattle.dw_games.proofs.TokenRowLemmas.{one_row, row_front}
+use Rattle.dw_games.proofs.TokenRowLemmas.{one_row, row_first}
 use Rattle.dw_games.proofs.StepLemmas.{State, Around, start, Next, IsNext, Leads, ended, closed, begun, moved, result}
-use Rattle.dw_games.proofs.StepLemmas.{neither, read, long, begun_deep, as_kind, leads_on, varied, begun_next}
+use Rattle.dw_games.proofs.StepLemmas.{neither, read, missed, IsMissed, long, begun_deep, as_kind, leads_on, varied}
+use Rattle.dw_games.proofs.StepLemmas.{begun_next}
 use Rattle.dw_games.proofs.StepLemmas.{leads_one, stopped, fault_one}
 use Rattle.dw_games.proofs.StepLemmas as step
 
@@ -180,12 +182,19 @@ module _ (g : Geometry) (p : Placement) where
       as_kind g p false Written s t (Err NoToken) is.written (neither is.no_result is.no_form refl)
 
   refused_next : (s : State) (t : Token) (reason : MoveFault) → (reason ≡ why.Memory → ⊥)
-      → length (s.before ++ s.moves) < MAX_PATH → IsRefused g (after g p (s.before ++ s.moves)) t reason
+      → (reason ≡ why.NoSuchMove → ⊥) → length (s.before ++ s.moves) < MAX_PATH
+      → IsRefused g (after g p (s.before ++ s.moves)) t reason
       → IsNext g p false t.what s t (moved s (Err reason))
-  refused_next s t reason kept low is =
+  refused_next s t reason kept found low is =
       as_kind g p false Written s t (moved s (Err reason)) is.form.written
       (read (Err reason) is.form.no_result is.form low is.refused (λ e. kept (step.same_reason reason why.Memory e))
-      refl)
+      (λ e. found (step.same_reason reason why.NoSuchMove e)) refl)
+
+  missed_next : (s : State) (t : Token) (r : Next) → length (s.before ++ s.moves) < MAX_PATH
+      → IsRefused g (after g p (s.before ++ s.moves)) t why.NoSuchMove → IsMissed g p s t r
+      → IsNext g p false t.what s t r
+  missed_next s t r low is h =
+      as_kind g p false Written s t r is.form.written (missed is.form.no_result is.form low is.refused h)
 
   ended_inside : (s : State) (outer : List Around) → 0 < length outer → Err Unclosed ≡ ended s outer
   ended_inside s [] some = absurd (omega (arith, some))
@@ -209,12 +218,21 @@ module _ (g : Geometry) (p : Placement) where
   pub fails : {ts : List Token} {t : Token} {what : MovetextFaultKind} → FaultAt g p ts t what → Fails g p ts t what
   fails (unreadable {room = room} {before = before} {moves = moves} {t = t} o is) =
       failing t NoToken o (λ outer paths many. unreadable_next (step.within room before moves outer paths) t is)
-  fails (no_such_move {room = room} {before = before} {moves = moves} {t = t} o low is) =
+  fails (no_such_move {room = room} {before = before} {moves = moves} {t = t} o low is none) =
       failing t NoSuchMove o (λ outer paths many.
-      refused_next (step.within room before moves outer paths) t why.NoSuchMove (λ e. cc) low is)
+      missed_next (step.within room before moves outer paths) t (Err NoSuchMove) low is (step.nothing none refl))
+  fails (ambiguous_after_reply {room = room} {before = before} {moves = moves} {t = t} reply o low odd is only several)
+      =
+      failing t Ambiguous o (λ outer paths many.
+      missed_next (step.within room before moves outer paths) t (Err Ambiguous) low is
+      (step.several reply odd only several refl))
+  fails (no_reply {room = room} {before = before} {moves = moves} {t = t} reply o low odd is two legal named) =
+      failing t Reply o (λ outer paths many.
+      missed_next (step.within room before moves outer paths) t (Err Reply) low is
+      (step.unforced reply odd two legal named refl))
   fails (ambiguous {room = room} {before = before} {moves = moves} {t = t} o low is) =
       failing t Ambiguous o (λ outer paths many.
-      refused_next (step.within room before moves outer paths) t why.Ambiguous (λ e. cc) low is)
+      refused_next (step.within room before moves outer paths) t why.Ambiguous (λ e. cc) (λ e. cc) low is)
   fails (no_move_before {room = room} {before = before} {t = t} o is) =
       failing t Variation o (λ outer paths many.
       as_kind g p false Opens (step.within room before [] outer paths) t (Err Variation) is refl)
@@ -272,7 +290,7 @@ module _ (one : reading.HasOneAnswer) (g : Geometry) (p : Placement) (text : Lis
   pub up_to : (before : List Token) (t : Token) (rest : List ℕ) (ts : List Token) → AreTokens 1 true text (before ++ t ∷
       []) rest → AreTokens 1 true text ts [] → (more : List Token) × (ts ≡ before ++ t ∷ more)
   up_to before t rest ts a b =
-      let h = row_front a b refl refl refl in (h.0, h.1 ∙ append_assoc before (t ∷ []) h.0)
+      let h = row_first a b refl refl refl in (h.0, h.1 ∙ append_assoc before (t ∷ []) h.0)
 
   -- what leads on through all tokens has no token at fault
   pub no_fault : {A : Type 0} (ts : List Token) (s : State) (before : List Token) (t : Token) (rest : List ℕ)

@@ -6,7 +6,7 @@ use Rattle.dw_board.specs.Placement.{Placement}
 use Rattle.dw_moves.specs.Moves.{Move}
 use Rattle.dw_notation.specs.MoveReadingLaws as reading
 use Rattle.dw_games.specs.Tokens.{Token, AreTokens}
-use Rattle.dw_games.specs.Play.{AreComments, IsVariation, IsPassed, empty, passed, move, variation}
+use Rattle.dw_games.specs.Play.{AreComments, IsVariation, IsPassed, empty, passed, move, forced, variation}
 use Rattle.dw_games.specs.Movetext.{IsGame}
 use Rattle.dw_games.specs.Faults.{FaultAt}
 use Rattle.dw_games.specs.Lines.{IsStraight, IsPlainGame, going_on, ended, IsWrittenLine, LineFaultAt, begins_variation}
@@ -51,6 +51,8 @@ module _ (g : Geometry) (p : Placement) where
   play_opens_none (passed {ts = ts} t v is) e = none_more ts t (play_opens_none v e) (passed_no_opening t.what is)
   play_opens_none (move {ts = ts} {t = t} v low is) e =
       none_more ts t (play_opens_none v e) (no_opening t.what Written is.written (λ e. cc))
+  play_opens_none (forced {ts = ts} {t = t} v low defence is) e =
+      none_more ts t (play_opens_none v e) (no_opening t.what Written is.next.written (λ e. cc))
   play_opens_none (variation moves last opening closing v o w c) e = absurd (omega (arith, e))
 
   opens_none : {ts : List Token} {moves : List Move} → IsPlainGame g p ts moves → NoneOpens ts
@@ -63,6 +65,7 @@ module _ (g : Geometry) (p : Placement) where
   roomier empty e = empty
   roomier (passed t v is) e = passed t (roomier v e) is
   roomier (move v low is) e = move (roomier v e) low is
+  roomier (forced v low defence is) e = forced (roomier v e) low defence is
   roomier (variation moves last opening closing v o w c) e = absurd (omega (arith, e))
 
   more_room : {room : ℕ} {before moves : List Move} {ts : List Token} {paths : List (List Move)}

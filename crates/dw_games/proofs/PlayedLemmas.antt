@@ -1,15 +1,16 @@
 -- The beginnings of a tree are played: each is a shorter one, or none, with a legal move behind it.
-use Rattle.std.proofs.Common.{◌≡◌, ◌⊎◌, ℕ, List, [], ◌∷◌, ◌++◌, refl, sym, subst, ◌∙◌, inl, inr, append-nil}
+use Rattle.std.proofs.Common.{◌≡◌, ◌⊎◌, ℕ, List, [], ◌∷◌, ◌++◌, refl, sym, ap, subst, ◌∙◌, inl, inr, append-nil}
 use Rattle.std.proofs.Common.{append_assoc}
 use Rattle.dw_board.specs.Geometry.{Geometry}
 use Rattle.dw_board.specs.Placement.{Placement}
 use Rattle.dw_board.specs.Lists.{Member}
-use Rattle.dw_moves.specs.Moves.{Move, Legal}
+use Rattle.dw_moves.specs.Moves.{Move, Legal, play}
 use Rattle.dw_moves.specs.inner.MemberLemmas.{mem_left, mem_right, mem_cases}
 use Rattle.dw_games.specs.Tokens.{Token}
-use Rattle.dw_games.specs.Play.{after, IsVariation, empty, passed, move, variation, IsPlay}
+use Rattle.dw_games.specs.Play.{after, IsVariation, empty, passed, move, forced, variation, IsPlay}
 use Rattle.dw_games.specs.Movetext.{AreDistinct, nothing, again, first, IsGame, IsTree}
 use Rattle.dw_games.specs.Laws.{IsPlayed}
+use Rattle.dw_games.proofs.ReadingLemmas.{after_append}
 use Rattle.dw_games.proofs.TakenLemmas.{read_legal}
 
 -- a path is played among others, which a beginning may have come before
@@ -90,12 +91,11 @@ record Played (g : Geometry) (p : Placement) (before moves : List Move) (paths :
   steps : Steps paths before moves
   each : (path : List Move) → Member path paths → PlayedFrom g p before paths path
 
-played : (g : Geometry) (p : Placement) {room : ℕ} {before moves : List Move} {ts : List Token}
-    {paths : List (List Move)} → IsVariation g p room before ts moves paths → Played g p before moves paths
-played g p empty = record { steps = tt; each = λ path m. absurd m }
-played g p (passed t h what) = played g p h
-played g p (move {before = before} {moves = moves} {paths = paths} {m = m} h short is) =
-    let old = played g p h in
+-- a legal move is played after a variation
+played_more : (g : Geometry) (p : Placement) (before moves : List Move) (paths : List (List Move)) (m : Move)
+    → Played g p before moves paths → Legal g (after g p (before ++ moves)) m
+    → Played g p before (moves ++ m ∷ []) (paths ++ (before ++ (moves ++ m ∷ [])) ∷ [])
+played_more g p before moves paths m old legal =
     let new : List Move = before ++ (moves ++ m ∷ []) in
     record {
       steps = steps_more (paths ++ new ∷ []) before moves m (steps_left paths (new ∷ []) before moves old.steps)
@@ -106,7 +106,7 @@ played g p (move {before = before} {moves = moves} {paths = paths} {m = m} h sho
           front = before ++ moves;
           last = m;
           is = e ∙ sym (append_assoc before moves (m ∷ []));
-          legal = read_legal g (after g p (before ++ moves)) _ m is.named;
+          legal = legal;
           there = elim (steps_last paths before moves old.steps) [
             | inl same ↦ inl same
             | inr found ↦ inr (mem_left (before ++ moves) paths (new ∷ []) found)
@@ -115,6 +115,24 @@ played g p (move {before = before} {moves = moves} {paths = paths} {m = m} h sho
         | inr (inr gone) ↦ absurd gone
       ];
     }
+
+-- the position after one more move
+after_more : (g : Geometry) (p : Placement) (before moves : List Move) (m : Move)
+    → play g (after g p (before ++ moves)) m ≡ after g p (before ++ (moves ++ m ∷ []))
+after_more g p before moves m =
+    sym (after_append g p (before ++ moves) m) ∙ ap (after g p) (append_assoc before moves (m ∷ []))
+
+played : (g : Geometry) (p : Placement) {room : ℕ} {before moves : List Move} {ts : List Token}
+    {paths : List (List Move)} → IsVariation g p room before ts moves paths → Played g p before moves paths
+played g p empty = record { steps = tt; each = λ path m. absurd m }
+played g p (passed t h what) = played g p h
+played g p (move {before = before} {moves = moves} {paths = paths} {m = m} h short is) =
+    played_more g p before moves paths m (played g p h) (read_legal g (after g p (before ++ moves)) _ m is.named)
+played g p (forced {before = before} {moves = moves} {paths = paths} {reply = r} {m = m} h short defence is) =
+    let one = played_more g p before moves paths r (played g p h) is.only.legal in
+    let legal : Legal g (after g p (before ++ (moves ++ r ∷ []))) m =
+    subst (λ z. Legal g z m) (after_more g p before moves r) (read_legal g _ _ m is.next.named) in
+    played_more g p before (moves ++ r ∷ []) (paths ++ (before ++ (moves ++ r ∷ [])) ∷ []) m one legal
 played g p (variation {before = before} {paths = paths} {more = more} moves last opening closing h opens k closes) =
     let outer = played g p h in
     let inner = played g p k in

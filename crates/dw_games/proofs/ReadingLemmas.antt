@@ -6,7 +6,8 @@ use Rattle.dw_board.specs.Geometry.{Geometry}
 use Rattle.dw_board.specs.Placement.{Placement}
 use Rattle.dw_moves.specs.Moves.{Move, play}
 use Rattle.dw_games.specs.Tokens.{Token}
-use Rattle.dw_games.specs.Play.{IsMove, IsPassed, IsPlay, after, IsVariation, empty, passed, move, variation}
+use Rattle.dw_games.specs.Play.{IsMove, IsDefence, IsLeftOut, IsPassed, IsPlay, after, IsVariation, empty, passed}
+use Rattle.dw_games.specs.Play.{move, forced, variation}
 use Rattle.dw_games.specs.Movetext.{AreDistinct, again, first}
 use Rattle.dw_games.specs.Faults.{IsOpen}
 use Rattle.dw_games.specs.Faults as faults
@@ -165,6 +166,13 @@ module _ {B : Type 0} (g : Geometry) (p : Placement) (tree more : List (List Mov
   opened_kept {line = line} {before = start} {moves = now} (inner moves last opening o e v l) =
       inner moves last opening (opened_kept o) e v (line_kept line start now l)
 
+-- a path that stands at a place still stands there when another one is noted
+noted_there : (tree now : List (List Move)) (path other : List Move) (node : Node) → IsNoted tree other now
+    → slice_get tree node.0 ≡ Some path → slice_get now node.0 ≡ Some path
+noted_there tree now path other node (inl h) e = subst (λ x. slice_get x node.0 ≡ Some path) (sym h.1) e
+noted_there tree now path other node (inr h) e =
+    subst (λ x. slice_get x node.0 ≡ Some path) (sym h.1) (got_old tree (other ∷ []) path node.0 e)
+
 -- a path is noted
 pub distinct_noted : (paths tree now : List (List Move)) (path : List Move) → AreDistinct paths tree
     → IsNoted tree path now → AreDistinct (paths ++ path ∷ []) now
@@ -215,3 +223,83 @@ module _ {B : Type 0} (g : Geometry) (p : Placement) where
         };
         earlier = (moves, m, refl, old.now);
       })
+
+  -- a reply that is left out and the move after it are played, and the paths of both are noted
+  pub read_forced : (tree mid now : List (List Move)) (room : ℕ) (ts : List Token) (line : OpenLine B)
+      (outer : List (OpenLine B)) (before moves : List Move) (paths : List (List Move)) (t : Token) (r m : Move)
+      (one node : Node) → Opened g p tree room ts line outer before moves paths
+      → length (before ++ moves) < MAX_PATH → IsDefence (before ++ moves)
+      → IsLeftOut g (after g p (before ++ moves)) t r m
+      → IsNoted tree ((before ++ moves) ++ r ∷ []) mid
+      → IsNoted mid (((before ++ moves) ++ r ∷ []) ++ m ∷ []) now
+      → slice_get mid one.0 ≡ Some ((before ++ moves) ++ r ∷ [])
+      → slice_get now node.0 ≡ Some (((before ++ moves) ++ r ∷ []) ++ m ∷ [])
+      → Opened g p now room (ts ++ t ∷ [])
+      (record {
+        now = record {
+          node = Some node;
+          position = play g (play g line.now.position r) m;
+          moves = line.now.moves + 1 + 1;
+        };
+        before = Some (record {
+          node = Some one;
+          position = play g line.now.position r;
+          moves = line.now.moves + 1;
+        });
+      }) outer before ((moves ++ r ∷ []) ++ m ∷ [])
+      ((paths ++ ((before ++ moves) ++ r ∷ []) ∷ []) ++ (((before ++ moves) ++ r ∷ []) ++ m ∷ []) ∷ [])
+  read_forced tree mid now room ts line outer before moves paths t r m one node o short defence is noted next there
+      then =
+      let path : List Move = before ++ moves in
+      let x : List Move = path ++ r ∷ [] in
+      let y : List Move = x ++ m ∷ [] in
+      let kept = noted_kept mid now y next (noted_kept tree mid x noted o) in
+      let old = opened_line g p now kept in
+      let whole_x : before ++ (moves ++ r ∷ []) ≡ x = sym (append_assoc before moves (r ∷ [])) in
+      let whole_y : before ++ ((moves ++ r ∷ []) ++ m ∷ []) ≡ y =
+      sym (append_assoc before (moves ++ r ∷ []) (m ∷ [])) ∙ ap (λ z. z ++ m ∷ []) whole_x in
+      let both : paths ++ (x ∷ y ∷ []) ≡ (paths ++ x ∷ []) ++ y ∷ [] = sym (append_assoc paths (x ∷ []) (y ∷ [])) in
+      let at_x : play g line.now.position r ≡ after g p x =
+      ap (λ z. play g z r) old.now.position ∙ sym (after_append g p path r) in
+      let many_x : line.now.moves + 1 ≡ length x =
+      ap (λ n. n + 1) old.now.many ∙ sym (length-append path (r ∷ [])) in
+      let Goal : List (List Move) → Type 0 = λ z. Opened g p now room (ts ++ t ∷ []) (record {
+        now = record {
+          node = Some node;
+          position = play g (play g line.now.position r) m;
+          moves = line.now.moves + 1 + 1;
+        };
+        before = Some (record {
+          node = Some one;
+          position = play g line.now.position r;
+          moves = line.now.moves + 1;
+        });
+      }) outer before ((moves ++ r ∷ []) ++ m ∷ []) z in
+      subst Goal both (goes_on g p now _ (t ∷ []) ((moves ++ r ∷ []) ++ m ∷ []) (x ∷ y ∷ []) kept
+      (λ us ps v.
+      let made : IsVariation g p room before (us ++ t ∷ []) ((moves ++ r ∷ []) ++ m ∷ [])
+      ((ps ++ (before ++ (moves ++ r ∷ [])) ∷ []) ++ (before ++ ((moves ++ r ∷ []) ++ m ∷ [])) ∷ []) =
+      forced v short defence is in
+      subst (λ z. IsVariation g p room before (us ++ t ∷ []) ((moves ++ r ∷ []) ++ m ∷ []) z)
+      (append_assoc ps (x ∷ []) (y ∷ []))
+      (subst (λ z. IsVariation g p room before (us ++ t ∷ []) ((moves ++ r ∷ []) ++ m ∷ []) ((ps ++ z ∷ []) ++ y ∷ []))
+      whole_x
+      (subst (λ z. IsVariation g p room before (us ++ t ∷ []) ((moves ++ r ∷ []) ++ m ∷ [])
+      ((ps ++ (before ++ (moves ++ r ∷ [])) ∷ []) ++ z ∷ [])) whole_y made)))
+      (record {
+        now = record {
+          there = then ∙ ap Some (sym whole_y);
+          position = ap (λ z. play g z m) at_x ∙ (sym (after_append g p x m) ∙ ap (after g p) (sym whole_y));
+          many = ap (λ n. n + 1) many_x ∙ (sym (length-append x (m ∷ [])) ∙ ap length (sym whole_y));
+        };
+        earlier = (
+          moves ++ r ∷ [],
+          m,
+          refl,
+          record {
+            there = noted_there mid now x y one next there ∙ ap Some (sym whole_x);
+            position = at_x ∙ ap (after g p) (sym whole_x);
+            many = many_x ∙ ap length (sym whole_x);
+          },
+        );
+      }))

@@ -3,14 +3,15 @@ use Rattle.std.proofs.Common.{◌≡◌, ℕ, zero, suc, ◌<◌, Bool, true, fa
 use Rattle.std.proofs.Common.{refl, sym, ap, subst, ◌∙◌, arith, append_assoc, append-nil, inl, inr}
 use Rattle.dw_board.specs.Geometry.{Geometry}
 use Rattle.dw_board.specs.Placement.{Placement}
-use Rattle.dw_moves.specs.Moves.{Move}
+use Rattle.dw_moves.specs.Moves.{Legal, Move, play}
 use Rattle.dw_notation.specs.MoveReading.{IsRead}
 use Rattle.dw_notation.specs.MoveReadingLaws.{HasOneAnswer}
 use Rattle.dw_notation.specs.declared.read_move.MoveFault.{MoveFault}
 use Rattle.dw_notation.specs.declared.read_move.MoveFault.TheVariants as reading
 use Rattle.dw_games.specs.Tokens.{Token}
-use Rattle.dw_games.specs.Play.{IsResult, IsMove, IsPassed, crossed, after, IsVariation, empty, passed, move, variation}
-use Rattle.dw_games.specs.Faults.{HasForm}
+use Rattle.dw_games.specs.Play.{IsResult, IsMove, IsPassed, plain, after, IsVariation, empty, passed, move, forced}
+use Rattle.dw_games.specs.Play.{variation, IsDefence, IsLeftOut, IsOnlyMove}
+use Rattle.dw_games.specs.Faults.{HasForm, HasTwoMoves, IsNamed, NamesNoneBehind}
 use Rattle.dw_games.specs.declared.tokens.TokenKind.{TokenKind}
 use Rattle.dw_games.specs.declared.tokens.TokenKind.TheVariants.{Comment, Passed, Written, Opens, Closes, CutOff}
 use Rattle.dw_games.specs.declared.tokens.TokenKind.TheVariants.{Unknown}
@@ -18,6 +19,7 @@ use Rattle.dw_games.specs.declared.movetext.TheConstants.{MAX_PATH, MAX_OPEN}
 use Rattle.dw_games.specs.declared.fault.MovetextFaultKind.{MovetextFaultKind}
 use Rattle.dw_games.specs.declared.fault.MovetextFaultKind.TheVariants.{Token as NoToken, NoSuchMove, Ambiguous}
 use Rattle.dw_games.specs.declared.fault.MovetextFaultKind.TheVariants.{Variation, Unclosed, Rest, TooDeep, TooLong}
+use Rattle.dw_games.specs.declared.fault.MovetextFaultKind.TheVariants.{Reply}
 
 -- ---- states
 -- a variation around the innermost one: the moves before it, and its own
@@ -80,9 +82,11 @@ ended s [] = Ok (record {
 })
 ended s (a ∷ outer) = Err Unclosed
 
+abbrev pub with_move : State → Move → State
+with_move s m = within s.room s.before (s.moves ++ m ∷ []) s.outer (s.paths ++ (s.before ++ (s.moves ++ m ∷ [])) ∷ [])
+
 abbrev pub moved : State → Result Move MoveFault → Next
-moved s (Ok m) =
-    Ok (within s.room s.before (s.moves ++ m ∷ []) s.outer (s.paths ++ (s.before ++ (s.moves ++ m ∷ [])) ∷ []))
+moved s (Ok m) = Ok (with_move s m)
 moved s (Err reading.NoSuchMove) = Err NoSuchMove
 moved s (Err reading.Ambiguous) = Err Ambiguous
 moved s (Err reading.Syntax) = Err NoToken
@@ -94,13 +98,33 @@ behind_result Comment s = Ok s
 behind_result CutOff s = Err NoToken
 behind_result what s = Err Rest
 
+-- the position of a state
+abbrev pub position_of : Geometry → Placement → State → Placement
+position_of g p s = after g p (s.before ++ s.moves)
+
+-- what a token leads to that names no legal move
+pub data IsMissed (g : Geometry) (p : Placement) (s : State) (t : Token) (r : Next) : Type 0 where
+  nothing : (IsDefence (s.before ++ s.moves) → NamesNoneBehind g (position_of g p s) (plain t.text))
+      → r ≡ Err NoSuchMove → IsMissed g p s t r
+  two_moves : (reply m : Move) → IsDefence (s.before ++ s.moves) → IsOnlyMove g (position_of g p s) reply
+      → IsRead g (play g (position_of g p s) reply) (plain t.text) (Ok m) → r ≡ Ok (with_move (with_move s reply) m)
+      → IsMissed g p s t r
+  several : (reply : Move) → IsDefence (s.before ++ s.moves) → IsOnlyMove g (position_of g p s) reply
+      → IsRead g (play g (position_of g p s) reply) (plain t.text) (Err reading.Ambiguous) → r ≡ Err Ambiguous
+      → IsMissed g p s t r
+  unforced : (reply : Move) → IsDefence (s.before ++ s.moves) → HasTwoMoves g (position_of g p s)
+      → Legal g (position_of g p s) reply → IsNamed g (play g (position_of g p s) reply) (plain t.text)
+      → r ≡ Err Reply → IsMissed g p s t r
+
 -- what something written leads to
 pub data IsWritten (g : Geometry) (p : Placement) (s : State) (t : Token) (r : Next) : Type 0 where
   result : IsResult t → r ≡ ended s s.outer → IsWritten g p s t r
   neither : (IsResult t → ⊥) → (HasForm g t → ⊥) → r ≡ Err NoToken → IsWritten g p s t r
   read : (answer : Result Move MoveFault) → (IsResult t → ⊥) → HasForm g t → length (s.before ++ s.moves) < MAX_PATH
-      → IsRead g (after g p (s.before ++ s.moves)) (crossed t.text) answer → (answer ≡ Err reading.Memory → ⊥)
-      → r ≡ moved s answer → IsWritten g p s t r
+      → IsRead g (after g p (s.before ++ s.moves)) (plain t.text) answer → (answer ≡ Err reading.Memory → ⊥)
+      → (answer ≡ Err reading.NoSuchMove → ⊥) → r ≡ moved s answer → IsWritten g p s t r
+  missed : (IsResult t → ⊥) → HasForm g t → length (s.before ++ s.moves) < MAX_PATH
+      → IsRead g (position_of g p s) (plain t.text) (Err reading.NoSuchMove) → IsMissed g p s t r → IsWritten g p s t r
   long : (IsResult t → ⊥) → HasForm g t → length (s.before ++ s.moves) ≡ MAX_PATH → r ≡ Err TooLong
       → IsWritten g p s t r
 
@@ -121,27 +145,137 @@ Leads g p a [] b = a ≡ b
 Leads g p a (t ∷ ts) b = (s : State) × IsNext g p a.over t.what a t (Ok s) × Leads g p s ts b
 
 -- ---- a token leads on in one way at most
+-- answers that differ
+no_such_memory : ◌≡◌ {A = Result Move MoveFault} (Err reading.NoSuchMove) (Err reading.Memory) → ⊥
+no_such_memory e = cc
+
+no_memory_of : (m : Move) → ◌≡◌ {A = Result Move MoveFault} (Ok m) (Err reading.Memory) → ⊥
+no_memory_of m e = cc
+
+no_miss_of : (m : Move) → ◌≡◌ {A = Result Move MoveFault} (Ok m) (Err reading.NoSuchMove) → ⊥
+no_miss_of m e = cc
+
+ambiguous_memory : ◌≡◌ {A = Result Move MoveFault} (Err reading.Ambiguous) (Err reading.Memory) → ⊥
+ambiguous_memory e = cc
+
+pub ambiguous_miss : ◌≡◌ {A = Result Move MoveFault} (Err reading.Ambiguous) (Err reading.NoSuchMove) → ⊥
+ambiguous_miss e = cc
+
+one_several : (m : Move) → ◌≡◌ {A = Result Move MoveFault} (Ok m) (Err reading.Ambiguous) → ⊥
+one_several m e = cc
+
+same_move : (m n : Move) → ◌≡◌ {A = Result Move MoveFault} (Ok m) (Ok n) → m ≡ n
+same_move m n e = cc
+
+one_move : HasOneAnswer → (g : Geometry) (q : Placement) (text : List ℕ) (m n : Move) → IsRead g q text (Ok m)
+    → IsRead g q text (Ok n) → m ≡ n
+one_move one g q text m n is too = elim (one g q text (Ok m) (Ok n) is too) [
+  | inl same ↦ same_move m n same
+  | inr (inl memory) ↦ absurd (no_memory_of m memory)
+  | inr (inr memory) ↦ absurd (no_memory_of n memory)
+]
+
+not_several : HasOneAnswer → {A : Type 0} (g : Geometry) (q : Placement) (text : List ℕ) (m : Move)
+    → IsRead g q text (Ok m) → IsRead g q text (Err reading.Ambiguous) → A
+not_several one g q text m is too = elim (one g q text (Ok m) (Err reading.Ambiguous) is too) [
+  | inl same ↦ absurd (one_several m same)
+  | inr (inl memory) ↦ absurd (no_memory_of m memory)
+  | inr (inr memory) ↦ absurd (ambiguous_memory memory)
+]
+
+-- a text that names no move does not name one, nor several
+not_both : HasOneAnswer → {A : Type 0} (g : Geometry) (q : Placement) (text : List ℕ) (answer : Result Move MoveFault)
+    → IsRead g q text (Err reading.NoSuchMove) → IsRead g q text answer → (answer ≡ Err reading.Memory → ⊥)
+    → (answer ≡ Err reading.NoSuchMove → ⊥) → A
+not_both one g q text answer none is kept other = elim (one g q text (Err reading.NoSuchMove) answer none is) [
+  | inl same ↦ absurd (other (sym same))
+  | inr (inl memory) ↦ absurd (no_such_memory memory)
+  | inr (inr memory) ↦ absurd (kept memory)
+]
+
+not_named : HasOneAnswer → {A : Type 0} (g : Geometry) (q : Placement) (text : List ℕ)
+    → IsRead g q text (Err reading.NoSuchMove) → IsNamed g q text → A
+not_named one g q text none (inl is) = not_both one g q text (Ok is.0) none is.1 (no_memory_of is.0) (no_miss_of is.0)
+not_named one g q text none (inr is) =
+    not_both one g q text (Err reading.Ambiguous) none is ambiguous_memory ambiguous_miss
+
+not_two : {A : Type 0} (g : Geometry) (q : Placement) (m : Move) → IsOnlyMove g q m → HasTwoMoves g q → A
+not_two g q m only two =
+    absurd (two.differ (only.alone two.first two.legal ∙ sym (only.alone two.second two.legal_too)))
+
+module _ (one : HasOneAnswer) (g : Geometry) (p : Placement) (s : State) (t : Token) where
+  missed_one : (q r : Next) → IsMissed g p s t q → IsMissed g p s t r → q ≡ r
+  missed_one q r (nothing none e) (nothing other f) = e ∙ sym f
+  missed_one q r (nothing none e) (two_moves reply m odd only is f) =
+      not_named one g _ (plain t.text) (none odd reply only.legal) (inl (m, is))
+  missed_one q r (nothing none e) (several reply odd only is f) =
+      not_named one g _ (plain t.text) (none odd reply only.legal) (inr is)
+  missed_one q r (nothing none e) (unforced reply odd two legal is f) =
+      not_named one g _ (plain t.text) (none odd reply legal) is
+  missed_one q r (two_moves reply m odd only is f) (nothing none e) =
+      not_named one g _ (plain t.text) (none odd reply only.legal) (inl (m, is))
+  missed_one q r (two_moves reply m odd only is e) (two_moves other n too alone are f) =
+      let same : other ≡ reply = only.alone other alone.legal in
+      let there : IsRead g (play g (position_of g p s) reply) (plain t.text) (Ok n) =
+      subst (λ x. IsRead g (play g (position_of g p s) x) (plain t.text) (Ok n)) same are in
+      let moves : m ≡ n = one_move one g _ (plain t.text) m n is there in
+      e ∙ (ap (λ x. Ok (with_move (with_move s reply) x)) moves
+      ∙ (ap (λ x. Ok (with_move (with_move s x) n)) (sym same) ∙ sym f))
+  missed_one q r (two_moves reply m odd only is e) (several other too alone are f) =
+      let same : other ≡ reply = only.alone other alone.legal in
+      let there : IsRead g (play g (position_of g p s) reply) (plain t.text) (Err reading.Ambiguous) =
+      subst (λ x. IsRead g (play g (position_of g p s) x) (plain t.text) (Err reading.Ambiguous)) same are in
+      not_several one g _ (plain t.text) m is there
+  missed_one q r (two_moves reply m odd only is e) (unforced other too two legal are f) = not_two g _ reply only two
+  missed_one q r (several reply odd only is f) (nothing none e) =
+      not_named one g _ (plain t.text) (none odd reply only.legal) (inr is)
+  missed_one q r (several other too alone are e) (two_moves reply m odd only is f) =
+      let same : other ≡ reply = only.alone other alone.legal in
+      let there : IsRead g (play g (position_of g p s) reply) (plain t.text) (Err reading.Ambiguous) =
+      subst (λ x. IsRead g (play g (position_of g p s) x) (plain t.text) (Err reading.Ambiguous)) same are in
+      not_several one g _ (plain t.text) m is there
+  missed_one q r (several reply odd only is e) (several other too alone are f) = e ∙ sym f
+  missed_one q r (several reply odd only is e) (unforced other too two legal are f) = not_two g _ reply only two
+  missed_one q r (unforced reply odd two legal is f) (nothing none e) =
+      not_named one g _ (plain t.text) (none odd reply legal) is
+  missed_one q r (unforced reply odd two legal is f) (two_moves other m too only are e) = not_two g _ other only two
+  missed_one q r (unforced reply odd two legal is f) (several other too only are e) = not_two g _ other only two
+  missed_one q r (unforced reply odd two legal is e) (unforced other too both legal_too are f) = e ∙ sym f
+
 written_one : HasOneAnswer → (g : Geometry) (p : Placement) (s : State) (t : Token) (q r : Next)
     → IsWritten g p s t q → IsWritten g p s t r → q ≡ r
 written_one one g p s t q r (result a e) (result b f) = e ∙ sym f
 written_one one g p s t q r (result a e) (neither b formless f) = absurd (b a)
-written_one one g p s t q r (result a e) (read x b form low is kept f) = absurd (b a)
+written_one one g p s t q r (result a e) (read x b form low is kept found f) = absurd (b a)
+written_one one g p s t q r (result a e) (missed b form low is f) = absurd (b a)
 written_one one g p s t q r (result a e) (long b form high f) = absurd (b a)
 written_one one g p s t q r (neither a formless e) (result b f) = absurd (a b)
 written_one one g p s t q r (neither a formless e) (neither b other f) = e ∙ sym f
-written_one one g p s t q r (neither a formless e) (read x b form low is kept f) = absurd (formless form)
+written_one one g p s t q r (neither a formless e) (read x b form low is kept found f) = absurd (formless form)
+written_one one g p s t q r (neither a formless e) (missed b form low is f) = absurd (formless form)
 written_one one g p s t q r (neither a formless e) (long b form high f) = absurd (formless form)
-written_one one g p s t q r (read x a form low is kept e) (result b f) = absurd (a b)
-written_one one g p s t q r (read x a form low is kept e) (neither b formless f) = absurd (formless form)
-written_one one g p s t q r (read x a form low is kept e) (read y b other short too safe f) =
-    elim (one g (after g p (s.before ++ s.moves)) (crossed t.text) x y is too) [
+written_one one g p s t q r (read x a form low is kept found e) (result b f) = absurd (a b)
+written_one one g p s t q r (read x a form low is kept found e) (neither b formless f) = absurd (formless form)
+written_one one g p s t q r (read x a form low is kept found e) (read y b other short too safe known f) =
+    elim (one g (after g p (s.before ++ s.moves)) (plain t.text) x y is too) [
       | inl same ↦ e ∙ (ap (moved s) same ∙ sym f)
       | inr memory ↦ elim memory [ inl m ↦ absurd (kept m) | inr m ↦ absurd (safe m) ]
     ]
-written_one one g p s t q r (read x a form low is kept e) (long b other high f) = absurd (omega (arith, low, high))
+written_one one g p s t q r (read x a form low is kept found e) (missed b other short none f) =
+    not_both one g (position_of g p s) (plain t.text) x none is kept found
+written_one one g p s t q r (read x a form low is kept found e) (long b other high f) =
+    absurd (omega (arith, low, high))
+written_one one g p s t q r (missed a form low none e) (result b f) = absurd (a b)
+written_one one g p s t q r (missed a form low none e) (neither b formless f) = absurd (formless form)
+written_one one g p s t q r (missed a form low none e) (read x b other short is kept found f) =
+    not_both one g (position_of g p s) (plain t.text) x none is kept found
+written_one one g p s t q r (missed a form low none e) (missed b other short too f) = missed_one one g p s t q r e f
+written_one one g p s t q r (missed a form low none e) (long b other high f) = absurd (omega (arith, low, high))
 written_one one g p s t q r (long a form high e) (result b f) = absurd (a b)
 written_one one g p s t q r (long a form high e) (neither b formless f) = absurd (formless form)
-written_one one g p s t q r (long a form high e) (read x b other low is kept f) = absurd (omega (arith, low, high))
+written_one one g p s t q r (long a form high e) (read x b other low is kept found f) =
+    absurd (omega (arith, low, high))
+written_one one g p s t q r (long a form high e) (missed b other low none f) = absurd (omega (arith, low, high))
 written_one one g p s t q r (long a form high e) (long b other too f) = e ∙ sym f
 
 pub next_one : HasOneAnswer → (g : Geometry) (p : Placement) (over : Bool) (what : TokenKind) (s : State) (t : Token)
@@ -270,7 +404,20 @@ module _ (g : Geometry) (p : Placement) where
   moved_on room before moves outer paths t m low is =
       as_kind false Written (within room before moves outer paths) t (moved (within room before moves outer paths) (Ok
       m)) is.written
-      (read (Ok m) is.no_result (form_of (after g p (before ++ moves)) t m is) low is.named (no_memory m) refl)
+      (read (Ok m) is.no_result (form_of (after g p (before ++ moves)) t m is) low is.named (no_memory m)
+      (no_miss_of m) refl)
+
+  forced_on : (room : ℕ) (before moves : List Move) (outer : List Around) (paths : List (List Move)) (t : Token)
+      (reply m : Move) → length (before ++ moves) < MAX_PATH → IsDefence (before ++ moves)
+      → IsLeftOut g (after g p (before ++ moves)) t reply m
+      → IsNext g p false t.what (within room before moves outer paths) t
+      (Ok (with_move (with_move (within room before moves outer paths) reply) m))
+  forced_on room before moves outer paths t reply m low odd is =
+      let s : State = within room before moves outer paths in
+      let next : Next = Ok (with_move (with_move s reply) m) in
+      as_kind false Written s t next is.next.written
+      (missed is.next.no_result (form_of (play g (after g p (before ++ moves)) reply) t m is.next) low is.none
+      (two_moves reply m odd is.only is.next.named refl))
 
   pub begun_next : (room : ℕ) (before moves : List Move) (last : Move) (outer : List Around) (paths : List (List Move))
       (t : Token) → t.what ≡ Opens
@@ -305,6 +452,18 @@ module _ (g : Geometry) (p : Placement) where
       x)) (append_assoc old paths (path ∷ []))
       (leads_on ts (t ∷ []) (within room before [] outer old) s next (varied v outer old)
       (next, moved_on room before moves outer (old ++ paths) t m low is, refl))
+  varied {room = room} {before = before} (forced {moves = moves} {ts = ts} {paths = paths} {t = t} {reply = r} {m = m} v
+      low odd is) outer old =
+      let s : State = within room before moves outer (old ++ paths) in
+      let x : List Move = before ++ (moves ++ r ∷ []) in
+      let y : List Move = before ++ ((moves ++ r ∷ []) ++ m ∷ []) in
+      let next : State = with_move (with_move s r) m in
+      let all : ((old ++ paths) ++ x ∷ []) ++ y ∷ [] ≡ old ++ ((paths ++ x ∷ []) ++ y ∷ []) =
+      ap (λ z. z ++ y ∷ []) (append_assoc old paths (x ∷ [])) ∙ append_assoc old (paths ++ x ∷ []) (y ∷ []) in
+      subst (λ z. Leads g p (within room before [] outer old) (ts ++ t ∷ [])
+      (within room before ((moves ++ r ∷ []) ++ m ∷ []) outer z)) all
+      (leads_on ts (t ∷ []) (within room before [] outer old) s next (varied v outer old)
+      (next, forced_on room before moves outer (old ++ paths) t r m low odd is, refl))
   varied (variation {room = room} {before = before} {others = others} {ts = ts} {us = us} {paths = paths} {more = more}
       moves last opening closing v o w c) outer old =
       let now : List Move = moves ++ last ∷ [] in

@@ -9,31 +9,55 @@ use Rattle.dw_notation.specs.MoveReading.{IsRead, IsAnswered}
 use Rattle.dw_notation.specs.declared.read_move.MoveFault.{MoveFault}
 use Rattle.dw_notation.specs.declared.read_move.MoveFault.TheVariants as reading
 use Rattle.dw_games.specs.Tokens.{Token}
-use Rattle.dw_games.specs.Play.{IsResult, IsMove, IsPassed, crossed, after, IsVariation, empty, passed, move, variation}
+use Rattle.dw_games.specs.Play.{IsResult, IsMove, IsDefence, IsLeftOut, IsPassed, plain, after, IsVariation, empty}
+use Rattle.dw_games.specs.Play.{passed, move, forced, variation}
 use Rattle.std.specs.List.{slice_get}
-use Rattle.std.specs.Prelude.{◌==◌}
+use Rattle.std.specs.Prelude.{◌==◌, ◌%◌}
 use Rattle.dw_games.specs.Movetext.{nothing}
 use Rattle.std.proofs.Math.Nat.{eq-or-lt_of_le}
 use Rattle.std.proofs.lemmas.Bool.{eqb-true, eq-eqb, true≢false}
 use Rattle.dw_notation.specs.MoveReading.{Named, QuietMove, Capture, Fits, FitsSquares}
 use Rattle.dw_games.specs.Walk.{beginning_at, place_of, CanFollow}
 use Rattle.dw_games.specs.inner.Noting.{IsNoted}
-use Rattle.dw_games.specs.Faults.{IsOpen, FaultAt, HasForm, IsUnreadable, unreadable, no_such_move, ambiguous}
+use Rattle.dw_games.specs.Faults.{IsOpen, FaultAt, HasForm, IsRefused, IsUnreadable, unreadable, no_such_move}
+use Rattle.dw_games.specs.Faults.{ambiguous}
+use Rattle.dw_games.specs.Faults.{ambiguous_after_reply, no_reply}
 use Rattle.dw_games.specs.Faults.{no_move_before, none_open, within, too_deep, too_long}
-use Rattle.dw_games.specs.inner.Reading.{IsBefore, Opened, outermost, inner, HasRead, IsFaultOf}
+use Rattle.dw_games.specs.inner.Reading.{IsBefore, Opened, outermost, inner, HasRead, IsFaultOf, IsForcedOr, IsStepOf}
+use Rattle.dw_games.specs.inner.Reading.{CanNote}
+use Rattle.dw_games.specs.inner.Reading.{HasNoted}
+use Rattle.dw_games.specs.declared.reader.Step.{Step}
+use Rattle.dw_games.specs.declared.reader.Step.TheVariants.{Played, Forced}
+use Rattle.std.proofs.Common.{Result}
 use Rattle.dw_games.specs.inner.Refusals.{refusal_of}
 use Rattle.dw_games.specs.declared.tokens.TokenKind.TheVariants.{Written, Opens, Closes}
 use Rattle.dw_games.specs.declared.movetext.TheConstants.{MAX_OPEN, MAX_PATH}
 use Rattle.dw_games.specs.declared.fault.MovetextFaultKind.TheVariants.{Token as NoToken, Variation, Unclosed, TooDeep}
-use Rattle.dw_games.specs.declared.fault.MovetextFaultKind.TheVariants.{TooLong}
+use Rattle.dw_games.specs.declared.fault.MovetextFaultKind.TheVariants.{TooLong, NoSuchMove, Ambiguous, Reply, Rest}
+use Rattle.dw_games.specs.declared.fault.MovetextFaultKind.TheVariants.{TooLarge, Empty}
+use Rattle.dw_games.specs.declared.fault.MovetextFault.{MovetextFault}
+use Rattle.dw_games.specs.declared.fault.MovetextFault.TheVariants.{Refused, Memory}
 use Rattle.dw_games.specs.declared.branches.Node.{Node}
 use Rattle.dw_games.specs.declared.reader.Cursor.{Cursor}
 use Rattle.dw_games.specs.declared.reader.OpenLine.{OpenLine}
 use Rattle.dw_games.specs.declared.reader.Reader.{Reader}
 use Rattle.dw_games.proofs.ReadingLemmas.{opened_open, opened_line, opened_room, read_passed, read_opens, read_closes}
-use Rattle.dw_games.proofs.ReadingLemmas.{none_around, read_move, distinct_noted}
+use Rattle.dw_games.proofs.ReadingLemmas.{none_around, read_move, read_forced, distinct_noted, after_append}
 
 -- ---- no path is too long
+below : (n : ℕ) → n < MAX_PATH → n ≤ 38
+below n low = omega (arith, low)
+
+even_number : 38 % 2 ≡ 1 → ⊥
+even_number h = omega (arith, h)
+
+-- after an odd number of moves there is room for two more, if there is for one
+pub odd_room : (n : ℕ) → n < MAX_PATH → n % 2 ≡ 1 → n + 1 < MAX_PATH
+odd_room n low odd = elim (eq-or-lt_of_le (below n low)) [
+  | inl is ↦ absurd (even_number (subst (λ k. k % 2 ≡ 1) is odd))
+  | inr lt ↦ omega (arith, lt)
+]
+
 variation_short : (g : Geometry) (p : Placement) {room : ℕ} {before moves : List Move} {ts : List Token}
     {paths : List (List Move)} → IsVariation g p room before ts moves paths → length before ≤ MAX_PATH
     → length (before ++ moves) ≤ MAX_PATH
@@ -41,6 +65,16 @@ variation_short g p {before = before} empty short = rw append-nil short
 variation_short g p (passed t v is) short = variation_short g p v short
 variation_short g p {before = before} (move {moves = moves} {m = m} v low is) short =
     omega (arith, low, length-append before moves, length-append before (moves ++ m ∷ []), length-append moves (m ∷ []))
+variation_short g p (forced {before = before} {moves = moves} {reply = r} {m = m} v low defence is) short =
+    let room = odd_room (length (before ++ moves)) low defence in
+    omega (
+      arith,
+      room,
+      length-append before moves,
+      length-append before ((moves ++ r ∷ []) ++ m ∷ []),
+      length-append (moves ++ r ∷ []) (m ∷ []),
+      length-append moves (r ∷ []),
+    )
 variation_short g p (variation moves last opening closing v o w c) short = variation_short g p v short
 
 pub opened_short : {B : Type 0} (g : Geometry) (p : Placement) (tree : List (List Move)) {room : ℕ} {ts : List Token}
@@ -151,7 +185,7 @@ module _ {B : Type 0} (g : Geometry) (p : Placement) (ts : List Token) (r : Read
       too_long (opened_open g p r.tree.paths h.opened) (omega (arith, long, short, length_now)) form
 
   form_of : {answer : _} → t.what ≡ Written → (IsResult t → ⊥) → (q : Placement)
-      → IsAnswered g q (crossed t.text) answer → HasForm g t
+      → IsAnswered g q (plain t.text) answer → HasForm g t
   form_of written no_result q a = record {
     written = written;
     no_result = no_result;
@@ -160,18 +194,44 @@ module _ {B : Type 0} (g : Geometry) (p : Placement) (ts : List Token) (r : Read
   }
 
   pub fault_long : (m : Move) → t.what ≡ Written → (IsResult t → ⊥)
-      → IsRead g r.line.now.position (crossed t.text) (Ok m) → MAX_PATH ≤ r.line.now.moves → FaultAt g p ts t TooLong
+      → IsRead g r.line.now.position (plain t.text) (Ok m) → MAX_PATH ≤ r.line.now.moves → FaultAt g p ts t TooLong
   fault_long m written no_result read long =
       fault_form_long (form_of written no_result r.line.now.position read) long
 
-  here : (why : MoveFault) → IsRead g r.line.now.position (crossed t.text) (Err why)
-      → IsRead g (after g p (h.before ++ h.moves)) (crossed t.text) (Err why)
-  here why read = subst (λ x. IsRead g x (crossed t.text) (Err why)) position_now read
+  here : (why : MoveFault) → IsRead g r.line.now.position (plain t.text) (Err why)
+      → IsRead g (after g p (h.before ++ h.moves)) (plain t.text) (Err why)
+  here why read = subst (λ x. IsRead g x (plain t.text) (Err why)) position_now read
+
+  -- the fault of a token of the defender's turn
+  faults_forced : (why : MovetextFault) → IsRefused g (after g p (h.before ++ h.moves)) t reading.NoSuchMove
+      → length (h.before ++ h.moves) < MAX_PATH → IsDefence (h.before ++ h.moves)
+      → IsForcedOr {B = B} g (after g p (h.before ++ h.moves)) t (Err why) → IsFaultOf g p ts t why
+  faults_forced (Refused NoSuchMove place) refused short odd is =
+      (no_such_move (opened_open g p r.tree.paths h.opened) short refused (λ _. is.0), is.1)
+  faults_forced (Refused Ambiguous place) refused short odd is = (
+    ambiguous_after_reply is.0 (opened_open g p r.tree.paths h.opened) short odd refused is.1 is.2,
+    is.3,
+  )
+  faults_forced (Refused Reply place) refused short odd is = (
+    no_reply is.0 (opened_open g p r.tree.paths h.opened) short odd refused is.1 is.2 is.3,
+    is.4,
+  )
+  faults_forced Memory refused short odd is = tt
+  faults_forced (Refused NoToken place) refused short odd is = absurd is
+  faults_forced (Refused Variation place) refused short odd is = absurd is
+  faults_forced (Refused Unclosed place) refused short odd is = absurd is
+  faults_forced (Refused Rest place) refused short odd is = absurd is
+  faults_forced (Refused TooDeep place) refused short odd is = absurd is
+  faults_forced (Refused TooLong place) refused short odd is = absurd is
+  faults_forced (Refused TooLarge place) refused short odd is = absurd is
+  faults_forced (Refused Empty place) refused short odd is = absurd is
 
   pub fault_refused : (why : MoveFault) (full : Bool) → t.what ≡ Written → (IsResult t → ⊥)
-      → IsRead g r.line.now.position (crossed t.text) (Err why) → (full ≡ true → MAX_PATH ≤ r.line.now.moves)
-      → (full ≡ false → r.line.now.moves < MAX_PATH) → IsFaultOf g p ts t (refusal_of t.place full why)
-  fault_refused reading.Syntax full written no_result read long short = (
+      → IsRead g r.line.now.position (plain t.text) (Err why) → (full ≡ true → MAX_PATH ≤ r.line.now.moves)
+      → (full ≡ false → r.line.now.moves < MAX_PATH)
+      → ((why ≡ reading.NoSuchMove) × (full ≡ false) × (r.line.now.moves % 2 ≡ 1) → ⊥)
+      → IsFaultOf g p ts t (refusal_of t.place full why)
+  fault_refused reading.Syntax full written no_result read long short left = (
     fault_unreadable (inr (inr (record {
       written = written;
       no_result = no_result;
@@ -179,73 +239,167 @@ module _ {B : Type 0} (g : Geometry) (p : Placement) (ts : List Token) (r : Read
     }))),
     refl,
   )
-  fault_refused reading.NoSuchMove true written no_result read long short =
+  fault_refused reading.NoSuchMove true written no_result read long short left =
       (fault_form_long (form_of written no_result r.line.now.position read) (long refl), refl)
-  fault_refused reading.NoSuchMove false written no_result read long short = (
+  fault_refused reading.NoSuchMove false written no_result read long short left = (
     no_such_move (opened_open g p r.tree.paths h.opened) (omega (arith, short refl, length_now)) (record {
       form = form_of written no_result r.line.now.position read;
       refused = here reading.NoSuchMove read;
-    }),
+    }) (λ odd. absurd (left (refl, refl, ap (λ n. n % 2) length_now ∙ odd))),
     refl,
   )
-  fault_refused reading.Ambiguous true written no_result read long short =
+  fault_refused reading.Ambiguous true written no_result read long short left =
       (fault_form_long (form_of written no_result r.line.now.position read) (long refl), refl)
-  fault_refused reading.Ambiguous false written no_result read long short = (
+  fault_refused reading.Ambiguous false written no_result read long short left = (
     ambiguous (opened_open g p r.tree.paths h.opened) (omega (arith, short refl, length_now)) (record {
       form = form_of written no_result r.line.now.position read;
       refused = here reading.Ambiguous read;
     }),
     refl,
   )
-  fault_refused reading.Memory full written no_result read long short = tt
+  fault_refused reading.Memory full written no_result read long short left = tt
 
-  -- the path before a move stands in the tree, and the move can follow it
+  -- no move is named, nor one after the only reply
+  pub fault_forced : (why : MovetextFault) → t.what ≡ Written → (IsResult t → ⊥)
+      → IsRead g r.line.now.position (plain t.text) (Err reading.NoSuchMove) → r.line.now.moves < MAX_PATH
+      → r.line.now.moves % 2 ≡ 1 → IsForcedOr {B = B} g r.line.now.position t (Err why) → IsFaultOf g p ts t why
+  fault_forced why written no_result read short odd is =
+      faults_forced why (record {
+        form = form_of written no_result r.line.now.position read;
+        refused = here reading.NoSuchMove read;
+      }) (omega (arith, short, length_now)) (ap (λ n. n % 2) (sym length_now) ∙ odd)
+      (subst (λ q. IsForcedOr {B = B} g q t (Err why)) position_now is)
+
+  pub step_forced : t.what ≡ Written → (IsResult t → ⊥)
+      → IsRead g r.line.now.position (plain t.text) (Err reading.NoSuchMove) → r.line.now.moves < MAX_PATH
+      → r.line.now.moves % 2 ≡ 1 → (result : Result (Step B) MovetextFault)
+      → IsForcedOr g r.line.now.position t result → IsStepOf g p ts t r result
+  step_forced written no_result read short odd (Ok (Played m)) is = absurd is
+  step_forced written no_result read short odd (Ok (Forced x m)) is = (
+    (
+      odd,
+      record {
+        none = read;
+        only = is.0;
+        next = record { written = written; no_result = no_result; named = is.1 };
+      },
+    ),
+    short,
+  )
+  step_forced written no_result read short odd (Err why) is = fault_forced why written no_result read short odd is
+
+  -- ---- noting moves
+  pub first_ready : (m : Move) → Legal g r.line.now.position m → r.line.now.moves < MAX_PATH → CanNote g r m
+  first_ready m legal short =
+      let path : List Move = h.before ++ h.moves in
+      record {
+        path = path;
+        cursor = record {
+          there = (opened_line g p r.tree.paths h.opened).now.there;
+          position = position_now ∙ ap (λ x. after g x path) (sym h.start);
+          many = length_now;
+        };
+        legal = legal;
+        short = short;
+      }
+
+  -- the path before a move stands in the tree
   known_now : beginning_at r.tree.paths (place_of r.line.now.node) ≡ Some (h.before ++ h.moves)
   known_now = (opened_line g p r.tree.paths h.opened).now.there
 
-  pub can_note : (m : Move) (then : Placement) → Legal g r.line.now.position m → r.line.now.moves < MAX_PATH
-      → then ≡ play g r.line.now.position m
-      → (b : List Move) × (beginning_at r.tree.paths (place_of r.line.now.node) ≡ Some b)
-      × CanFollow g r.tree.start b m × (then ≡ play g (after g r.tree.start b) m)
-  can_note m then legal short played =
-      let path : List Move = h.before ++ h.moves in
-      let here : r.line.now.position ≡ after g r.tree.start path =
-      position_now ∙ ap (λ x. after g x path) (sym h.start) in (
-        path,
-        known_now,
-        record { legal = subst (λ x. Legal g x m) here legal; short = omega (arith, short, length_now) },
-        played ∙ ap (λ x. play g x m) here,
-      )
-
-  pub taken_move : (next : Reader B) (m : Move) (node : Node) → next.tree.start ≡ r.tree.start
-      → IsMove g r.line.now.position t m
-      → r.line.now.moves < MAX_PATH
-      → ((b : List Move) → beginning_at r.tree.paths (place_of r.line.now.node) ≡ Some b → IsNoted r.tree.paths
-      (b ++ m ∷ []) next.tree.paths) → ((b : List Move) → beginning_at r.tree.paths (place_of r.line.now.node) ≡ Some b
-      → slice_get next.tree.paths node.0 ≡ Some (b ++ m ∷ []))
-      → next.line ≡ record {
-        now = record {
-          node = Some node;
-          position = play g r.line.now.position m;
-          moves = r.line.now.moves + 1;
-        };
-        before = Some r.line.now;
-      } → next.outer.items ≡ r.outer.items → HasRead g p (ts ++ t ∷ []) next
-  taken_move next m node start is short noted there line outer =
+  pub taken_move : (next : Reader B) (m : Move) → IsMove g r.line.now.position t m → r.line.now.moves < MAX_PATH
+      → HasNoted g r next m → HasRead g p (ts ++ t ∷ []) next
+  taken_move next m is short n =
       let path : List Move = h.before ++ h.moves in
       record {
         room = h.room;
         before = h.before;
         moves = h.moves ++ m ∷ [];
         paths = h.paths ++ (path ++ m ∷ []) ∷ [];
-        start = start ∙ h.start;
+        start = n.start ∙ h.start;
         opened =
-            rw (line, outer) (read_move g p r.tree.paths next.tree.paths h.room ts r.line r.outer.items h.before
-            h.moves h.paths t m node h.opened (omega (arith, short, length_now))
-            (subst (λ x. IsMove g x t m) position_now is) (noted path known_now) (there path known_now));
+            rw (n.line, n.outer) (read_move g p r.tree.paths next.tree.paths h.room ts r.line r.outer.items h.before
+            h.moves h.paths t m n.node h.opened (omega (arith, short, length_now))
+            (subst (λ x. IsMove g x t m) position_now is) (n.noted path known_now) (n.there path known_now));
         distinct = distinct_noted h.paths r.tree.paths next.tree.paths (path ++ m ∷ []) h.distinct
-            (noted path known_now);
+            (n.noted path known_now);
       }
+
+  pub taken_forced : (mid next : Reader B) (x m : Move) → r.line.now.moves % 2 ≡ 1
+      → IsLeftOut g r.line.now.position t x m → r.line.now.moves < MAX_PATH → HasNoted g r mid x
+      → HasNoted g mid next m → HasRead g p (ts ++ t ∷ []) next
+  taken_forced mid next x m odd is short n k =
+      let path : List Move = h.before ++ h.moves in
+      let known : beginning_at mid.tree.paths (place_of mid.line.now.node) ≡ Some (path ++ x ∷ []) =
+      ap (λ l. beginning_at mid.tree.paths (place_of l.now.node)) n.line ∙ n.there path known_now in
+      let line : next.line ≡ record {
+        now = record {
+          node = Some k.node;
+          position = play g (play g r.line.now.position x) m;
+          moves = r.line.now.moves + 1 + 1;
+        };
+        before = Some (record {
+          node = Some n.node;
+          position = play g r.line.now.position x;
+          moves = r.line.now.moves + 1;
+        });
+      } = k.line ∙ ap (λ l. record {
+        now = record {
+          node = Some k.node;
+          position = play g l.now.position m;
+          moves = l.now.moves + 1;
+        };
+        before = Some l.now;
+      }) n.line in
+      record {
+        room = h.room;
+        before = h.before;
+        moves = (h.moves ++ x ∷ []) ++ m ∷ [];
+        paths = (h.paths ++ (path ++ x ∷ []) ∷ []) ++ ((path ++ x ∷ []) ++ m ∷ []) ∷ [];
+        start = k.start ∙ (n.start ∙ h.start);
+        opened =
+            rw (line, k.outer, n.outer) (read_forced g p r.tree.paths mid.tree.paths next.tree.paths h.room ts r.line
+            r.outer.items h.before h.moves h.paths t x m n.node k.node h.opened (omega (arith, short, length_now))
+            (ap (λ z. z % 2) (sym length_now) ∙ odd) (subst (λ z. IsLeftOut g z t x m) position_now is)
+            (n.noted path known_now) (k.noted (path ++ x ∷ []) known) (n.there path known_now)
+            (k.there (path ++ x ∷ []) known));
+        distinct =
+            distinct_noted (h.paths ++ (path ++ x ∷ []) ∷ []) mid.tree.paths next.tree.paths
+            ((path ++ x ∷ []) ++ m ∷ []) (distinct_noted h.paths r.tree.paths mid.tree.paths (path ++ x ∷ [])
+            h.distinct (n.noted path known_now)) (k.noted (path ++ x ∷ []) known);
+      }
+
+-- a legal move can be noted in the tree of a reader
+pub note_ready : {B : Type 0} (g : Geometry) (r : Reader B) (m : Move) (then : Placement) → CanNote g r m
+    → then ≡ play g r.line.now.position m
+    → (b : List Move) × (beginning_at r.tree.paths (place_of r.line.now.node) ≡ Some b)
+    × CanFollow g r.tree.start b m × (then ≡ play g (after g r.tree.start b) m)
+note_ready g r m then c played = (
+  c.path,
+  c.cursor.there,
+  record {
+    legal = subst (λ x. Legal g x m) c.cursor.position c.legal;
+    short = omega (arith, c.short, c.cursor.many);
+  },
+  played ∙ ap (λ x. play g x m) c.cursor.position,
+)
+
+-- and another one after it
+pub next_ready : {B : Type 0} (g : Geometry) (r mid : Reader B) (x m : Move) → CanNote g r x → HasNoted g r mid x
+    → Legal g (play g r.line.now.position x) m → r.line.now.moves + 1 < MAX_PATH → CanNote g mid m
+next_ready g r mid x m c n legal short = record {
+  path = c.path ++ x ∷ [];
+  cursor = record {
+    there = ap (λ l. beginning_at mid.tree.paths (place_of l.now.node)) n.line ∙ n.there c.path c.cursor.there;
+    position =
+        ap (λ l. l.now.position) n.line ∙ (ap (λ z. play g z x) c.cursor.position
+        ∙ (sym (after_append g r.tree.start c.path x) ∙ ap (λ z. after g z (c.path ++ x ∷ [])) (sym n.start)));
+    many =
+        ap (λ l. l.now.moves) n.line ∙ (ap (λ k. k + 1) c.cursor.many ∙ sym (length-append c.path (x ∷ [])));
+  };
+  legal = subst (λ z. Legal g z m) (sym (ap (λ l. l.now.position) n.line)) legal;
+  short = omega (arith, short, ap (λ l. l.now.moves) n.line);
+}
 
 -- ---- what fits a text is a legal move
 legal_at : (g : Geometry) (p : Placement) (m : Move) (k : ℕ) → 0 < k → (landings : List ℕ) → IsPathOf g p m k landings

@@ -4,12 +4,12 @@ use Rattle.std.specs.Prelude.{length}
 use Rattle.std.proofs.Common.{zero, suc}
 use Rattle.dw_board.specs.Geometry.{Geometry}
 use Rattle.dw_board.specs.Placement.{Placement}
-use Rattle.dw_moves.specs.Moves.{Move}
+use Rattle.dw_moves.specs.Moves.{Legal, Move, play}
 use Rattle.dw_notation.specs.MoveReading.{Named, Names, IsRead}
 use Rattle.dw_notation.specs.declared.read_move.MoveFault.{MoveFault}
 use Rattle.dw_notation.specs.declared.read_move.MoveFault.TheVariants as reading
 use Rattle.dw_games.specs.Tokens.{Token, AreTokens}
-use Rattle.dw_games.specs.Play.{IsResult, crossed, after, IsVariation, IsPlay, IsOver}
+use Rattle.dw_games.specs.Play.{IsResult, IsDefence, IsOnlyMove, plain, after, IsVariation, IsPlay, IsOver}
 use Rattle.dw_games.specs.declared.tokens.TokenKind.TheVariants.{Comment, Written, Opens, Closes, CutOff, Unknown}
 use Rattle.dw_games.specs.declared.movetext.TheConstants.{MAX_PATH, MAX_OPEN, MAX_MOVETEXT}
 use Rattle.dw_games.specs.Movetext.{IsTree}
@@ -19,7 +19,7 @@ use Rattle.dw_games.specs.declared.fault.MovetextFault.TheVariants.{Refused, Mem
 use Rattle.dw_games.specs.declared.fault.MovetextFaultKind.{MovetextFaultKind}
 use Rattle.dw_games.specs.declared.fault.MovetextFaultKind.TheVariants.{Token as NoToken, NoSuchMove, Ambiguous}
 use Rattle.dw_games.specs.declared.fault.MovetextFaultKind.TheVariants.{Variation, Unclosed, Rest, TooDeep, TooLong}
-use Rattle.dw_games.specs.declared.fault.MovetextFaultKind.TheVariants.{TooLarge, Empty}
+use Rattle.dw_games.specs.declared.fault.MovetextFaultKind.TheVariants.{TooLarge, Empty, Reply}
 
 -- the number of a fault
 abbrev pub number_of : MovetextFaultKind → ℕ
@@ -33,6 +33,7 @@ number_of TooDeep = 7
 number_of TooLong = 8
 number_of TooLarge = 9
 number_of Empty = 10
+number_of Reply = 12
 
 -- the name of a fault
 abbrev pub name_of : MovetextFaultKind → List ℕ
@@ -46,6 +47,7 @@ name_of TooDeep = codes "too deep"
 name_of TooLong = codes "too long"
 name_of TooLarge = codes "too large"
 name_of Empty = codes "empty"
+name_of Reply = codes "reply"
 
 -- These tokens have no result so far. The number says how many more variations may be opened after them; `before` are
 -- the moves before the innermost open variation, and `moves` are its own.
@@ -63,12 +65,12 @@ pub record HasForm (g : Geometry) (t : Token) : Type 0 where
   pub written : t.what ≡ Written
   pub no_result : IsResult t → ⊥
   pub named : Named
-  pub form : Names g (crossed t.text) named
+  pub form : Names g (plain t.text) named
 
 -- a token has the form of a move, but it names no legal move of this position, or several
 pub record IsRefused (g : Geometry) (p : Placement) (t : Token) (why : MoveFault) : Type 0 where
   pub form : HasForm g t
-  pub refused : IsRead g p (crossed t.text) (Err why)
+  pub refused : IsRead g p (plain t.text) (Err why)
 
 -- a token is neither a result nor of the form of a move
 pub record IsNeither (g : Geometry) (t : Token) : Type 0 where
@@ -80,16 +82,46 @@ pub record IsNeither (g : Geometry) (t : Token) : Type 0 where
 abbrev pub IsUnreadable : Geometry → Token → Type 0
 IsUnreadable g t = (t.what ≡ Unknown) ⊎ ((t.what ≡ CutOff) ⊎ IsNeither g t)
 
+-- a text names a legal move of a position, or several
+abbrev pub IsNamed : Geometry → Placement → List ℕ → Type 0
+IsNamed g p text = ((m : Move) × IsRead g p text (Ok m)) ⊎ IsRead g p text (Err reading.Ambiguous)
+
+-- a text names no legal move after any legal reply
+abbrev pub NamesNoneBehind : Geometry → Placement → List ℕ → Type 0
+NamesNoneBehind g p text = (reply : Move) → Legal g p reply
+    → IsRead g (play g p reply) text (Err reading.NoSuchMove)
+
+-- two legal moves
+pub record HasTwoMoves (g : Geometry) (p : Placement) : Type 0 where
+  pub first : Move
+  pub second : Move
+  pub legal : Legal g p first
+  pub legal_too : Legal g p second
+  pub differ : first ≡ second → ⊥
+
 -- after these tokens, the next one has a fault of this kind
 pub data FaultAt (g : Geometry) (p : Placement) : List Token → Token → MovetextFaultKind → Type 0 where
   unreadable : {room : ℕ} {ts : List Token} {before moves : List Move} {t : Token}
       → IsOpen g p room ts before moves → IsUnreadable g t → FaultAt g p ts t NoToken
   no_such_move : {room : ℕ} {ts : List Token} {before moves : List Move} {t : Token}
       → IsOpen g p room ts before moves → length (before ++ moves) < MAX_PATH
-      → IsRefused g (after g p (before ++ moves)) t reading.NoSuchMove → FaultAt g p ts t NoSuchMove
+      → IsRefused g (after g p (before ++ moves)) t reading.NoSuchMove
+      → (IsDefence (before ++ moves) → NamesNoneBehind g (after g p (before ++ moves)) (plain t.text))
+      → FaultAt g p ts t NoSuchMove
   ambiguous : {room : ℕ} {ts : List Token} {before moves : List Move} {t : Token}
       → IsOpen g p room ts before moves → length (before ++ moves) < MAX_PATH
       → IsRefused g (after g p (before ++ moves)) t reading.Ambiguous → FaultAt g p ts t Ambiguous
+  ambiguous_after_reply : {room : ℕ} {ts : List Token} {before moves : List Move} {t : Token} (reply : Move)
+      → IsOpen g p room ts before moves → length (before ++ moves) < MAX_PATH → IsDefence (before ++ moves)
+      → IsRefused g (after g p (before ++ moves)) t reading.NoSuchMove
+      → IsOnlyMove g (after g p (before ++ moves)) reply
+      → IsRead g (play g (after g p (before ++ moves)) reply) (plain t.text) (Err reading.Ambiguous)
+      → FaultAt g p ts t Ambiguous
+  no_reply : {room : ℕ} {ts : List Token} {before moves : List Move} {t : Token} (reply : Move)
+      → IsOpen g p room ts before moves → length (before ++ moves) < MAX_PATH → IsDefence (before ++ moves)
+      → IsRefused g (after g p (before ++ moves)) t reading.NoSuchMove → HasTwoMoves g (after g p (before ++ moves))
+      → Legal g (after g p (before ++ moves)) reply
+      → IsNamed g (play g (after g p (before ++ moves)) reply) (plain t.text) → FaultAt g p ts t Reply
   no_move_before : {room : ℕ} {ts : List Token} {before : List Move} {t : Token} → IsOpen g p room ts before []
       → t.what ≡ Opens → FaultAt g p ts t Variation
   none_open : {ts : List Token} {paths : List (List Move)} {t : Token} → IsPlay g p ts paths → t.what ≡ Closes

@@ -1,3 +1,4 @@
+pub mod Signs
 pub mod Tokens
 pub mod Play
 pub mod Movetext

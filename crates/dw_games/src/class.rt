@@ -2,17 +2,15 @@
 ghost use Rattle.std.specs.Prelude.{◌≡◌};
 ghost use Rattle.dw_games.specs.inner.Classes.{test_of};
 
-use dw_notation::bytes::{ends_line, is_space};
+use dw_notation::bytes::{ends_line, is_blank, is_space};
 
 /// A class of bytes. Runs of one class make up the tokens of a movetext and the space between tags.
 #[derive(Clone, Copy)]
 pub(crate) enum Class {
+    /// A space or a tab.
+    Blank,
     Digit,
     Dot,
-    /// `!` and `?`.
-    Praise,
-    /// The bytes of moves and results: digits, `-`, `x`, `X`, `:` and `/`.
-    Written,
     /// All but `}`.
     Inside,
     /// All but the end of a line.
@@ -27,12 +25,9 @@ impl Class {
         ensures { result ≡ test_of self byte }
     {
         match self {
+            Class::Blank => is_blank(byte),
             Class::Digit => byte.is_ascii_digit(),
             Class::Dot => byte == b'.',
-            Class::Praise => byte == b'!' || byte == b'?',
-            Class::Written => {
-                byte.is_ascii_digit() || matches!(byte, b'-' | b'x' | b'X' | b':' | b'/')
-            }
             Class::Inside => byte != b'}',
             Class::InLine => !ends_line(byte),
             Class::Space => is_space(byte),

@@ -8,7 +8,7 @@ use std::alloc::AllocError;
 use std::fmt;
 use thiserror::Error;
 
-/// The kind of fault in a movetext. Its number is the place of the variant in this list, from 1 on.
+/// The kind of fault in a movetext. Its number is the place of the variant in this list, from 1 on, but 12 for `Reply`.
 #[derive(Clone, Copy, Debug, PartialEq, Eq)]
 pub enum MovetextFaultKind {
     /// A byte that begins no token, a token that ends too soon, or one that is neither a result nor written like a
@@ -32,6 +32,8 @@ pub enum MovetextFaultKind {
     TooLarge,
     /// No move at all.
     Empty,
+    /// A reply is left out, and the defender has others.
+    Reply,
 }
 
 impl MovetextFaultKind {
@@ -50,6 +52,7 @@ impl MovetextFaultKind {
             MovetextFaultKind::TooLong => 8,
             MovetextFaultKind::TooLarge => 9,
             MovetextFaultKind::Empty => 10,
+            MovetextFaultKind::Reply => 12,
         }
     }
 
@@ -68,6 +71,7 @@ impl MovetextFaultKind {
             MovetextFaultKind::TooLong => "too long",
             MovetextFaultKind::TooLarge => "too large",
             MovetextFaultKind::Empty => "empty",
+            MovetextFaultKind::Reply => "reply",
         }
     }
 }

@@ -131,10 +131,13 @@ impl<'a, B: Board, S: Source> Games<'a, B, S> {
         ensures source { source_of result ≡ source.old }
         ensures ahead { (bytes : List ℕ) (games : List NumberedGame)
             → (reading_of result).ahead B.geometry bytes games → AreGames B.geometry bytes games }
+        ensures some { (bytes : List ℕ) → (games : List NumberedGame)
+            × (reading_of result).ahead B.geometry bytes games }
         ensures met_end { (reading_of result).met_end ≡ false }
         ensures is_over { (reading_of result).is_over ≡ false }
         ensures fault { (reading_of result).fault ≡ None }
     {
+        dw_notation::laws::texts_of_tags_say();
         Games {
             alloc,
             source,

@@ -17,6 +17,7 @@ pub mod movetext;
 mod play;
 mod reader;
 mod section;
+mod signs;
 pub mod tags;
 pub mod tokens;
 pub mod tree;

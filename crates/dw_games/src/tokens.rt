@@ -1,22 +1,25 @@
 //! The tokens of a movetext, read from the front.
 ghost use Rattle.std.specs.Prelude.{◌≡◌, ◌+◌, ◌≤◌, ◌<◌, ℕ, List, [], ◌∷◌, true, false, length, take, drop, MatchOption};
+ghost use Rattle.std.specs.Prelude.{get_or, ◌==◌};
 ghost use Rattle.std.specs.Prelude.{IfSome};
 ghost use Rattle.dw_board.specs.FenTokens.{is_digit};
-ghost use Rattle.dw_notation.specs.Tags.{is_space as is_space_byte};
-ghost use Rattle.dw_games.specs.Tokens.{IsRun, IsToken, AreTokens, begins_with};
-ghost use Rattle.dw_games.specs.inner.Classes.{test_of};
+ghost use Rattle.dw_games.specs.Tokens as of;
+ghost use Rattle.dw_games.specs.Tokens.{IsRun, IsToken, AreTokens, begins_mark, begins_with, behind as rest_behind};
+ghost use Rattle.dw_games.specs.inner.Classes.{begins_between, test_of};
 
 use crate::class::Class;
 use crate::fault::{MovetextFault, MovetextFaultKind};
 use crate::movetext::MAX_MOVETEXT;
+use crate::signs::{Signs, row_of};
 use dw_notation::bytes::{ends_line, is_space};
 
 /// The kinds of tokens of a movetext.
 #[derive(Clone, Copy, Debug, PartialEq, Eq)]
 pub enum TokenKind {
-    /// `{` up to the first `}`; `;` to the end of the line, and `%` too if it begins the line.
+    /// `{` up to the first `}`; `;` to the end of the line, but not before a move number and a move; and `%` too if it
+    /// begins the line.
     Comment,
-    /// The number of a move, or a mark: `1.`, `...`, `$5`, `!?`. It is passed over.
+    /// The number of a move, or a mark: `1.`, `1)`, `...`, `$5`, `!?`, `+`, `W+`, `x`. It is passed over.
     Passed,
     /// A move or a result, or bytes that are written like these and are neither.
     Written,
@@ -88,7 +91,7 @@ impl<'a> Tokens<'a> {
         self.pass_blanks();
         let (_, rest) = self.text.split_at(self.at);
         let (first, behind) = rest.split_first()?;
-        let (what, more) = token_of(*first, behind, self.fresh);
+        let (what, more) = token_of(rest, *first, behind, self.fresh);
         let (text, _) = rest.split_at(1 + more);
         let place = self.at as u32 + 1;
         self.at += 1 + more;
@@ -100,7 +103,7 @@ impl<'a> Tokens<'a> {
     fn pass_blanks(&mut self)
         ensures tokens { (tokens : _) (rest : _) → AreAhead self.new tokens rest
             → AreAhead self.old tokens rest }
-        ensures no_blank { begins_with is_space_byte (bytes_ahead self.new) ≡ false }
+        ensures no_blank { begins_between (bytes_ahead self.new) ≡ false }
         ensures not_longer { length (bytes_ahead self.new) ≤ length (bytes_ahead self.old) }
         ensures same { self.new.text ≡ self.old.text }
     {
@@ -115,23 +118,73 @@ fn past_blanks(text: &[u8], from: usize, begins: bool) -> (usize, bool)
     requires { from ≤ length text.now }
     ensures low { from ≤ result.0 }
     ensures high { result.0 ≤ length text.now }
-    ensures no_blank { begins_with is_space_byte (drop result.0 text.now) ≡ false }
+    ensures no_blank { begins_between (drop result.0 text.now) ≡ false }
     ensures tokens { (tokens : _) (rest : _) → AreTokens (result.0 + 1) result.1 (drop result.0 text.now) tokens rest
         → AreTokens (from + 1) begins (drop from text.now) tokens rest }
 {
     let mut at = from;
     let mut fresh = begins;
-    'blanks: while at < text.len() && is_space(text[at]) {
+    'blanks: while at < text.len() && is_between(text, at) {
         fresh = ends_line(text[at]);
         at += 1;
     }
     (at, fresh)
 }
 
-/// Returns the token that begins with this byte, which is no blank: its kind, and how many of the next bytes belong to
-/// it.
-fn token_of(first: u8, behind: &[u8], fresh: bool) -> (TokenKind, usize)
-    requires { is_space_byte first ≡ false }
+/// Returns whether the byte at a place stands between tokens: a space, the end of a line, a comma, or a semicolon
+/// before a move number and a move.
+fn is_between(text: &[u8], at: usize) -> bool
+    requires { at < length text.now }
+    ensures { result ≡ of.is_between (get_or text.now at 0) (drop (at + 1) text.now) }
+{
+    let byte = text[at];
+    let (_, rest) = text.split_at(at + 1);
+    is_space(byte) || byte == b',' || byte == b';' && numbers_move(rest)
+}
+
+/// Returns whether a text begins with blanks, the number of a move, blanks, and a move or a parenthesis.
+fn numbers_move(text: &[u8]) -> bool
+    ensures { result ≡ of.numbers_move text.now }
+{
+    let number = past(text, Class::Blank);
+    let stop = past(number, Class::Digit);
+    matches!(number, [b'0'..=b'9', ..]) && stops_number(stop)
+}
+
+/// Returns whether a text begins with the end of the number of a move, blanks, and a move or a parenthesis.
+fn stops_number(text: &[u8]) -> bool
+    ensures { result ≡ of.stops_number text.now }
+{
+    match text.split_first() {
+        Some((b'.', rest)) => begins_move(past(past(rest, Class::Dot), Class::Blank)),
+        Some((b')', rest)) => begins_move(past(rest, Class::Blank)),
+        _ => false,
+    }
+}
+
+/// Returns whether a text begins as a move does, or a move in parentheses.
+fn begins_move(text: &[u8]) -> bool
+    ensures { result ≡ of.begins_move text.now }
+{
+    match text {
+        [b'0'..=b'9' | b'(', ..] | [b'a'..=b'h', b'1'..=b'8', ..] => true,
+        _ => false,
+    }
+}
+
+/// Returns the rest of a text after the bytes of a class at its front.
+fn past(text: &[u8], class: Class) -> &[u8]
+    ensures { result.now ≡ rest_behind (test_of class) text.now }
+{
+    let (_, rest) = text.split_at(run_of(text, class));
+    rest
+}
+
+/// Returns the token at the front of a text, given its first byte, which is no blank, and the bytes after that: the
+/// token's kind, and how many of the bytes after its first belong to it.
+fn token_of(text: &[u8], first: u8, behind: &[u8], fresh: bool) -> (TokenKind, usize)
+    requires text { text.now ≡ first ∷ behind.now }
+    requires no_blank { of.is_between first behind.now ≡ false }
     ensures within { result.1 ≤ length behind.now }
     ensures token { IsToken fresh result.0 (first ∷ take result.1 behind.now) (drop result.1 behind.now) }
 {
@@ -144,10 +197,55 @@ fn token_of(first: u8, behind: &[u8], fresh: bool) -> (TokenKind, usize)
         b'(' => (TokenKind::Opens, 0),
         b')' => (TokenKind::Closes, 0),
         b'*' => (TokenKind::Written, 0),
-        _ if Class::Praise.has(first) => (TokenKind::Passed, run_of(behind, Class::Praise)),
         _ if Class::Digit.has(first) => number_or_written(first, behind),
-        _ => (TokenKind::Unknown, 0),
+        _ => match mark_at(text) {
+            0 => (TokenKind::Unknown, 0),
+            length => (TokenKind::Passed, length - 1),
+        },
     }
+}
+
+/// Returns how many bytes the mark without a number at the front of a text has, or 0.
+fn mark_at(text: &[u8]) -> usize
+    ensures within { result ≤ length text.now }
+    ensures none { result ≡ 0 → begins_mark text.now ≡ false }
+    ensures mark { 0 < result → (fresh : _) → IsToken fresh TokenKind.Passed (take result text.now)
+        (drop result text.now) }
+{
+    let row = row_of(text, Signs::Mark);
+    if row > 0 {
+        return row;
+    }
+    if is_lone_cross(text) {
+        return Signs::Cross.width(text);
+    }
+    if has_plus(text) { 2 } else { 0 }
+}
+
+/// Returns whether a text begins with a cross, and nothing more that moves and results are written with.
+fn is_lone_cross(text: &[u8]) -> bool
+    ensures { result ≡ of.is_lone_cross text.now }
+{
+    let cross = Signs::Cross.width(text);
+    let (_, rest) = text.split_at(cross);
+    cross != 0 && Signs::Written.width(rest) == 0
+}
+
+/// Returns whether a text begins with a letter other than x, and a plus sign.
+fn has_plus(text: &[u8]) -> bool
+    ensures { result ≡ of.has_plus text.now }
+{
+    let Some((letter, rest)) = text.split_first() else {
+        return false;
+    };
+    is_letter(*letter) && matches!(rest, [b'+', ..])
+}
+
+/// Returns whether a byte is an ASCII letter, but no x.
+fn is_letter(byte: u8) -> bool
+    ensures { result ≡ of.is_letter byte }
+{
+    matches!(byte, b'A'..=b'Z' | b'a'..=b'z') && byte != b'X' && byte != b'x'
 }
 
 /// Returns the kind and further length of a token that begins with `{`: a comment up to its `}`, or all bytes, cut off,
@@ -191,8 +289,8 @@ fn numbered_mark(behind: &[u8]) -> (TokenKind, usize)
     }
 }
 
-/// Returns the kind and further length of a token that begins with a digit: its digits and the dots after them, if
-/// there are dots, or all bytes that moves and results are written with.
+/// Returns the kind and further length of a token that begins with a digit: the number of a move, that is its digits
+/// and the dots or the `)` after them, or all bytes that moves and results are written with.
 fn number_or_written(first: u8, behind: &[u8]) -> (TokenKind, usize)
     requires { is_digit first ≡ true }
     ensures within { result.1 ≤ length behind.now }
@@ -201,11 +299,20 @@ fn number_or_written(first: u8, behind: &[u8]) -> (TokenKind, usize)
     let digits = run_of(behind, Class::Digit);
     let (_, rest) = behind.split_at(digits);
     let dots = run_of(rest, Class::Dot);
-    if dots == 0 {
-        (TokenKind::Written, run_of(behind, Class::Written))
-    } else {
+    if dots > 0 {
         (TokenKind::Passed, digits + dots)
+    } else if is_closed(rest) {
+        (TokenKind::Passed, digits + 1)
+    } else {
+        (TokenKind::Written, row_of(behind, Signs::Written))
     }
+}
+
+/// Returns whether a text begins with `)`.
+fn is_closed(text: &[u8]) -> bool
+    ensures { result ≡ begins_with (λ byte. byte == 41) text.now }
+{
+    matches!(text, [b')', ..])
 }
 
 /// Returns how many bytes of a class stand at the front of a text.

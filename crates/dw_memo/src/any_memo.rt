@@ -26,6 +26,8 @@ impl<B: Board> Memo<B> for AnyMemo<B> {
 
     ghost may_answer = { λ _. ⊤ };
 
+    ghost keeps = { ⊥ };
+
     fn look(&mut self, position: &Position<B>) -> Option<Bounds> {
         match self {
             AnyMemo::None(memo) => memo.look(position),

@@ -51,6 +51,8 @@ impl<B: Board> Memo<B> for DeepMemo<B> {
 
     ghost may_answer = { λ _. ⊤ };
 
+    ghost keeps = { ⊥ };
+
     fn look(&mut self, position: &Position<B>) -> Option<Bounds> {
         self.table.look(position)
     }

@@ -1,5 +1,5 @@
 //! The trait of memos, the caches of bounds.
-ghost use Rattle.std.specs.Prelude.{◌≡◌, ℕ, [], true, false};
+ghost use Rattle.std.specs.Prelude.{◌≡◌, ℕ, [], true, false, ⊤};
 ghost use Rattle.dw_memo.specs.Content.{Content, IsMap, SameEntries, IsFound, MayForget};
 ghost use Rattle.dw_memo.specs.Noting.{IsNote, IsOneLost};
 
@@ -16,6 +16,7 @@ pub enum Noted {
 /// A map from positions to bounds that may forget. It counts the entries that it forgets.
 ///
 /// In contracts, `content` is the map, `dropped` is the count, and `may_answer` states which answers a note can give.
+/// `keeps` states that `forget` gives up no entry, by default that it is so.
 pub trait Memo<B: Board> {
     ghost use Rattle.dw_memo.specs.declared.memo.Noted.{Noted};
 
@@ -24,6 +25,8 @@ pub trait Memo<B: Board> {
     ghost dropped: { Self → ℕ };
 
     ghost may_answer: { Noted → Type 0 };
+
+    ghost keeps: { Type 0 } = { ⊤ };
 
     /// Returns the bounds of a position, the side to move included, or `None` if it is not held.
     fn look(&mut self, position: &Position<B>) -> Option<Bounds>
@@ -61,6 +64,7 @@ pub trait Memo<B: Board> {
         ensures map { IsMap (content self.old) }
         ensures map_after { IsMap (content self.new) }
         ensures forgets { MayForget (content self.old) (content self.new) }
+        ensures keeps { keeps → SameEntries (content self.old) (content self.new) }
         ensures dropped { dropped self.new ≡ dropped self.old }
     {
         // This call shows that the content is a map. The law `keeps_its_map` cannot be called here.

@@ -1,9 +1,11 @@
 //! The sound neighbours of a position, each in a line as soon as it is known.
-ghost use Rattle.std.specs.Prelude.{◌≡◌, ℕ, ◌+◌, ◌≤◌, false, true, take, length, List, Some, Err, IfOk, IfSome};
+ghost use Rattle.std.specs.Prelude.{◌≡◌, ◌⊎◌, ℕ, ◌+◌, ◌-◌, ◌≤◌, false, true, take, length, List, Some, Err, IfOk};
+ghost use Rattle.std.specs.Prelude.{IfSome};
 ghost use Rattle.std.specs.Prelude.{IsErrOf, OnOk, MatchOption, map};
 ghost use Rattle.dw_moves.specs.Moves.{Move as AnyMove};
 ghost use Rattle.dw_verdict.specs.Verdict.{IsVerdict, sound};
 ghost use Rattle.dw_notation.specs.Streams.{Appends};
+ghost use Rattle.dw_notation.specs.Writes.{StopsShort};
 ghost use Rattle.dw_board.specs.Placement.{Placement};
 ghost use Rattle.dw_memo.specs.Content.{IsMap};
 ghost use Rattle.dw_solve.specs.declared.stop.Stop.TheVariants as stops;
@@ -11,6 +13,7 @@ ghost use Rattle.dw_solve.specs.declared.stop.Stop.TheVariants.{Limit};
 ghost use Rattle.dw_solve.specs.Facts.{AreTrue};
 ghost use Rattle.dw_solve.specs.Searching.{IsCounted};
 ghost use Rattle.dw_mend.specs.Changes.{Change as Changed, AreNeighbours};
+ghost use Rattle.dw_mend.specs.MendText.{IsLineOf};
 ghost use Rattle.dw_mend.specs.Mending.{IsMendText, IsMendStop, AreBounded, AreMended, Counts};
 ghost use Rattle.dw_parts.specs.Parts.{part_of};
 ghost use Rattle.dw_mend.specs.Telling.{told_by};
@@ -95,7 +98,8 @@ impl From<WriteFault> for MendFault {
 /// the sink must not have failed. A neighbour that would take more positions than the bounds allow stays undecided, and
 /// is counted. The slices start again. Their watcher is told after each neighbour too, and makes way before each line
 /// is written. After a stop the lines of the first neighbours were written, all bounds in the memo are right, and the
-/// solver's limit is what it was. The error `Write` comes only if the sink failed.
+/// solver's limit is what it was. The error `Write` comes only if the sink failed; then these lines, or the whole text,
+/// were written up to some byte.
 pub fn mend<B: Board, M: Memo<B>, G: Guide<B>, W: Watcher, K: Sink>(
     alloc: Global,
     solver: &mut Solver<B, M, G>,
@@ -107,16 +111,25 @@ pub fn mend<B: Board, M: Memo<B>, G: Guide<B>, W: Watcher, K: Sink>(
     requires room { IfSome bounds.each (λ bound. 1 ≤ bound) }
     requires works { K.is_failed sink.old ≡ false }
     ensures text { IfOk result (λ mended. (text : List ℕ)
-        × IsMendText bounds.wording B.geometry position.now bounds.moves.value bounds.part.number bounds.part.parts
-        mended.all mended.sound mended.undecided text
+        × IsMendText bounds.wording B.geometry position.now bounds.moves.value bounds.each bounds.part.number
+        bounds.part.parts mended.all mended.sound mended.undecided (solver.new.expanded - solver.old.expanded) text
         × Appends (K.accepted sink.old) (K.accepted sink.new) text) }
     ensures bounded { IfOk result (λ mended. AreBounded bounds.each mended.all mended.undecided solver.old.expanded
         solver.new.expanded) }
-    ensures stopped { (stop : _) (all : List (Changed × Placement)) → AreNeighbours B.geometry position.now all
-        → result ≡ Err (because.Stopped stop)
-        → (text : List ℕ)
-        × IsMendStop bounds.wording B.geometry bounds.moves.value (part_of bounds.part.number bounds.part.parts all)
-        text × Appends (K.accepted sink.old) (K.accepted sink.new) text }
+    ensures stopped { (stop : _) → result ≡ Err (because.Stopped stop)
+        → (text : List ℕ) × ((all : List (Changed × Placement)) → AreNeighbours B.geometry position.now all
+        → IsMendStop bounds.wording B.geometry bounds.moves.value bounds.each
+        (part_of bounds.part.number bounds.part.parts all) text)
+        × Appends (K.accepted sink.old) (K.accepted sink.new) text }
+    ensures short { result ≡ Err because.Write
+        → (text : List ℕ) × StopsShort (K.accepted sink.old) (K.accepted sink.new) text
+        × (((all : List (Changed × Placement)) → AreNeighbours B.geometry position.now all
+        → IsMendStop bounds.wording B.geometry bounds.moves.value bounds.each
+        (part_of bounds.part.number bounds.part.parts all) text)
+        ⊎ ((mended sound undecided : ℕ) × IsMendText bounds.wording B.geometry position.now bounds.moves.value
+        bounds.each bounds.part.number bounds.part.parts mended sound undecided
+        (solver.new.expanded - solver.old.expanded) text
+        × AreBounded bounds.each mended undecided solver.old.expanded solver.new.expanded)) }
     ensures count { IsCounted solver.old.expanded solver.old.limit solver.new.expanded solver.new.limit }
     ensures stop { result ≡ Err (because.Stopped Limit) → solver.new.expanded ≡ solver.new.limit }
     ensures right { AreTrue B.geometry (M.content solver.new.memo) }
@@ -148,15 +161,22 @@ fn mend_these<B: Board, M: Memo<B>, G: Guide<B>, W: Watcher, K: Sink>(
     requires room { IfSome bounds.each (λ bound. 1 ≤ bound) }
     requires works { K.is_failed sink.old ≡ false }
     ensures text { IfOk result (λ mended. (text : List ℕ)
-        × AreMended bounds.wording B.geometry bounds.moves.value (map told_by some.now) text
-        (record { sound = mended.sound; undecided = mended.undecided })
+        × AreMended bounds.wording B.geometry bounds.moves.value bounds.each (map told_by some.now) text (record {
+          sound = mended.sound;
+          undecided = mended.undecided;
+          expanded = solver.new.expanded - solver.old.expanded;
+        })
         × Appends (K.accepted sink.old) (K.accepted sink.new) text) }
     ensures all { IfOk result (λ mended. mended.all ≡ length some.now) }
     ensures bounded { IfOk result (λ mended. AreBounded bounds.each mended.all mended.undecided solver.old.expanded
         solver.new.expanded) }
     ensures stopped { (stop : _) → result ≡ Err (because.Stopped stop)
-        → (text : List ℕ) × IsMendStop bounds.wording B.geometry bounds.moves.value (map told_by some.now) text
+        → (text : List ℕ)
+        × IsMendStop bounds.wording B.geometry bounds.moves.value bounds.each (map told_by some.now) text
         × Appends (K.accepted sink.old) (K.accepted sink.new) text }
+    ensures short { result ≡ Err because.Write
+        → (text : List ℕ) × StopsShort (K.accepted sink.old) (K.accepted sink.new) text
+        × IsMendStop bounds.wording B.geometry bounds.moves.value bounds.each (map told_by some.now) text }
     ensures leaves { Leaves B.geometry M.content solver.old solver.new result }
     ensures sink { OnOk result (K.is_failed sink.new ≡ false) }
     ensures write { result ≡ Err because.Write → K.is_failed sink.new ≡ true }
@@ -219,6 +239,10 @@ fn write_found<B: Board, M: Memo<B>, G: Guide<B>, W: Watcher, K: Sink>(
         × Appends (K.accepted sink.old) (K.accepted sink.new) text) }
     ensures goes { Goes bounds.each solver.old.expanded solver.old.limit solver.new.expanded solver.new.limit result }
     ensures stopped { (stop : _) → result ≡ Err (because.Stopped stop) → K.accepted sink.new ≡ K.accepted sink.old }
+    ensures short { result ≡ Err because.Write → (key : AnyMove) × (line : List ℕ)
+        × IsVerdict B.geometry neighbour.now.position bounds.moves.value (sound key)
+        × IsLineOf bounds.wording B.geometry bounds.moves.value (told_by neighbour.now) key line
+        × StopsShort (K.accepted sink.old) (K.accepted sink.new) line }
     ensures right { AreTrue B.geometry (M.content solver.new.memo) }
     ensures map { IsMap (M.content solver.new.memo) }
     ensures sink { OnOk result (K.is_failed sink.new ≡ false) }

@@ -16,3 +16,4 @@ pub mod SpendingLemmas
 pub mod JudgedWriteLemmas
 pub mod FaultLemmas
 pub mod RunStepLemmas
+pub mod WorkLemmas

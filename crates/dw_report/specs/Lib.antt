@@ -6,5 +6,6 @@ pub mod MoveTexts
 pub mod ListedText
 pub mod Report
 pub mod Running
+pub mod Work
 pub mod Laws
 pub mod inner

@@ -13,6 +13,8 @@ ghost use Rattle.dw_report.specs.inner.JudgedText.{IsTryText};
 ghost use Rattle.dw_report.specs.JudgedText.{IsJudgedText};
 ghost use Rattle.dw_report.specs.Running.{AreLinesOf};
 ghost use Rattle.dw_report.specs.inner.Running.{TextEnds, SinkEnds, Spends};
+ghost use Rattle.dw_solve.specs.Questions.{moment_of};
+ghost use Rattle.dw_solve.specs.Work.{Searched, cut_off};
 
 use crate::move_texts::joined_text;
 use crate::problem::TextFault;
@@ -45,9 +47,12 @@ pub(crate) fn write_judged<B: Board, K: Sink, M: Memo<B>, G: Guide<B>>(
         (AreLinesOf (IsJudgedText B.geometry position.now moves)) (K.accepted sink.old) (K.accepted sink.new) result }
     ensures sink { SinkEnds (K.is_failed sink.old) (K.is_failed sink.new) result }
     ensures spends { Spends solver.old solver.new result }
+    ensures searched { Searched B.geometry moves (cut_off result moves) (moment_of M.content M.dropped solver.old)
+        (moment_of M.content M.dropped solver.new) }
 {
     crate::laws::one_verdict();
     crate::laws::tries_are_listed();
+    dw_solve::laws::searches_add_up();
     dw_notation::laws::moves_have_texts();
     dw_notation::laws::lines_have_texts();
     write_verdict(alloc, sink, solver, position, moves)?;
@@ -88,6 +93,8 @@ fn write_verdict<B: Board, K: Sink, M: Memo<B>, G: Guide<B>>(
         (K.accepted sink.new) result }
     ensures sink { SinkEnds (K.is_failed sink.old) (K.is_failed sink.new) result }
     ensures spends { Spends solver.old solver.new result }
+    ensures searched { Searched B.geometry moves (cut_off result moves) (moment_of M.content M.dropped solver.old)
+        (moment_of M.content M.dropped solver.new) }
 {
     let verdict = verdict(alloc, solver, position, moves)?;
     let line = verdict_line(alloc, position, moves, &verdict)?;
@@ -109,7 +116,10 @@ fn write_tries<B: Board, K: Sink, M: Memo<B>, G: Guide<B>>(
         (AreLinesOf (AreTriesListed B.geometry position.now moves)) (K.accepted sink.old) (K.accepted sink.new) result }
     ensures sink { SinkEnds (K.is_failed sink.old) (K.is_failed sink.new) result }
     ensures spends { Spends solver.old solver.new result }
+    ensures searched { Searched B.geometry moves (cut_off result moves) (moment_of M.content M.dropped solver.old)
+        (moment_of M.content M.dropped solver.new) }
 {
+    dw_solve::laws::searches_add_up();
     dw_solve::laws::wins_are_decided();
     dw_moves::laws::moves_in_order();
     dw_moves::laws::moves_have_keys();
@@ -148,7 +158,10 @@ fn write_try<B: Board, K: Sink, M: Memo<B>, G: Guide<B>>(
         (K.accepted sink.new) result }
     ensures sink { SinkEnds (K.is_failed sink.old) (K.is_failed sink.new) result }
     ensures spends { Spends solver.old solver.new result }
+    ensures searched { Searched B.geometry moves (cut_off result moves) (moment_of M.content M.dropped solver.old)
+        (moment_of M.content M.dropped solver.new) }
 {
+    dw_solve::laws::searches_add_up();
     let after = play(position, mv);
     if let Some(reply) = refutation(alloc, solver, lineup, &after, moves - 1)? {
         let line = try_line(alloc, position, mv, &reply)?;

@@ -9,6 +9,9 @@ ghost use Rattle.dw_report.specs.inner.Running.{IsProblemPart};
 ghost use Rattle.dw_report.specs.Running.{AreLinesOf, IsRefused};
 ghost use Rattle.dw_report.specs.inner.Running.{TextEnds, SinkEnds, SearchesFor, IsRest, IsSound};
 ghost use Rattle.dw_report.specs.Running.{IsNoLine};
+ghost use Rattle.dw_report.specs.Work.{SearchedAfresh};
+ghost use Rattle.dw_solve.specs.Questions.{moment_of};
+ghost use Rattle.dw_solve.specs.Work.{cut_off};
 
 use crate::json_rows::{moves_row, refused_line, shown_row, write_row};
 use crate::judged::write_judged;
@@ -79,10 +82,14 @@ pub(crate) fn write_problem<B: Board, K: Sink, M: Memo<B>, G: Guide<B>>(
         (K.accepted sink.new) result }
     ensures sink { SinkEnds (K.is_failed sink.old) (K.is_failed sink.new) result }
     ensures searches { SearchesFor settings.now.command solver.old solver.new result }
+    ensures works { settings.now.command ≡ Command.Judge → SearchedAfresh B.geometry M.keeps settings.now.n
+        (cut_off result settings.now.n) (moment_of M.content M.dropped solver.old)
+        (moment_of M.content M.dropped solver.new) }
     ensures refused { IfOk result (λ refused. IsTrue refused
         ↔ IsRefused B.geometry (request_of settings.now) (numbered problem.now).found) }
 {
     crate::laws::one_report();
+    dw_solve::laws::searches_add_up();
     solver.keeps_its_limit();
     let known = known_text(problem, settings.command);
     write_all(sink, known.as_str().as_bytes())?;
@@ -115,11 +122,15 @@ fn write_rest<B: Board, K: Sink, M: Memo<B>, G: Guide<B>>(
         (K.accepted sink.new) result }
     ensures sink { SinkEnds (K.is_failed sink.old) (K.is_failed sink.new) result }
     ensures searches { SearchesFor settings.now.command solver.old solver.new result }
+    ensures works { settings.now.command ≡ Command.Judge → SearchedAfresh B.geometry M.keeps settings.now.n
+        (cut_off result settings.now.n) (moment_of M.content M.dropped solver.old)
+        (moment_of M.content M.dropped solver.new) }
     ensures refused { IfOk result (λ refused. IsTrue refused
         ↔ (settings.now.command ≡ Command.List)
         × IsNoLine B.geometry position.now settings.now.n (request_of settings.now).after) }
 {
     crate::laws::one_report();
+    dw_solve::laws::searches_add_up();
     solver.keeps_its_limit();
     match settings.command {
         Command::Show => Ok(false),

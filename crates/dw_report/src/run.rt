@@ -2,15 +2,18 @@
 ghost use Rattle.std.specs.Prelude.{◌≡◌, ◌+◌, ◌<◌, ◌≤◌, true, false, Err, [], ◌∷◌, IfOk, if◌then◌else◌};
 ghost use Rattle.dw_notation.specs.Problems.{numbered};
 ghost use Rattle.dw_solve.specs.Facts.{AreTrue};
+ghost use Rattle.dw_solve.specs.Questions.{moment_of};
 ghost use Rattle.dw_solve.specs.Searching.{IsCounted};
-ghost use Rattle.dw_report.specs.Request.{request_of};
+ghost use Rattle.dw_solve.specs.Work.{cut_off};
+ghost use Rattle.dw_report.specs.Request.{number_is_chosen, request_of};
+ghost use Rattle.dw_report.specs.Work.{SearchedAfresh, Works};
 ghost use Rattle.dw_report.specs.Report.{chosen, IsReportOn};
 ghost use Rattle.dw_report.specs.Running.{Runs, StopsRightly, TellsExpanded, IsPartOn};
 ghost use Rattle.dw_report.specs.inner.Running.{TextEnds, SinkEnds, SearchesFor, CountsOne, IsSound, HasRoom};
 ghost use Rattle.dw_report.specs.inner.Running.{ended_by};
 
 use crate::problem::{TextFault, write_problem};
-use crate::settings::{RunFault, Settings, Summary};
+use crate::settings::{Command, RunFault, Settings, Summary};
 use dw_board::Board;
 use dw_memo::Memo;
 use dw_notation::{Problem, Problems, Sink, Source};
@@ -74,8 +77,12 @@ pub fn run_with<B: Board, S: Source, K: Sink, M: Memo<B>, G: Guide<B>>(
     ensures stopped { StopsRightly settings.now.command solver.old.expanded solver.old.limit result }
     ensures expanded { TellsExpanded solver.new.expanded result }
     ensures count { IsCounted solver.old.expanded solver.old.limit solver.new.expanded solver.new.limit }
+    ensures works { settings.now.command ≡ Command.Judge → Works B.geometry M.keeps settings.now.only settings.now.n
+        (cut_off result settings.now.n) (moment_of M.content M.dropped solver.old)
+        (moment_of M.content M.dropped solver.new) }
 {
     crate::laws::one_report();
+    dw_solve::laws::searches_add_up();
     solver.keeps_its_limit();
     let mut problems = Problems::<B, S>::new(source, settings.form);
     let mut summary = Summary::default();
@@ -123,9 +130,14 @@ fn report_problem<B: Board, K: Sink, M: Memo<B>, G: Guide<B>>(
         (K.accepted sink.old) (K.accepted sink.new) result }
     ensures sink { SinkEnds (K.is_failed sink.old) (K.is_failed sink.new) result }
     ensures searches { SearchesFor settings.now.command solver.old solver.new result }
+    ensures works { settings.now.command ≡ Command.Judge → SearchedAfresh B.geometry M.keeps settings.now.n
+        (cut_off result settings.now.n) (moment_of M.content M.dropped solver.old)
+        (moment_of M.content M.dropped solver.new) }
+    ensures other { number_is_chosen settings.now.only problem.now.number ≡ false → solver.new ≡ solver.old }
     ensures counts { IfOk result (λ counted.
         CountsOne B.geometry (request_of settings.now) summary counted (numbered problem.now)) }
 {
+    dw_solve::laws::searches_add_up();
     solver.keeps_its_limit();
     let read = Summary {
         problems: summary.problems + 1,

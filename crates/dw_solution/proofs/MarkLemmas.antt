@@ -4,17 +4,19 @@ use Rattle.std.proofs.Common.{◌∙◌, inl, inr, append_assoc, append-nil, len
 use Rattle.std.proofs.Common.{true, false, leb, cond}
 use Rattle.std.specs.List.{list_all}
 use Rattle.std.specs.Prelude.{◌==◌, ◌||◌}
-use Rattle.std.proofs.lemmas.Bool.{or_cases, eqb-true}
+use Rattle.std.proofs.lemmas.Bool.{and_parts, or_cases, eqb-true, true≢false}
 use Rattle.std.proofs.lemmas.List.{map-append}
 use Rattle.dw_board.specs.FenTokens.{is_digit, is_blank}
 use Rattle.dw_notation.specs.Tags.{is_space, ends_line}
-use Rattle.dw_games.specs.Tokens.{Token, IsToken, AreTokens, begins_with, is_dot, is_written, is_inside, number}
+use Rattle.dw_games.specs.Tokens.{Token, IsToken, AreTokens, begins_with, is_between, is_dot, is_inside, number}
 use Rattle.dw_games.specs.Tokens.{opens, closes, written, open_result, in_braces, nothing, blank, token}
 use Rattle.dw_games.specs.declared.tokens.TokenKind.{TokenKind}
 use Rattle.dw_games.specs.declared.tokens.TokenKind.TheVariants.{Comment, Passed, Written, Opens, Closes}
 use Rattle.dw_solution.specs.Words.{closed, in_parentheses}
 use Rattle.dw_solution.specs.Movetext.{filled, in_lines, in_movetext}
+use Rattle.dw_games.specs.Signs.{IsRow, no_sign, one_sign, written_width}
 use Rattle.dw_solution.proofs.WordLemmas.{IsMade}
+use Rattle.dw_solution.proofs.ResultLemmas.{is_written}
 
 -- what a token is, and its bytes
 abbrev pub mark_of : Token → TokenKind × List ℕ
@@ -117,6 +119,9 @@ ends_filled column (w ∷ words) =
     (32 ∷ (w ++ filled (column + 1 + length w) words)) (10 ∷ (w ++ filled (length w) words))) ≡ true)
     [ true ↦ refl | false ↦ refl ]
 
+space_between : (b : ℕ) (bs : List ℕ) → is_space b ≡ true → is_between b bs ≡ true
+space_between b bs is = rw is refl
+
 filled_read : (column : ℕ) (words : List (List ℕ)) (ks : List (TokenKind × List ℕ)) (place : ℕ) → AreSpelled words ks
     → (ts : List Token) × AreTokens place false (filled column words) ts [] × (map mark_of ts ≡ ks)
 filled_read column [] ks place h = ([], nothing, sym h)
@@ -126,7 +131,7 @@ filled_read column (w ∷ words) ks place (a, b, s, t, e) =
     let rest = filled_read next words b (place + 1 + length w) t in
     let here = s (place + 1) (ends_line sep) (filled next words) [] rest.0 (ends_filled next words) rest.1 in (
       here.0 ++ rest.0,
-      blank is here.1,
+      blank (space_between sep (w ++ filled next words) is) here.1,
       map-append mark_of here.0 rest.0 ∙ (ap (λ z. z ++ map mark_of rest.0) here.2 ∙ (ap (λ z. a ++ z) rest.2 ∙ sym e)),
     ) in
     elim (leb (column + 1 + length w) 79) as (λ c. (ts : List Token) × AreTokens place false (cond c
@@ -168,8 +173,46 @@ word_ends test space close (b ∷ bytes) e = elim (or_cases (is_space b) (b == 4
 no_dot : (after : List ℕ) → ends_word after ≡ true → begins_with is_dot after ≡ false
 no_dot after e = word_ends is_dot (space_fails is_dot refl refl refl refl) refl after e
 
-none_written : (after : List ℕ) → ends_word after ≡ true → begins_with is_written after ≡ false
-none_written after e = word_ends is_written (space_fails is_written refl refl refl refl) refl after e
+none_written : (after : List ℕ) → ends_word after ≡ true → written_width after ≡ 0
+none_written [] e = refl
+none_written (b ∷ bs) e = elim (or_cases (is_space b) (b == 41) e) [
+  | inl h ↦ elim (or_cases (is_blank b) (ends_line b) h) [
+    | inl white ↦ elim (or_cases (b == 32) (b == 9) white) [
+      | inl is ↦ subst (λ z. written_width (z ∷ bs) ≡ 0) (sym (eqb-true b 32 is)) refl
+      | inr is ↦ subst (λ z. written_width (z ∷ bs) ≡ 0) (sym (eqb-true b 9 is)) refl
+    ]
+    | inr end ↦ elim (or_cases (b == 10) (b == 13) end) [
+      | inl is ↦ subst (λ z. written_width (z ∷ bs) ≡ 0) (sym (eqb-true b 10 is)) refl
+      | inr is ↦ subst (λ z. written_width (z ∷ bs) ≡ 0) (sym (eqb-true b 13 is)) refl
+    ]
+  ]
+  | inr is ↦ subst (λ z. written_width (z ∷ bs) ≡ 0) (sym (eqb-true b 41 is)) refl
+]
+
+written_one : (b : ℕ) (bs : List ℕ) → is_written b ≡ true → written_width (b ∷ bs) ≡ 1
+written_one b bs h = elim (or_cases (is_digit b) _ h) [
+  | inl is ↦ rw is refl
+  | inr signs ↦ elim (or_cases (b == 45) _ signs) [
+    | inl is ↦ subst (λ z. written_width (z ∷ bs) ≡ 1) (sym (eqb-true b 45 is)) refl
+    | inr signs ↦ elim (or_cases (b == 120) _ signs) [
+      | inl is ↦ subst (λ z. written_width (z ∷ bs) ≡ 1) (sym (eqb-true b 120 is)) refl
+      | inr signs ↦ elim (or_cases (b == 88) _ signs) [
+        | inl is ↦ subst (λ z. written_width (z ∷ bs) ≡ 1) (sym (eqb-true b 88 is)) refl
+        | inr signs ↦ elim (or_cases (b == 47) false signs) [
+          | inl is ↦ subst (λ z. written_width (z ∷ bs) ≡ 1) (sym (eqb-true b 47 is)) refl
+          | inr none ↦ absurd (true≢false (sym none))
+        ]
+      ]
+    ]
+  ]
+]
+
+written_row : (text after : List ℕ) → list_all is_written text ≡ true → written_width after ≡ 0
+    → IsRow written_width text after
+written_row [] after all e = no_sign e
+written_row (b ∷ text) after all e =
+    let both = and_parts (is_written b) (list_all is_written text) all in
+    one_sign (b ∷ []) (omega arith) (written_one b (text ++ after) both.0) (written_row text after both.1 e)
 
 pub number_spelled : (digits dots : List ℕ) → list_all is_digit digits ≡ true → 0 < length dots
     → list_all is_dot dots ≡ true → IsSpelled (digits ++ dots) ((Passed, digits ++ dots) ∷ [])
@@ -177,23 +220,25 @@ number_spelled digits dots all some dotted =
     one_token Passed (digits ++ dots)
     (λ fresh after e. number digits all some (record { all = dotted; ends = no_dot after e }))
 
-pub move_spelled : (text : List ℕ) → IsMade is_written text → IsSpelled text ((Written, text) ∷ [])
-move_spelled text h =
+pub win_spelled : (digit : ℕ) (rest : List ℕ) → is_digit digit ≡ true → list_all is_written (digit ∷ rest) ≡ true
+    → list_all is_digit (digit ∷ rest) ≡ false → IsSpelled (digit ∷ rest) ((Written, digit ∷ rest) ∷ [])
+win_spelled digit rest is all mixed =
+    one_token Written (digit ∷ rest)
+    (λ fresh after e. written is (written_row (digit ∷ rest) after all (none_written after e))
+    (λ same. absurd (true≢false (sym same ∙ mixed))))
+
+pub move_spelled : (text : List ℕ) → IsMade is_written text → list_all is_digit text ≡ false
+    → IsSpelled text ((Written, text) ∷ [])
+move_spelled text h mixed =
     let all : list_all is_written (h.digit ∷ h.rest) ≡ true = subst (λ z. list_all is_written z ≡ true) h.first h.all in
-    subst (λ z. IsSpelled z ((Written, z) ∷ [])) (sym h.first)
-    (one_token Written (h.digit ∷ h.rest)
-    (λ fresh after e. written h.is_digit (record { all = all; ends = none_written after e }) (λ same. no_dot after e)))
+    let not_all : list_all is_digit (h.digit ∷ h.rest) ≡ false =
+    subst (λ z. list_all is_digit z ≡ false) h.first mixed in
+    subst (λ z. IsSpelled z ((Written, z) ∷ [])) (sym h.first) (win_spelled h.digit h.rest h.is_digit all not_all)
 
 pub comment_spelled : (inside : List ℕ) → list_all is_inside inside ≡ true
     → IsSpelled (123 ∷ (inside ++ 125 ∷ [])) ((Comment, 123 ∷ (inside ++ 125 ∷ [])) ∷ [])
 comment_spelled inside all =
     one_token Comment (123 ∷ (inside ++ 125 ∷ [])) (λ fresh after e. in_braces (record { all = all; ends = refl }))
-
-pub win_spelled : (digit : ℕ) (rest : List ℕ) → is_digit digit ≡ true → list_all is_written (digit ∷ rest) ≡ true
-    → IsSpelled (digit ∷ rest) ((Written, digit ∷ rest) ∷ [])
-win_spelled digit rest is all =
-    one_token Written (digit ∷ rest)
-    (λ fresh after e. written is (record { all = all; ends = none_written after e }) (λ same. no_dot after e))
 
 pub star_spelled : IsSpelled (42 ∷ []) ((Written, 42 ∷ []) ∷ [])
 star_spelled = one_token Written (42 ∷ []) (λ fresh after e. open_result)

@@ -14,7 +14,7 @@ use Rattle.dw_moves.specs.inner.MemberLemmas.{mem_left, mem_right, mem_cases, me
 use Rattle.dw_notation.specs.MoveReading.{IsRead}
 use Rattle.dw_notation.specs.MoveReadingLaws.{WrittenMoveIsNamed}
 use Rattle.dw_notation.specs.Text.{IsMoveText}
-use Rattle.dw_games.specs.Play.{results, crossed, after, IsMove, IsVariation, empty, passed, move, variation}
+use Rattle.dw_games.specs.Play.{results, plain, after, IsMove, IsVariation, empty, passed, move, variation}
 use Rattle.dw_games.specs.Tokens.{Token, is_dot}
 use Rattle.dw_games.specs.declared.tokens.TokenKind.{TokenKind}
 use Rattle.dw_games.specs.declared.tokens.TokenKind.TheVariants.{Passed, Written}
@@ -23,7 +23,7 @@ use Rattle.dw_solution.specs.Movetext.{in_movetext}
 use Rattle.dw_solution.specs.Words.{AreWords, AreVariations, dots, has_move, in_parentheses, move_words, number_word}
 use Rattle.dw_solution.proofs.TreeLemmas.{ended_some}
 use Rattle.dw_solution.proofs.WordLemmas.{decimal_digits, text_legal}
-use Rattle.dw_solution.proofs.ResultLemmas.{names_written, names_crossed, not_result}
+use Rattle.dw_solution.proofs.ResultLemmas.{names_mixed, names_plain, names_written, not_result}
 use Rattle.dw_solution.proofs.MarkLemmas.{mark_of, opening, closing, IsSpelled, AreSpelled, spelled_one, spelled_append}
 use Rattle.dw_solution.proofs.MarkLemmas.{spelled_within, number_spelled, move_spelled}
 use Rattle.dw_solution.proofs.PathLemmas.{ArePathsOf, paths_over, paths_branch}
@@ -119,13 +119,13 @@ after_more g p [] m = refl
 after_more g p (n ∷ path) m = after_more g (play g p n) path m
 
 move_token : (g : Geometry) (q : Placement) (m : Move) (text : List ℕ) (t : Token) → mark_of t ≡ (Written, text)
-    → IsRead g q text (Ok m) → crossed text ≡ text → (Member text results → ⊥) → IsMove g q t m
+    → IsRead g q text (Ok m) → plain text ≡ text → (Member text results → ⊥) → IsMove g q t m
 move_token g q m text t e read same none =
     let is : t.text ≡ text = ap (λ z. z.1) e in
     record {
       written = ap (λ z. z.0) e;
-      no_result = λ r. none (subst (λ z. Member z results) is r.result);
-      named = subst (λ z. IsRead g q (crossed z) (Ok m)) (sym is) (subst (λ z. IsRead g q z (Ok m)) (sym same) read);
+      no_result = λ r. none (subst (λ z. Member z results) (ap plain is ∙ same) r.result);
+      named = subst (λ z. IsRead g q (plain z) (Ok m)) (sym is) (subst (λ z. IsRead g q z (Ok m)) (sym same) read);
     }
 
 module _ (named : WrittenMoveIsNamed) (stays : PlayStays) (takes : LegalMovesTake) (g : Geometry) (board : IsBoard g)
@@ -140,7 +140,7 @@ module _ (named : WrittenMoveIsNamed) (stays : PlayStays) (takes : LegalMovesTak
       let at : after g p (before ++ moves) ≡ q = ap (after g p) join ∙ sym here in
       let read = named g board q pos m text is in
       let token : IsMove g q t m =
-      move_token g q m text t e read (names_crossed read.names)
+      move_token g q m text t e read (names_plain read.names)
       (not_result takes g q m text (names_written read.names) read) in
       let joined : before ++ (moves ++ m ∷ []) ≡ path ++ m ∷ [] =
       sym (append_assoc before moves (m ∷ [])) ∙ ap (λ z. z ++ m ∷ []) join in
@@ -317,7 +317,8 @@ module _ (named : WrittenMoveIsNamed) (stays : PlayStays) (takes : LegalMovesTak
 
   text_spelled : (q : Placement) → IsPosition g q.cells → (m : Move) (text : List ℕ) → IsMoveText g q m text
       → IsSpelled text ((Written, text) ∷ [])
-  text_spelled q pos m text is = move_spelled text (names_written (named g board q pos m text is).names)
+  text_spelled q pos m text is =
+      let names = (named g board q pos m text is).names in move_spelled text (names_written names) (names_mixed names)
 
   mutual
     pub play_words : (t : Tree) (q : Placement) → IsPosition g q.cells → (half : ℕ) (due : Bool)

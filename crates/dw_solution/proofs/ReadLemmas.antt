@@ -12,7 +12,7 @@ use Rattle.dw_board.specs.declared.piece.Side.TheVariants.{White, Black}
 use Rattle.dw_moves.specs.Laws.{PlayStays, LegalMovesTake}
 use Rattle.dw_moves.specs.Moves.{Move}
 use Rattle.dw_notation.specs.MoveReadingLaws.{WrittenMoveIsNamed}
-use Rattle.dw_games.specs.Play.{results, IsResult, IsVariation, empty, passed, IsOver}
+use Rattle.dw_games.specs.Play.{plain, results, IsResult, IsVariation, empty, passed, IsOver}
 use Rattle.dw_games.specs.Tokens.{Token, AreTokens, is_inside}
 use Rattle.dw_games.specs.declared.tokens.TokenKind.{TokenKind}
 use Rattle.dw_games.specs.declared.tokens.TokenKind.TheVariants.{Comment, Written}
@@ -28,7 +28,7 @@ use Rattle.dw_solution.proofs.MarkLemmas.{mark_of, IsSpelled, AreSpelled, spelle
 use Rattle.dw_solution.proofs.MarkLemmas.{comment_spelled, win_spelled, star_spelled}
 use Rattle.dw_solution.proofs.PathLemmas.{begin_first, distinct_some, in_tree, in_paths}
 use Rattle.dw_solution.proofs.PlayLemmas.{map_none, map_cons, map_split, Fits, fits_lines, play_words}
-use Rattle.dw_solution.proofs.ResultLemmas.{digits_inside}
+use Rattle.dw_solution.proofs.ResultLemmas.{digits_inside, results_plain}
 use Rattle.dw_solution.proofs.TakingLemmas.{in_take}
 use Rattle.dw_solution.proofs.WordLemmas.{all_append, decimal_digits}
 
@@ -55,8 +55,8 @@ verdict_spelled heading =
 result_spelled : (side : Side) (lines : List (List Move))
     → IsSpelled (result_of side lines) ((Written, result_of side lines) ∷ [])
 result_spelled side [] = star_spelled
-result_spelled White (l ∷ lines) = win_spelled 50 (codes "-0") refl refl
-result_spelled Black (l ∷ lines) = win_spelled 48 (codes "-2") refl refl
+result_spelled White (l ∷ lines) = win_spelled 50 (codes "-0") refl refl refl
+result_spelled Black (l ∷ lines) = win_spelled 48 (codes "-2") refl refl refl
 
 result_member : (side : Side) (lines : List (List Move)) → Member (result_of side lines) results
 result_member side [] = inr (inr (inr (inr (inr (inr (inr (inl refl)))))))
@@ -83,7 +83,7 @@ last_spelled false result h = spelled_one result ((Written, result) ∷ []) h
 result_token : (t : Token) (result : List ℕ) → mark_of t ≡ (Written, result) → Member result results → IsResult t
 result_token t result e here = record {
   written = ap (λ z. z.0) e;
-  result = subst (λ z. Member z results) (sym (ap (λ z. z.1) e)) here;
+  result = subst (λ z. Member (plain z) results) (sym (ap (λ z. z.1) e)) (results_plain result here);
 }
 
 -- play that ends with the words behind it

@@ -1,24 +1,23 @@
--- The text of a move is no result, and has no colon.
+-- The text of a move is no result, and has one byte for each sign.
 use Rattle.std.proofs.Common.{◌≡◌, ◌⊎◌, ℕ, List, [], ◌∷◌, ◌++◌, refl, sym, ap, subst, ◌∙◌, inl, inr, arith}
 use Rattle.std.proofs.Common.{Bool, true, false, leb, Some, None, zero, suc}
-use Rattle.std.specs.List.{list_all}
-use Rattle.std.specs.Prelude.{◌==◌, ◌&&◌, not, Ok}
+use Rattle.std.specs.List.{list_all, list_any}
+use Rattle.std.specs.Prelude.{◌==◌, ◌&&◌, ◌||◌, ◌≤◌, not, Ok, codes, length}
 use Rattle.std.specs.Ordering.{nat_cmp}
 use Rattle.std.specs.FinSet as set
-use Rattle.std.proofs.lemmas.Bool.{true≢false, and_parts, not-true, cond-false, leb-true, ne_eqb}
+use Rattle.std.proofs.lemmas.Bool.{true≢false, and_parts, not-true, leb-true, ne_eqb}
 use Rattle.std.proofs.lemmas.Bool.{or_cases, eqb-true, or_left}
-use Rattle.dw_board.specs.FenTokens.{is_digit, colon}
+use Rattle.dw_board.specs.FenTokens.{is_digit}
 use Rattle.dw_board.specs.Geometry.{Geometry}
 use Rattle.dw_board.specs.Lists.{Member}
 use Rattle.dw_board.specs.Placement.{Placement, at}
 use Rattle.dw_moves.specs.Laws.{LegalMovesTake}
 use Rattle.dw_moves.specs.Moves.{Move, Legal, LegalAt}
-use Rattle.dw_notation.specs.Text.{cross}
 use Rattle.dw_notation.specs.MoveReading.{IsNumber, is_cross, AreCrossed, single, more, Named}
 use Rattle.dw_notation.specs.MoveReading.{QuietMove, Names, by_dash}
 use Rattle.dw_notation.specs.MoveReading.{by_crosses, Fits, IsRead}
-use Rattle.dw_games.specs.Play.{crossed, results}
-use Rattle.dw_games.specs.Tokens.{is_written, is_inside}
+use Rattle.dw_games.specs.Play.{is_leading, plain, plain_byte, results}
+use Rattle.dw_games.specs.Tokens.{is_inside}
 use Rattle.dw_solution.proofs.WordLemmas.{IsMade, names_made, some_and, all_digits}
 
 absent : {A B : Type 0} → (x : A) → None ≡ Some x → B
@@ -35,6 +34,10 @@ tails e = cc
 
 none_behind : {c : ℕ} {rest : List ℕ} → [] ≡ c ∷ rest → ⊥
 none_behind e = cc
+
+-- a byte of moves and results as they are written
+abbrev pub is_written : ℕ → Bool
+is_written byte = is_digit byte || list_any (λ sign. byte == sign) (codes "-xX/")
 
 -- ---- a number before a byte that is no digit
 number_before : (g : Geometry) (front back : List ℕ) (x a c s : ℕ) (rest : List ℕ) → IsNumber g front s
@@ -133,14 +136,42 @@ module _ (takes : LegalMovesTake) (g : Geometry) (p : Placement) (m : Move) wher
 
 -- ---- what the text of a move is made of
 abbrev is_plain : ℕ → Bool
-is_plain byte = not (byte == colon)
+is_plain byte = not (is_leading byte) && (not (list_any (λ last. byte == last) (150 ∷ 145 ∷ 147 ∷ 146 ∷ []))
+    && not (list_any (λ last. byte == last) (58 ∷ 215 ∷ 151 ∷ [])))
 
-crossed_same : (text : List ℕ) → list_all is_plain text ≡ true → crossed text ≡ text
-crossed_same [] h = refl
-crossed_same (b ∷ text) h =
+plain_same : (text : List ℕ) → list_all is_plain text ≡ true → plain text ≡ text
+plain_same [] h = refl
+plain_same (b ∷ text) h =
     let both = and_parts (is_plain b) (list_all is_plain text) h in
-    ap (λ z. z ∷ crossed text) (cond-false (b == colon) cross b (not-true (b == colon) both.0))
-    ∙ ap (λ z. b ∷ z) (crossed_same text both.1)
+    let leading = and_parts _ _ both.0 in
+    let last = and_parts _ _ leading.1 in
+    rw (
+      not-true (is_leading b) leading.0,
+      not-true (list_any (λ last. b == last) (150 ∷ 145 ∷ 147 ∷ 146 ∷ [])) last.0,
+      not-true (list_any (λ last. b == last) (58 ∷ 215 ∷ 151 ∷ [])) last.1,
+    )
+    (ap (λ z. b ∷ z) (plain_same text both.1))
+
+-- a byte that passes a test is none of those that fail it
+no_eq : (test : ℕ → Bool) (b x : ℕ) → test x ≡ false → test b ≡ true → (b == x) ≡ false
+no_eq test b x fails is = ne_eqb b x (λ e. true≢false (sym is ∙ (ap test e ∙ fails)))
+
+none_of : (test : ℕ → Bool) (xs : List ℕ) → list_all (λ x. not (test x)) xs ≡ true → (b : ℕ) → test b ≡ true
+    → list_any (λ x. b == x) xs ≡ false
+none_of test [] all b is = refl
+none_of test (x ∷ xs) all b is =
+    let both = and_parts _ _ all in
+    rw (no_eq test b x (not-true _ both.0) is, none_of test xs both.1 b is) refl
+
+plain_by : (test : ℕ → Bool) (b : ℕ) → list_all (λ x. not (test x)) (226 ∷ 128 ∷ 136 ∷ 195 ∷ []) ≡ true
+    → list_all (λ x. not (test x)) (150 ∷ 145 ∷ 147 ∷ 146 ∷ []) ≡ true
+    → list_all (λ x. not (test x)) (58 ∷ 215 ∷ 151 ∷ []) ≡ true → test b ≡ true → is_plain b ≡ true
+plain_by test b leading dash cross is =
+    rw (none_of test _ leading b is, none_of test _ dash b is, none_of test _ cross b is) refl
+
+and_no : (b : Bool) → (b && false) ≡ false
+and_no true = refl
+and_no false = refl
 
 digit_written : (b : ℕ) → is_digit b ≡ true → is_written b ≡ true
 digit_written b e = or_left (is_digit b) _ e
@@ -152,22 +183,54 @@ cross_written b e = elim (or_cases (b == 120) (b == 88) e) [
 ]
 
 digit_plain : (b : ℕ) → is_digit b ≡ true → is_plain b ≡ true
-digit_plain b e =
-    let high = leb-true b 57 (and_parts (leb 48 b) (leb b 57) e).1 in
-    ap not (ne_eqb b 58 (λ z. omega (arith, z, high)))
+digit_plain b e = plain_by is_digit b refl refl refl e
 
 cross_plain : (b : ℕ) → is_cross b ≡ true → is_plain b ≡ true
-cross_plain b e = elim (or_cases (b == 120) (b == 88) e) [
-  | inl h ↦ subst (λ z. is_plain z ≡ true) (sym (eqb-true b 120 h)) refl
-  | inr h ↦ subst (λ z. is_plain z ≡ true) (sym (eqb-true b 88 h)) refl
+cross_plain b e = plain_by is_cross b refl refl refl e
+
+-- no text of a move is all digits
+fails_at : (test : ℕ → Bool) (front : List ℕ) (x : ℕ) (back : List ℕ) → test x ≡ false
+    → list_all test (front ++ x ∷ back) ≡ false
+fails_at test [] x back h = rw h refl
+fails_at test (y ∷ front) x back h = rw (fails_at test front x back h) (and_no (test y))
+
+cross_no_digit : (b : ℕ) → is_cross b ≡ true → is_digit b ≡ false
+cross_no_digit b e = elim (or_cases (b == 120) (b == 88) e) [
+  | inl h ↦ ap is_digit (eqb-true b 120 h)
+  | inr h ↦ ap is_digit (eqb-true b 88 h)
 ]
+
+crossed_mixed : {g : Geometry} {text squares : List ℕ} → AreCrossed g text squares → 2 ≤ length squares
+    → list_all is_digit text ≡ false
+crossed_mixed (single h) low = absurd (omega (arith, low))
+crossed_mixed (more front x back h is next) low = fails_at is_digit front x back (cross_no_digit x is)
+
+pub names_mixed : {g : Geometry} {text : List ℕ} {named : Named} → Names g text named → list_all is_digit text ≡ false
+names_mixed (by_dash front back h k) = fails_at is_digit front 45 back refl
+names_mixed (by_crosses h low high) = crossed_mixed h low
 
 pub names_written : {g : Geometry} {text : List ℕ} {named : Named} → Names g text named → IsMade is_written text
 names_written names = names_made is_written digit_written refl cross_written names
 
-pub names_crossed : {g : Geometry} {text : List ℕ} {named : Named} → Names g text named → crossed text ≡ text
-names_crossed {text = text} names =
-    crossed_same text (names_made is_plain digit_plain refl cross_plain names).all
+pub names_plain : {g : Geometry} {text : List ℕ} {named : Named} → Names g text named → plain text ≡ text
+names_plain {text = text} names = plain_same text (names_made is_plain digit_plain refl cross_plain names).all
+
+-- a result is written so
+pub results_plain : (text : List ℕ) → Member text results → Member (plain text) results
+results_plain text (inl e) = subst (λ z. Member (plain z) results) (sym e) (inl refl)
+results_plain text (inr (inl e)) = subst (λ z. Member (plain z) results) (sym e) (inr (inl refl))
+results_plain text (inr (inr (inl e))) = subst (λ z. Member (plain z) results) (sym e) (inr (inr (inl refl)))
+results_plain text (inr (inr (inr (inl e)))) =
+    subst (λ z. Member (plain z) results) (sym e) (inr (inr (inr (inl refl))))
+results_plain text (inr (inr (inr (inr (inl e))))) =
+    subst (λ z. Member (plain z) results) (sym e) (inr (inr (inr (inr (inl refl)))))
+results_plain text (inr (inr (inr (inr (inr (inl e)))))) =
+    subst (λ z. Member (plain z) results) (sym e) (inr (inr (inr (inr (inr (inl refl))))))
+results_plain text (inr (inr (inr (inr (inr (inr (inl e))))))) =
+    subst (λ z. Member (plain z) results) (sym e) (inr (inr (inr (inr (inr (inr (inl refl)))))))
+results_plain text (inr (inr (inr (inr (inr (inr (inr (inl e)))))))) =
+    subst (λ z. Member (plain z) results) (sym e) (inr (inr (inr (inr (inr (inr (inr (inl refl))))))))
+results_plain text (inr (inr (inr (inr (inr (inr (inr (inr gone)))))))) = absurd gone
 
 digit_inside : (b : ℕ) → is_digit b ≡ true → is_inside b ≡ true
 digit_inside b e =

@@ -7,7 +7,8 @@ ghost use Rattle.dw_memo.specs.Content.{IsMap, MayForget};
 ghost use Rattle.dw_solve.specs.Facts.{AreTrue, IsDecided, RepliesAreDecided};
 ghost use Rattle.dw_solve.specs.Ranking.{AreRanked};
 ghost use Rattle.dw_solve.specs.Solving.{IsLeast};
-ghost use Rattle.dw_solve.specs.Questions.{Asked, Idle, LostNothing};
+ghost use Rattle.dw_solve.specs.Questions.{Asked, Idle, LostNothing, moment_of};
+ghost use Rattle.dw_solve.specs.Work.{Searched};
 ghost use Rattle.dw_solve.specs.inner.Searching.{CanSearch, HasSearched, LosesNothing, StaysIdle};
 ghost use Rattle.dw_solve.specs.Certificates.{SaysWin, SaysLost, SaysLeast};
 
@@ -123,9 +124,11 @@ impl<B: Board, M: Memo<B>, G: Guide<B>> Solver<B, M, G> {
     }
 
     /// Announces that the next positions have little to do with the earlier ones, as after a new problem. The memo may
-    /// drop its entries. No answer depends on it.
+    /// drop its entries, unless it keeps them. No answer depends on it.
     pub fn forget(&mut self)
         ensures forgets { MayForget (M.content self.old.memo) (M.content self.new.memo) }
+        ensures keeps { M.keeps → Searched B.geometry 0 0 (moment_of M.content M.dropped self.old)
+            (moment_of M.content M.dropped self.new) }
         ensures dropped { M.dropped self.new.memo ≡ M.dropped self.old.memo }
         ensures expanded { self.new.expanded ≡ self.old.expanded }
         ensures limit { self.new.limit ≡ self.old.limit }
@@ -133,15 +136,14 @@ impl<B: Board, M: Memo<B>, G: Guide<B>> Solver<B, M, G> {
         self.search.memo.forget();
     }
 
-    /// Begins anew: empties the memo, and counts lost entries and expanded positions from 0. The limit stays.
-    pub fn reset(&mut self)
+    /// Empties the memo, which then counts lost entries from 0. The number of expanded positions and the limit stay.
+    pub fn clear_memo(&mut self)
         ensures empty { M.content self.new.memo ≡ [] }
         ensures dropped { M.dropped self.new.memo ≡ 0 }
-        ensures expanded { self.new.expanded ≡ 0 }
+        ensures expanded { self.new.expanded ≡ self.old.expanded }
         ensures limit { self.new.limit ≡ self.old.limit }
     {
         self.search.memo.clear();
-        self.search.expanded = 0;
     }
 
     /// Returns whether the side to move wins within `moves` of its moves, which must be at most 20. If the memo decides

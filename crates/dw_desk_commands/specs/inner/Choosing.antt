@@ -93,6 +93,10 @@ pub record IsRest {B S : Type 0} (supply : S → Supply) (whole : List ℕ) (tex
   pub joined : whole ≡ (supply (source_of text)).told ++ rest
   pub may : met_end text ≡ true → rest ≡ []
 
+-- this may be the whole text, by what was read of it
+abbrev pub IsPossible : {B S : Type 0} → (S → Supply) → Text B S → (whole : List ℕ) → Type 0
+IsPossible supply text whole = (rest : List ℕ) × IsRest supply whole text rest
+
 -- the games of a portion that are still to come, if this is the whole text
 abbrev pub AreComing : {B S : Type 0} → Geometry → (S → Supply) → Portion → (left : ℕ) → Text B S → (whole : List ℕ)
     → List NumberedGame → Type 0
@@ -108,7 +112,12 @@ AreToCome g supply chosen whole found = AreComing g supply chosen.portion chosen
 -- this may be the whole text, by what was read of it
 -- Sealed: the clauses of commands name it, and say all that is to be known of it.
 unfoldable pub MayBe : {B S : Type 0} → (S → Supply) → Chosen B S → (whole : List ℕ) → Type 0
-MayBe supply chosen whole = (rest : List ℕ) × IsRest supply whole chosen.text rest
+MayBe supply chosen whole = IsPossible supply chosen.text whole
+
+-- whatever the whole text may be, it has games that are still to come
+abbrev pub HaveGames : {B S : Type 0} → Geometry → (S → Supply) → Chosen B S → Type 0
+HaveGames g supply chosen =
+    (whole : List ℕ) → MayBe supply chosen whole → (games : List NumberedGame) × AreToCome g supply chosen whole games
 
 -- nothing was read yet: the chosen games of a text are those of what follows the bytes read before
 pub record IsFresh {B S : Type 0} (g : Geometry) (supply : S → Supply) (form : Form) (query : Portion)
@@ -119,6 +128,7 @@ pub record IsFresh {B S : Type 0} (g : Geometry) (supply : S → Supply) (form :
   pub end : EndIsKnown supply (supply (source_of chosen.text)) chosen.text
   pub portion : chosen.portion ≡ query
   pub runs : Runs chosen.text
+  pub some : HaveGames g supply chosen
 
 -- of the games that are to come the first is handed out, and those after it stay to come; or none comes
 abbrev pub HandsOut : (Old New : (whole : List ℕ) → List NumberedGame → Type 0) → (MayBe : (whole : List ℕ) → Type 0)

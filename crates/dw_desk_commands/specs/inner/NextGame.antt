@@ -1,8 +1,8 @@
 -- The next of the chosen games.
-use Rattle.std.specs.Prelude.{ℕ, List, [], ◌∷◌, Option, Some, None, IfSome}
+use Rattle.std.specs.Prelude.{List, [], ◌∷◌, Option, Some, None, IfSome}
 use Rattle.dw_board.specs.Geometry.{Geometry}
 use Rattle.dw_desk_commands.specs.declared.chosen.Chosen.{Chosen}
-use Rattle.dw_desk_commands.specs.inner.Choosing.{AreToCome, GoesOn, HandsOut, MayBe}
+use Rattle.dw_desk_commands.specs.inner.Choosing.{AreToCome, GoesOn, HandsOut, HaveGames, MayBe}
 use Rattle.dw_games.specs.Games.{NumberedGame}
 use Rattle.dw_notation.specs.Streams.{Supply}
 
@@ -16,6 +16,5 @@ as_list (Some x) = x ∷ []
 abbrev pub IsNext : {B S : Type 0} → Geometry → (S → Supply) → (old new : Chosen B S) → Option NumberedGame → Type 0
 IsNext g supply old new next =
     HandsOut (AreToCome g supply old) (AreToCome g supply new) (MayBe supply new) next
-    × (IfSome next (λ _. (whole : List ℕ) → MayBe supply new whole
-    → (games : List NumberedGame) × AreToCome g supply new whole games))
+    × IfSome next (λ _. HaveGames g supply new)
     × GoesOn supply old.text new.text

@@ -1,25 +1,33 @@
 -- The state of a reader of a movetext: the tree so far, and its place in the variations that are open.
 use Rattle.std.specs.Prelude.{◌≡◌, ◌≢◌, ◌⊎◌, ◌<◌, ℕ, Bool, true, false, Option, Some, None, Result, Ok, Err, List, []}
-use Rattle.std.specs.Prelude.{◌∷◌, ◌++◌, length}
+use Rattle.std.specs.Prelude.{◌∷◌, ◌++◌, ◌+◌, ◌%◌, length, slice_get}
 use Rattle.std.proofs.Common.{suc}
 use Rattle.dw_board.specs.Geometry.{Geometry}
 use Rattle.dw_board.specs.Placement.{Placement}
-use Rattle.dw_moves.specs.Moves.{Move}
+use Rattle.dw_board.specs.Lists.{Member}
+use Rattle.dw_moves.specs.Moves.{Legal, Move, play}
+use Rattle.dw_notation.specs.MoveReading.{IsRead}
+use Rattle.dw_notation.specs.declared.read_move.MoveFault.TheVariants as reading
 use Rattle.dw_games.specs.Tokens.{Token}
-use Rattle.dw_games.specs.Play.{IsResult, IsMove, after, IsVariation, AreComments}
+use Rattle.dw_games.specs.Play.{IsResult, IsMove, IsLeftOut, IsOnlyMove, plain, after, IsVariation, AreComments}
 use Rattle.dw_games.specs.Movetext.{AreDistinct}
-use Rattle.dw_games.specs.Faults.{FaultAt}
+use Rattle.dw_games.specs.Faults.{FaultAt, HasTwoMoves, IsNamed, NamesNoneBehind}
+use Rattle.dw_games.specs.inner.Noting.{IsNoted}
 use Rattle.dw_games.specs.Walk.{place_of, beginning_at}
 use Rattle.dw_games.specs.inner.Ahead.{AreAhead}
 use Rattle.dw_games.specs.declared.tokens.Tokens.{Tokens}
 use Rattle.dw_games.specs.declared.tokens.TokenKind.TheVariants.{Comment, Opens, CutOff}
-use Rattle.dw_games.specs.declared.fault.MovetextFaultKind.TheVariants.{Token as NoToken, Rest}
+use Rattle.dw_games.specs.declared.fault.MovetextFaultKind.TheVariants.{Token as NoToken, Rest, NoSuchMove, Ambiguous}
+use Rattle.dw_games.specs.declared.fault.MovetextFaultKind.TheVariants.{Reply}
 use Rattle.dw_games.specs.declared.movetext.TheConstants.{MAX_OPEN, MAX_PATH}
 use Rattle.dw_games.specs.declared.fault.MovetextFault.{MovetextFault}
 use Rattle.dw_games.specs.declared.fault.MovetextFault.TheVariants.{Refused, Memory}
 use Rattle.dw_games.specs.declared.reader.Cursor.{Cursor}
 use Rattle.dw_games.specs.declared.reader.OpenLine.{OpenLine}
+use Rattle.dw_games.specs.declared.branches.Node.{Node}
 use Rattle.dw_games.specs.declared.reader.Reader.{Reader}
+use Rattle.dw_games.specs.declared.reader.Step.{Step}
+use Rattle.dw_games.specs.declared.reader.Step.TheVariants.{Played, Forced}
 
 -- a cursor is after this path of a tree
 pub record IsCursor {B : Type 0} (g : Geometry) (p : Placement) (tree : List (List Move)) (cursor : Cursor B)
@@ -76,11 +84,60 @@ IsTaken g p ts t reader (Ok false) = HasRead g p (ts ++ t ∷ []) reader
 IsTaken g p ts t reader (Ok true) = IsResult t × HasRead g p ts reader × (reader.outer.items ≡ [])
 IsTaken g p ts t reader (Err why) = IsFaultOf g p ts t why
 
--- a token names a move that can be read as one more, or is at fault
-abbrev pub IsMoveOf : {B : Type 0} → Geometry → Placement → List Token → Token → Reader B → Result Move MovetextFault
-    → Type 0
-IsMoveOf g p ts t reader (Ok m) = IsMove g reader.line.now.position t m × (reader.line.now.moves < MAX_PATH)
-IsMoveOf g p ts t reader (Err why) = IsFaultOf g p ts t why
+-- the move that a token names, or the reply that it leaves out and the move after that
+abbrev pub IsStep : {B : Type 0} → Geometry → Token → Cursor B → Step B → Type 0
+IsStep g t cursor (Played m) = IsMove g cursor.position t m
+IsStep g t cursor (Forced reply m) = (cursor.moves % 2 ≡ 1) × IsLeftOut g cursor.position t reply m
+
+-- a token stands for a move that can be read as one more, or for two, or is at fault
+abbrev pub IsStepOf : {B : Type 0} → Geometry → Placement → List Token → Token → Reader B
+    → Result (Step B) MovetextFault → Type 0
+IsStepOf g p ts t reader (Ok step) = IsStep g t reader.line.now step × (reader.line.now.moves < MAX_PATH)
+IsStepOf g p ts t reader (Err why) = IsFaultOf g p ts t why
+
+-- a token that names no legal move of the defender: the reply that it leaves out and the move after that, or its fault
+abbrev pub IsForcedOr : {B : Type 0} → Geometry → Placement → Token → Result (Step B) MovetextFault → Type 0
+IsForcedOr g q t (Ok (Played m)) = ⊥
+IsForcedOr g q t (Ok (Forced reply m)) = IsOnlyMove g q reply × IsRead g (play g q reply) (plain t.text) (Ok m)
+IsForcedOr g q t (Err (Refused NoSuchMove place)) = NamesNoneBehind g q (plain t.text) × (place ≡ t.place)
+IsForcedOr g q t (Err (Refused Ambiguous place)) = (reply : Move) × IsOnlyMove g q reply
+    × IsRead g (play g q reply) (plain t.text) (Err reading.Ambiguous) × (place ≡ t.place)
+IsForcedOr g q t (Err (Refused Reply place)) = (reply : Move) × HasTwoMoves g q × Legal g q reply
+    × IsNamed g (play g q reply) (plain t.text) × (place ≡ t.place)
+IsForcedOr g q t (Err (Refused what place)) = ⊥
+IsForcedOr g q t (Err Memory) = Unit {0}
+
+-- whether a text names a legal move after one of these replies; memory may be refused
+abbrev pub IsSearched : Geometry → Placement → List ℕ → List Move → Result Bool MovetextFault → Type 0
+IsSearched g q text replies (Ok true) = (reply : Move) × Member reply replies × IsNamed g (play g q reply) text
+IsSearched g q text replies (Ok false) = (reply : Move) → Member reply replies
+    → IsRead g (play g q reply) text (Err reading.NoSuchMove)
+IsSearched g q text replies (Err why) = why ≡ Memory
+
+-- a reader may note a legal move after the place where it is
+pub record CanNote {B : Type 0} (g : Geometry) (reader : Reader B) (m : Move) : Type 0 where
+  pub path : List Move
+  pub cursor : IsCursor g reader.tree.start reader.tree.paths reader.line.now path
+  pub legal : Legal g reader.line.now.position m
+  pub short : reader.line.now.moves < MAX_PATH
+
+-- a reader has noted a move, and goes on after it
+pub record HasNoted {B : Type 0} (g : Geometry) (old new : Reader B) (m : Move) : Type 0 where
+  pub node : Node
+  pub start : new.tree.start ≡ old.tree.start
+  pub noted : (b : List Move) → beginning_at old.tree.paths (place_of old.line.now.node) ≡ Some b
+      → IsNoted old.tree.paths (b ++ m ∷ []) new.tree.paths
+  pub there : (b : List Move) → beginning_at old.tree.paths (place_of old.line.now.node) ≡ Some b
+      → slice_get new.tree.paths node.0 ≡ Some (b ++ m ∷ [])
+  pub line : new.line ≡ record {
+    now = record {
+      node = Some node;
+      position = play g old.line.now.position m;
+      moves = old.line.now.moves + 1;
+    };
+    before = Some old.line.now;
+  }
+  pub outer : new.outer.items ≡ old.outer.items
 
 -- a reader has read some tokens, from some position on
 abbrev pub IsReading : {B : Type 0} → Geometry → Reader B → Type 0

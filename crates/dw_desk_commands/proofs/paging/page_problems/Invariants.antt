@@ -1,5 +1,5 @@
 use Rattle.std.proofs.Common.{◌≡◌, ◌≤◌, false}
-use Rattle.dw_desk_commands.specs.inner.Choosing.{AreToCome, GoesOn, Runs, lender}
+use Rattle.dw_desk_commands.specs.inner.Choosing.{AreToCome, GoesOn, HaveGames, Runs, lender}
 use Rattle.dw_desk_commands.proofs.PagingLemmas.{SoFar}
 use Rattle.dw_desk_commands.proofs.paging.page_problems.Given as goal
 
@@ -12,6 +12,7 @@ invariant-games g l =
           (AreToCome geo source.supply l.chosen) l.counts (g.K.Sink.accepted l.fn.sink)
           (g.K.Sink.accepted l.sink) l.later.items;
       some : 1 ≤ l.counts.shown;
+      games : HaveGames geo source.supply l.chosen;
       on : GoesOn source.supply l.fn.chosen.text l.chosen.text;
       works : g.K.Sink.is_failed l.sink ≡ false;
       lender : lender l.chosen.text ≡ lender l.fn.chosen.text;

@@ -9,5 +9,5 @@ blanks-preserved c = record {
   ahead =
       λ tokens rest are. c.blanks.invariant.ahead tokens rest
       (blank_next c.args.text.now c.blanks.at c.blanks.fresh c.ends_line-fresh.result tokens rest c.blanks-test.true
-      c.if-is_space.ensures c.ends_line-fresh.ensures are);
+      c.if-is_between.ensures c.ends_line-fresh.ensures are);
 }

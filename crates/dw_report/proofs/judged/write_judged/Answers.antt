@@ -3,6 +3,8 @@ use Rattle.std.proofs.lemmas.Result.{err_from_is_err_and}
 use Rattle.dw_report.specs.inner.Running.{SinkEnds}
 use Rattle.dw_report.proofs.FaultLemmas.{sink_same, spends_same, spends_further}
 use Rattle.dw_report.proofs.JudgedWriteLemmas.{judged_ends, verdict_fault}
+use Rattle.dw_solve.specs.Work.{cut_off}
+use Rattle.dw_report.proofs.WorkLemmas.{cut_few, ended, further}
 use Rattle.dw_report.proofs.judged.write_judged.Goals as goal
 
 pub returns-in_err-write_verdict-clause-text : goal.returns-in_err-write_verdict-clause-text
@@ -40,3 +42,15 @@ pub returns-clause-spends : goal.returns-clause-spends
 returns-clause-spends g c =
     spends_further c.args.solver.now c.write_verdict.new.solver c.write_tries.new.solver c.write_tries.result
     c.in_ok-write_verdict.ensures.spends.count c.write_tries.ensures.spends
+
+pub returns-in_err-write_verdict-clause-searched : goal.returns-in_err-write_verdict-clause-searched
+returns-in_err-write_verdict-clause-searched g c =
+    let n = c.args.moves in
+    let why = err_from_is_err_and c.from_residual.result c.from_residual.ensures.1 in
+    ended g.B.Board.geometry n (cut_off c.write_verdict.result n) c.from_residual.result why.0 _ _ why.1
+    (cut_few c.write_verdict.result n) c.write_verdict.ensures.searched
+
+pub returns-clause-searched : goal.returns-clause-searched
+returns-clause-searched g c =
+    further c.searches_add_up.ensures g.B.Board.geometry c.args.moves _ _ _ _ c.in_ok-write_verdict.ensures.searched
+    c.write_tries.ensures.searched

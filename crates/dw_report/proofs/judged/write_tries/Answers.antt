@@ -10,6 +10,8 @@ use Rattle.dw_report.proofs.SpendingLemmas.{counted_none, counted_then}
 use Rattle.dw_report.proofs.FaultLemmas.{sink_same, sink_stopped, spends_same, spends_done, spends_no_memory}
 use Rattle.dw_report.proofs.FaultLemmas.{spends_further}
 use Rattle.dw_report.proofs.TryTextLemmas.{none_written, at_first, at_next, at_fault, at_end}
+use Rattle.dw_solve.specs.Work.{cut_off}
+use Rattle.dw_report.proofs.WorkLemmas.{cut_few, ended, further, whole}
 use Rattle.dw_report.proofs.judged.write_tries.Goals as goal
 
 pub returns-in_err-list-clause-text : goal.returns-in_err-list-clause-text
@@ -26,6 +28,7 @@ moves-init g c = record {
       (λ item. item.step) c.as_slice-item-items.result.now (g.K.Sink.accepted c.args.sink.now);
   sink = refl;
   counted = counted_none c.args.solver.now c.keeps_its_limit.ensures;
+  searched = c.searches_add_up.ensures.none g.B.Board.geometry c.args.moves _;
 }
 
 pub write_try-requires-clause-legal : goal.write_try-requires-clause-legal
@@ -77,6 +80,8 @@ moves-preserved g c =
       sink = c.in_ok-write_try.ensures.sink ∙ c.moves.invariant.sink;
       counted = counted_then c.args.solver.now c.moves.solver c.write_try.new.solver c.moves.invariant.counted
           c.in_ok-write_try.ensures.spends.count;
+      searched = further c.searches_add_up.ensures geo n 0 _ _ _ c.moves.invariant.searched
+          c.in_ok-write_try.ensures.searched;
     }
 
 pub returns-clause-text : goal.returns-clause-text
@@ -124,3 +129,22 @@ returns-in_err-write_try-clause-spends g c =
 pub returns-clause-spends : goal.returns-clause-spends
 returns-clause-spends g c =
     spends_done c.args.solver.now c.moves.solver _ c.moves.invariant.counted
+
+pub returns-in_err-list-clause-searched : goal.returns-in_err-list-clause-searched
+returns-in_err-list-clause-searched g c =
+    let geo = g.B.Board.geometry in
+    let n = c.args.moves in
+    whole geo n c.from_residual.result _ _ (c.searches_add_up.ensures.none geo n _)
+
+pub returns-in_err-write_try-clause-searched : goal.returns-in_err-write_try-clause-searched
+returns-in_err-write_try-clause-searched g c =
+    let geo = g.B.Board.geometry in
+    let n = c.args.moves in
+    let end = c.from_residual-in_err-write_try in
+    let why = err_from_is_err_and end.result end.ensures.1 in
+    ended geo n (cut_off c.write_try.result n) end.result why.0 _ _ why.1 (cut_few c.write_try.result n)
+    (further c.searches_add_up.ensures geo n (cut_off c.write_try.result n) _ _ _ c.moves.invariant.searched
+    c.write_try.ensures.searched)
+
+pub returns-clause-searched : goal.returns-clause-searched
+returns-clause-searched g c = c.moves.invariant.searched

@@ -1,4 +1,6 @@
 use Rattle.std.proofs.Common.{◌≡◌, map, take}
+use Rattle.dw_solve.specs.Questions.{moment_of}
+use Rattle.dw_solve.specs.Work.{Searched}
 use Rattle.dw_report.proofs.SpendingLemmas.{Counted}
 use Rattle.dw_report.proofs.TryTextLemmas.{WroteTo}
 use Rattle.dw_report.proofs.judged.write_tries.Given as goal
@@ -9,4 +11,6 @@ invariant-moves g l = record {
       (g.K.Sink.accepted l.initial.sink) (g.K.Sink.accepted l.sink);
   sink : g.K.Sink.is_failed l.sink ≡ g.K.Sink.is_failed l.initial.sink;
   counted : Counted l.initial.solver l.solver;
+  searched : Searched g.B.Board.geometry l.moves 0 (moment_of g.M.Memo.content g.M.Memo.dropped l.initial.solver)
+      (moment_of g.M.Memo.content g.M.Memo.dropped l.solver);
 }

@@ -1,4 +1,4 @@
-use Rattle.std.proofs.Common.{◌-◌, refl, sym, ap, ◌∙◌, subst, Err}
+use Rattle.std.proofs.Common.{◌-◌, refl, sym, ap, ◌∙◌, subst, Err, arith}
 use Rattle.dw_notation.specs.Streams.{Appends}
 use Rattle.std.specs.String.{string_bytes}
 use Rattle.std.proofs.lemmas.Result.{err_from_is_err_and}
@@ -9,6 +9,8 @@ use Rattle.dw_report.proofs.WritingLemmas.{at_sink}
 use Rattle.dw_report.proofs.FaultLemmas.{sink_stopped, sink_failed, spends_done, spends_no_memory, spends_sink}
 use Rattle.dw_report.proofs.FaultLemmas.{spends_stopped}
 use Rattle.dw_report.proofs.TryTextLemmas.{nothing_written, try_written, try_short, no_try_written}
+use Rattle.dw_solve.specs.Work.{cut_off}
+use Rattle.dw_report.proofs.WorkLemmas.{cut_few, ended}
 use Rattle.dw_report.proofs.judged.write_try.Goals as goal
 
 pub returns-in_err-reply-clause-text : goal.returns-in_err-reply-clause-text
@@ -109,3 +111,41 @@ try_line-requires-clause-reply g c =
     let found = subst (FindsRefutation g.B.Board.geometry c.play-after.result n) c.in-Some.is
     c.in_ok-reply.ensures.found in
     (subst (λ z. IsRefutation g.B.Board.geometry z n c.in-Some.reply) c.play-after.ensures found).refutes.0
+
+pub returns-in_err-reply-clause-searched : goal.returns-in_err-reply-clause-searched
+returns-in_err-reply-clause-searched g c =
+    let n = c.args.moves in
+    let end = c.from_residual in
+    let why = err_from_is_err_and end.result end.ensures.1 in
+    let few = cut_few c.refutation.result (n - 1) in
+    ended g.B.Board.geometry n (cut_off c.refutation.result (n - 1)) end.result why.0 _ _ why.1 (omega (arith, few))
+    (c.searches_add_up.ensures.wider g.B.Board.geometry (n - 1) n _ _ _ (omega arith)
+    c.refutation.ensures.asked.searched)
+
+pub returns-in_err-line-clause-searched : goal.returns-in_err-line-clause-searched
+returns-in_err-line-clause-searched g c =
+    let n = c.args.moves in
+    let end = c.from_residual-in_err-line in
+    let why = err_from_is_err_and end.result end.ensures.1 in
+    ended g.B.Board.geometry n 0 end.result why.0 _ _ why.1 (omega arith)
+    (c.searches_add_up.ensures.wider g.B.Board.geometry (n - 1) n 0 _ _ (omega arith)
+    c.in_ok-reply.ensures.asked.searched)
+
+pub returns-in_err-write_all-clause-searched : goal.returns-in_err-write_all-clause-searched
+returns-in_err-write_all-clause-searched g c =
+    let n = c.args.moves in
+    let end = c.from_residual-in_err-write_all in
+    let why = err_from_is_err_and end.result end.ensures.1 in
+    ended g.B.Board.geometry n 0 end.result why.0 _ _ why.1 (omega arith)
+    (c.searches_add_up.ensures.wider g.B.Board.geometry (n - 1) n 0 _ _ (omega arith)
+    c.in_ok-reply.ensures.asked.searched)
+
+pub returns-in_ok-write_all-clause-searched : goal.returns-in_ok-write_all-clause-searched
+returns-in_ok-write_all-clause-searched g c =
+    c.searches_add_up.ensures.wider g.B.Board.geometry (c.args.moves - 1) c.args.moves 0 _ _ (omega arith)
+    c.in_ok-reply.ensures.asked.searched
+
+pub returns-in_default-clause-searched : goal.returns-in_default-clause-searched
+returns-in_default-clause-searched g c =
+    c.searches_add_up.ensures.wider g.B.Board.geometry (c.args.moves - 1) c.args.moves 0 _ _ (omega arith)
+    c.in_ok-reply.ensures.asked.searched

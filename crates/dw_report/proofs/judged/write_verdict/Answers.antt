@@ -1,9 +1,10 @@
-use Rattle.std.proofs.Common.{◌∙◌, refl, ap, Err}
+use Rattle.std.proofs.Common.{◌∙◌, refl, ap, Err, arith}
 use Rattle.std.proofs.lemmas.Result.{err_from_is_err_and}
 use Rattle.dw_report.specs.inner.JudgedText.{IsVerdictLine}
 use Rattle.dw_report.proofs.TryTextLemmas.{nothing_written}
 use Rattle.dw_report.proofs.FaultLemmas.{sink_stopped, sink_failed, spends_done, spends_no_memory, spends_sink}
 use Rattle.dw_report.proofs.FaultLemmas.{spends_stopped}
+use Rattle.dw_report.proofs.WorkLemmas.{cut_few, ended}
 use Rattle.dw_report.proofs.judged.write_verdict.Goals as goal
 
 pub returns-in_err-verdict-clause-text : goal.returns-in_err-verdict-clause-text
@@ -62,3 +63,27 @@ returns-in_err-write_all-clause-spends g c =
 pub returns-clause-spends : goal.returns-clause-spends
 returns-clause-spends g c =
     spends_done c.args.solver.now c.verdict.new.solver _ c.verdict.ensures.count
+
+pub returns-in_err-verdict-clause-searched : goal.returns-in_err-verdict-clause-searched
+returns-in_err-verdict-clause-searched g c =
+    let n = c.args.moves in
+    let end = c.from_residual in
+    let why = err_from_is_err_and end.result end.ensures.1 in
+    ended g.B.Board.geometry n _ end.result why.0 _ _ why.1 (cut_few c.verdict.result n) c.verdict.ensures.searched
+
+pub returns-in_err-line-clause-searched : goal.returns-in_err-line-clause-searched
+returns-in_err-line-clause-searched g c =
+    let n = c.args.moves in
+    let end = c.from_residual-in_err-line in
+    let why = err_from_is_err_and end.result end.ensures.1 in
+    ended g.B.Board.geometry n 0 end.result why.0 _ _ why.1 (omega arith) c.in_ok-verdict.ensures.searched
+
+pub returns-in_err-write_all-clause-searched : goal.returns-in_err-write_all-clause-searched
+returns-in_err-write_all-clause-searched g c =
+    let n = c.args.moves in
+    let end = c.from_residual-in_err-write_all in
+    let why = err_from_is_err_and end.result end.ensures.1 in
+    ended g.B.Board.geometry n 0 end.result why.0 _ _ why.1 (omega arith) c.in_ok-verdict.ensures.searched
+
+pub returns-clause-searched : goal.returns-clause-searched
+returns-clause-searched g c = c.in_ok-verdict.ensures.searched

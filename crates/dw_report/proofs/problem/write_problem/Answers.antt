@@ -10,6 +10,7 @@ use Rattle.dw_report.specs.inner.Running.{IsProblemPart, SinkEnds}
 use Rattle.dw_report.proofs.SearchLemmas.{searches_none, sink_not_stopped}
 use Rattle.dw_report.proofs.WritingLemmas.{at_sink, known_short, problem_ends, refused_row_behind}
 use Rattle.dw_report.proofs.FaultLemmas.{sink_failed, refused_all, searches_row}
+use Rattle.dw_report.proofs.WorkLemmas.{afresh_none}
 use Rattle.dw_report.proofs.problem.write_problem.Goals as goal
 
 pub returns-in_err-write_all-clause-text : goal.returns-in_err-write_all-clause-text
@@ -80,3 +81,18 @@ returns-in-Ok-clause-sink g c =
 
 pub returns-in-Ok-clause-searches : goal.returns-in-Ok-clause-searches
 returns-in-Ok-clause-searches g c = c.write_rest.ensures.searches
+
+pub returns-in_err-write_all-clause-works : goal.returns-in_err-write_all-clause-works
+returns-in_err-write_all-clause-works g c = λ judges.
+    afresh_none c.searches_add_up.ensures g.B.Board.geometry g.M.Memo.keeps c.args.settings.now.n _ _
+
+pub returns-then-writes_rows-clause-works : goal.returns-then-writes_rows-clause-works
+returns-then-writes_rows-clause-works g c = λ judges.
+    afresh_none c.searches_add_up.ensures g.B.Board.geometry g.M.Memo.keeps c.args.settings.now.n _ _
+
+pub returns-else-writes_rows-clause-works : goal.returns-else-writes_rows-clause-works
+returns-else-writes_rows-clause-works g c = λ judges.
+    afresh_none c.searches_add_up.ensures g.B.Board.geometry g.M.Memo.keeps c.args.settings.now.n _ _
+
+pub returns-in-Ok-clause-works : goal.returns-in-Ok-clause-works
+returns-in-Ok-clause-works g c = c.write_rest.ensures.works

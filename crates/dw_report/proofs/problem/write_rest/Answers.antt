@@ -14,6 +14,9 @@ use Rattle.dw_report.proofs.FaultLemmas.{searches_row, spends_after}
 use Rattle.dw_report.proofs.WritingLemmas.{row_ends}
 use Rattle.dw_report.specs.Request.{writes_rows}
 use Rattle.std.specs.String.{string_bytes}
+use Rattle.dw_solve.specs.Questions.{moment_of}
+use Rattle.dw_solve.specs.Work.{cut_off}
+use Rattle.dw_report.proofs.WorkLemmas.{cut_few, ended}
 use Rattle.dw_report.proofs.problem.write_rest.Goals as goal
 
 pub returns-in_ok-write_moves-in-Moves-clause-text : goal.returns-in_ok-write_moves-in-Moves-clause-text
@@ -195,3 +198,49 @@ pub returns-in-MovesRow-clause-refused : goal.returns-in-MovesRow-clause-refused
 returns-in-MovesRow-clause-refused g c =
     refused_row _ c.args.settings.now.command c.write_row-in-MovesRow.result
     (λ e. let bad : MovesRow ≡ Lists = sym c.in-MovesRow.is ∙ e in cc) c.write_row-in-MovesRow.ensures.refused
+
+pub returns-in_err-write_judged-in-Judge-clause-works : goal.returns-in_err-write_judged-in-Judge-clause-works
+returns-in_err-write_judged-in-Judge-clause-works g c = λ judges.
+    let n = c.args.settings.now.n in
+    let end = c.from_residual-in_err-write_judged-in-Judge in
+    let why = err_from_is_err_and end.result end.ensures.1 in
+    record {
+      then = moment_of g.M.Memo.content g.M.Memo.dropped c.forget.new.self;
+      forgot = c.forget.ensures.forgets;
+      kept = c.forget.ensures.keeps;
+      lost = c.forget.ensures.dropped;
+      expanded = c.forget.ensures.expanded;
+      searched = ended g.B.Board.geometry n (cut_off c.write_judged.result n) end.result why.0 _ _ why.1
+          (cut_few c.write_judged.result n) c.write_judged.ensures.searched;
+    }
+
+pub returns-in_ok-write_judged-in-Judge-clause-works : goal.returns-in_ok-write_judged-in-Judge-clause-works
+returns-in_ok-write_judged-in-Judge-clause-works g c = λ judges. record {
+  then = moment_of g.M.Memo.content g.M.Memo.dropped c.forget.new.self;
+  forgot = c.forget.ensures.forgets;
+  kept = c.forget.ensures.keeps;
+  lost = c.forget.ensures.dropped;
+  expanded = c.forget.ensures.expanded;
+  searched = c.in_ok-write_judged-in-Judge.ensures.searched;
+}
+
+pub returns-in-List-clause-works : goal.returns-in-List-clause-works
+returns-in-List-clause-works g c = λ judges. absurd (let bad : Lists ≡ Judge = sym c.in-List.is ∙ judges in cc)
+
+pub returns-in-Show-clause-works : goal.returns-in-Show-clause-works
+returns-in-Show-clause-works g c = λ judges. absurd (let bad : Show ≡ Judge = sym c.in-Show.is ∙ judges in cc)
+
+pub returns-in-ShowRow-clause-works : goal.returns-in-ShowRow-clause-works
+returns-in-ShowRow-clause-works g c = λ judges. absurd (let bad : ShowRow ≡ Judge = sym c.in-ShowRow.is ∙ judges in cc)
+
+pub returns-in-MovesRow-clause-works : goal.returns-in-MovesRow-clause-works
+returns-in-MovesRow-clause-works g c = λ judges. absurd (let bad : MovesRow ≡ Judge = sym c.in-MovesRow.is ∙ judges in
+    cc)
+
+pub returns-in_err-write_moves-in-Moves-clause-works : goal.returns-in_err-write_moves-in-Moves-clause-works
+returns-in_err-write_moves-in-Moves-clause-works g c = λ judges. absurd (let bad : Moves ≡ Judge = sym c.in-Moves.is
+    ∙ judges in cc)
+
+pub returns-in_ok-write_moves-in-Moves-clause-works : goal.returns-in_ok-write_moves-in-Moves-clause-works
+returns-in_ok-write_moves-in-Moves-clause-works g c = λ judges. absurd (let bad : Moves ≡ Judge = sym c.in-Moves.is
+    ∙ judges in cc)

@@ -11,6 +11,9 @@ use Rattle.dw_report.proofs.RunStepLemmas.{counts_passed}
 use Rattle.dw_report.proofs.SearchLemmas.{searches_none, searches_as, same_fault}
 use Rattle.dw_report.proofs.FaultLemmas.{sink_same, ok_not_stopped}
 use Rattle.dw_report.proofs.WritingLemmas.{fault_stays, one_report_on, one_part_on, no_report_on, chosen_report_on}
+use Rattle.std.proofs.lemmas.Bool.{true≢false}
+use Rattle.dw_solve.specs.Work.{cut_off}
+use Rattle.dw_report.proofs.WorkLemmas.{afresh_ended, afresh_none, cut_few}
 use Rattle.dw_report.proofs.run.report_problem.Goals as goal
 
 pub returns-in_err-refused-clause-text : goal.returns-in_err-refused-clause-text
@@ -76,3 +79,24 @@ returns-then-not-chooses-clause-counts g c =
 pub write_problem-requires : goal.write_problem-requires
 write_problem-requires g c =
     (omega arith, (c.requires.works, c.requires.sound))
+
+pub returns-then-not-chooses-clause-works : goal.returns-then-not-chooses-clause-works
+returns-then-not-chooses-clause-works g c = λ judges.
+    afresh_none c.searches_add_up.ensures g.B.Board.geometry g.M.Memo.keeps c.args.settings.now.n _ _
+
+pub returns-in_err-refused-clause-works : goal.returns-in_err-refused-clause-works
+returns-in_err-refused-clause-works g c = λ judges.
+    let n = c.args.settings.now.n in
+    let why = err_from_is_err_and c.from_residual.result c.from_residual.ensures.1 in
+    afresh_ended g.B.Board.geometry g.M.Memo.keeps n (cut_off c.write_problem.result n) c.from_residual.result why.0 _ _
+    why.1 (cut_few c.write_problem.result n) (c.write_problem.ensures.works judges)
+
+pub returns-clause-works : goal.returns-clause-works
+returns-clause-works g c = c.in_ok-refused.ensures.works
+
+pub returns-in_err-refused-clause-other : goal.returns-in_err-refused-clause-other
+returns-in_err-refused-clause-other g c = λ other. absurd (true≢false (sym (sym c.chooses.ensures
+    ∙ c.if-not-chooses.false) ∙ other))
+
+pub returns-clause-other : goal.returns-clause-other
+returns-clause-other g c = λ other. absurd (true≢false (sym (sym c.chooses.ensures ∙ c.if-not-chooses.false) ∙ other))

@@ -1,4 +1,4 @@
-use Rattle.std.proofs.Common.{◌≡◌, refl, true, false, rules, arith, sym, ap, [], ◌∷◌, ◌∙◌}
+use Rattle.std.proofs.Common.{◌≡◌, refl, true, false, rules, arith, sym, ap, subst, [], ◌∷◌, ◌∙◌}
 use Rattle.dw_notation.specs.Problems.{Numbered, numbered}
 use Rattle.dw_notation.specs.Reading.{source_of}
 use Rattle.dw_notation.specs.inner.Readers.{reader_of}
@@ -9,6 +9,10 @@ use Rattle.dw_report.proofs.RunLemmas.{SoFar-start, SoFar-next, SoFar-asked, fai
 use Rattle.dw_report.proofs.RunStepLemmas.{next_none, next_failed, counted_one, next_more, next_fault}
 use Rattle.dw_report.proofs.SearchLemmas.{searches_counted, searches_keep, stops_rightly, tells_expanded}
 use Rattle.dw_report.proofs.SpendingLemmas.{counted_none}
+use Rattle.dw_report.proofs.WorkLemmas.{afresh_none, not_chosen, work_last, work_more, work_none}
+use Rattle.dw_report.specs.Work.{SearchedAfresh}
+use Rattle.dw_solve.specs.Questions.{moment_of}
+use Rattle.dw_solve.specs.Work.{cut_off}
 use Rattle.dw_report.proofs.run.run_with.Goals as goal
 
 pub problems-init : goal.problems-init
@@ -23,6 +27,8 @@ problems-init g c =
       source = ap g.S.Source.is_failed new.source ∙ c.requires.source;
       sink = c.requires.sink;
       count = counted_none c.args.solver.now c.keeps_its_limit.ensures;
+      works = λ judges. work_none g.B.Board.geometry g.M.Memo.keeps g.M.Memo.content g.M.Memo.dropped
+          c.args.settings.now.only c.args.settings.now.n c.searches_add_up.ensures c.args.solver.now;
       still = λ _. refl;
       read = zero.0 ∙ sym new.handed;
       shown = omega (arith, zero.1.0);
@@ -151,6 +157,11 @@ problems-preserved g c =
       sink = c.in-Ok.ensures.sink ∙ so_far.sink;
       count = searches_counted settings.command c.args.solver.now c.problems.solver c.report_problem.new.solver
           c.report_problem.result so_far.count c.report_problem.ensures.searches;
+      works = λ judges. work_more g.B.Board.geometry g.M.Memo.keeps g.M.Memo.content g.M.Memo.dropped settings.only
+          settings.n c.searches_add_up.ensures c.args.solver.now c.problems.solver c.report_problem.new.solver
+          (so_far.works judges) (c.in-Ok.ensures.works judges)
+          (λ k one. c.report_problem.ensures.other (not_chosen settings.only k c.in-Ok-Some.problem.number one
+          (sym c.asks_for.ensures ∙ c.if-asks_for.false)));
       still = λ moves. keep.1 moves ∙ so_far.still moves;
       read = omega (arith, counts.read, so_far.read, counted.0);
       shown = omega (arith, counts.read, counts.shown, so_far.shown, few);
@@ -162,3 +173,34 @@ pub returns-then-asks_for-clause-count : goal.returns-then-asks_for-clause-count
 returns-then-asks_for-clause-count g c = searches_counted c.args.settings.now.command c.args.solver.now
     c.problems.solver c.report_problem.new.solver c.report_problem.result c.problems.invariant.count
     c.report_problem.ensures.searches
+
+pub returns-in-Ok-None-clause-works : goal.returns-in-Ok-None-clause-works
+returns-in-Ok-None-clause-works g c = λ judges.
+    work_last g.B.Board.geometry g.M.Memo.keeps g.M.Memo.content g.M.Memo.dropped c.args.settings.now.only
+    c.args.settings.now.n c.searches_add_up.ensures _ c.args.solver.now c.problems.solver c.problems.solver
+    (c.problems.invariant.works judges) (afresh_none c.searches_add_up.ensures g.B.Board.geometry g.M.Memo.keeps
+    c.args.settings.now.n _ _)
+
+pub returns-in-Err-clause-works : goal.returns-in-Err-clause-works
+returns-in-Err-clause-works g c = λ judges.
+    work_last g.B.Board.geometry g.M.Memo.keeps g.M.Memo.content g.M.Memo.dropped c.args.settings.now.only
+    c.args.settings.now.n c.searches_add_up.ensures _ c.args.solver.now c.problems.solver c.problems.solver
+    (c.problems.invariant.works judges) (afresh_none c.searches_add_up.ensures g.B.Board.geometry g.M.Memo.keeps
+    c.args.settings.now.n _ _)
+
+pub returns-then-asks_for-clause-works : goal.returns-then-asks_for-clause-works
+returns-then-asks_for-clause-works g c = λ judges.
+    work_last g.B.Board.geometry g.M.Memo.keeps g.M.Memo.content g.M.Memo.dropped c.args.settings.now.only
+    c.args.settings.now.n c.searches_add_up.ensures _ c.args.solver.now c.problems.solver c.report_problem.new.solver
+    (c.problems.invariant.works judges) (c.in-Ok.ensures.works judges)
+
+pub returns-in-Err-report_problem-clause-works : goal.returns-in-Err-report_problem-clause-works
+returns-in-Err-report_problem-clause-works g c = λ judges.
+    work_last g.B.Board.geometry g.M.Memo.keeps g.M.Memo.content g.M.Memo.dropped c.args.settings.now.only
+    c.args.settings.now.n c.searches_add_up.ensures c.args.settings.now.n c.args.solver.now c.problems.solver
+    c.report_problem.new.solver
+    (c.problems.invariant.works judges)
+    (subst (λ z. SearchedAfresh g.B.Board.geometry g.M.Memo.keeps c.args.settings.now.n
+    (cut_off z c.args.settings.now.n) (moment_of g.M.Memo.content g.M.Memo.dropped c.problems.solver)
+    (moment_of g.M.Memo.content g.M.Memo.dropped c.report_problem.new.solver)) c.in-Err-report_problem.is
+    (c.report_problem.ensures.works judges))

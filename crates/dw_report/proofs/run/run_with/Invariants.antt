@@ -5,6 +5,8 @@ use Rattle.dw_report.specs.Request.{request_of}
 use Rattle.dw_report.specs.inner.Running.{searches}
 use Rattle.dw_report.proofs.RunLemmas.{SoFar}
 use Rattle.dw_report.proofs.SpendingLemmas.{Counted}
+use Rattle.dw_report.proofs.WorkLemmas.{WorkSoFar}
+use Rattle.dw_report.specs.declared.settings.Command.TheVariants.{Judge}
 use Rattle.dw_report.proofs.run.run_with.Given as goal
 
 abbrev pub invariant-problems : goal.invariant-problems
@@ -21,6 +23,8 @@ invariant-problems g l =
       source : source.is_failed (source_of l.problems) ≡ false;
       sink : sink.is_failed l.sink ≡ false;
       count : Counted l.initial.solver l.solver;
+      works : l.settings.command ≡ Judge → WorkSoFar g.B.Board.geometry g.M.Memo.keeps g.M.Memo.content
+          g.M.Memo.dropped l.settings.only l.settings.n l.initial.solver l.solver;
       still : searches l.settings.command ≡ false → l.solver.expanded ≡ l.initial.solver.expanded;
       read : l.summary.problems ≡ (reader_of l.problems).handed;
       shown : l.summary.shown ≤ l.summary.problems;

@@ -4,8 +4,8 @@ use Rattle.dw_notation.specs.Problems.{numbered}
 use Rattle.dw_notation.specs.Reading.{NextGives, source_of}
 use Rattle.dw_notation.specs.inner.Readers.{reader_of}
 use Rattle.dw_desk_commands.specs.declared.chosen.Text.TheVariants.{Fens, Pdn}
-use Rattle.dw_desk_commands.specs.inner.Choosing.{ComesNext, EndIsKnown}
-use Rattle.dw_desk_commands.proofs.ChosenLemmas.{next_game, next_line, no_line, without_text}
+use Rattle.dw_desk_commands.specs.inner.Choosing.{ComesNext}
+use Rattle.dw_desk_commands.proofs.ChosenLemmas.{games_go_on, lines_go_on, next_game, next_line, no_line, without_text}
 use Rattle.dw_desk_commands.proofs.chosen.Text.next.Goals as goal
 
 pub returns-in_ok-next-in-Pdn-clause-given : goal.returns-in_ok-next-in-Pdn-clause-given
@@ -41,22 +41,56 @@ returns-in-Some-clause-given g c =
     (without_text (numbered c.in-Some.problem) _ _ c.new.ensures.items c.new-in-Some.ensures.items) given
     new.ensures.stays)
 
-pub returns-in_err-next-in-Pdn-clause-end : goal.returns-in_err-next-in-Pdn-clause-end
-returns-in_err-next-in-Pdn-clause-end g c = λ began known.
-    c.next.ensures.end began (subst (λ z. EndIsKnown g.S.Source.supply began z) c.in-Pdn.is known)
+pub returns-in_err-next-in-Pdn-clause-on : goal.returns-in_err-next-in-Pdn-clause-on
+returns-in_err-next-in-Pdn-clause-on g c = (games_go_on g.B.Board.geometry g.S.Source.supply c.args.self.now
+    c.in-Pdn.games
+    c.next.new.self c.next.result c.in-Pdn.is c.next.ensures.given c.next.ensures.end).0
 
-pub returns-in_ok-next-in-Pdn-clause-end : goal.returns-in_ok-next-in-Pdn-clause-end
-returns-in_ok-next-in-Pdn-clause-end g c = λ began known.
-    c.next.ensures.end began (subst (λ z. EndIsKnown g.S.Source.supply began z) c.in-Pdn.is known)
+pub returns-in_err-next-in-Pdn-clause-possible : goal.returns-in_err-next-in-Pdn-clause-possible
+returns-in_err-next-in-Pdn-clause-possible g c = (games_go_on g.B.Board.geometry g.S.Source.supply c.args.self.now
+    c.in-Pdn.games
+    c.next.new.self c.next.result c.in-Pdn.is c.next.ensures.given c.next.ensures.end).1
 
-pub returns-in_err-next-in-Fens-clause-end : goal.returns-in_err-next-in-Fens-clause-end
-returns-in_err-next-in-Fens-clause-end g c = λ began known.
-    c.next-in-Fens.ensures.end began (subst (λ z. EndIsKnown g.S.Source.supply began z) c.in-Fens.is known)
+pub returns-in_ok-next-in-Pdn-clause-on : goal.returns-in_ok-next-in-Pdn-clause-on
+returns-in_ok-next-in-Pdn-clause-on g c = (games_go_on g.B.Board.geometry g.S.Source.supply c.args.self.now
+    c.in-Pdn.games
+    c.next.new.self c.next.result c.in-Pdn.is c.next.ensures.given c.next.ensures.end).0
 
-pub returns-in-None-clause-end : goal.returns-in-None-clause-end
-returns-in-None-clause-end g c = λ began known.
-    c.next-in-Fens.ensures.end began (subst (λ z. EndIsKnown g.S.Source.supply began z) c.in-Fens.is known)
+pub returns-in_ok-next-in-Pdn-clause-possible : goal.returns-in_ok-next-in-Pdn-clause-possible
+returns-in_ok-next-in-Pdn-clause-possible g c = (games_go_on g.B.Board.geometry g.S.Source.supply c.args.self.now
+    c.in-Pdn.games
+    c.next.new.self c.next.result c.in-Pdn.is c.next.ensures.given c.next.ensures.end).1
 
-pub returns-in-Some-clause-end : goal.returns-in-Some-clause-end
-returns-in-Some-clause-end g c = λ began known.
-    c.next-in-Fens.ensures.end began (subst (λ z. EndIsKnown g.S.Source.supply began z) c.in-Fens.is known)
+pub returns-in_err-next-in-Fens-clause-on : goal.returns-in_err-next-in-Fens-clause-on
+returns-in_err-next-in-Fens-clause-on g c = (lines_go_on g.B.Board.geometry g.S.Source.supply c.args.self.now
+    c.in-Fens.problems
+    c.next-in-Fens.new.self c.next-in-Fens.result c.in-Fens.is c.next-in-Fens.ensures.given
+    c.next-in-Fens.ensures.stays c.next-in-Fens.ensures.end).0
+
+pub returns-in_err-next-in-Fens-clause-possible : goal.returns-in_err-next-in-Fens-clause-possible
+returns-in_err-next-in-Fens-clause-possible g c = (lines_go_on g.B.Board.geometry g.S.Source.supply c.args.self.now
+    c.in-Fens.problems
+    c.next-in-Fens.new.self c.next-in-Fens.result c.in-Fens.is c.next-in-Fens.ensures.given
+    c.next-in-Fens.ensures.stays c.next-in-Fens.ensures.end).1
+
+pub returns-in-None-clause-on : goal.returns-in-None-clause-on
+returns-in-None-clause-on g c = (lines_go_on g.B.Board.geometry g.S.Source.supply c.args.self.now c.in-Fens.problems
+    c.next-in-Fens.new.self c.next-in-Fens.result c.in-Fens.is c.next-in-Fens.ensures.given
+    c.next-in-Fens.ensures.stays c.next-in-Fens.ensures.end).0
+
+pub returns-in-None-clause-possible : goal.returns-in-None-clause-possible
+returns-in-None-clause-possible g c = (lines_go_on g.B.Board.geometry g.S.Source.supply c.args.self.now
+    c.in-Fens.problems
+    c.next-in-Fens.new.self c.next-in-Fens.result c.in-Fens.is c.next-in-Fens.ensures.given
+    c.next-in-Fens.ensures.stays c.next-in-Fens.ensures.end).1
+
+pub returns-in-Some-clause-on : goal.returns-in-Some-clause-on
+returns-in-Some-clause-on g c = (lines_go_on g.B.Board.geometry g.S.Source.supply c.args.self.now c.in-Fens.problems
+    c.next-in-Fens.new.self c.next-in-Fens.result c.in-Fens.is c.next-in-Fens.ensures.given
+    c.next-in-Fens.ensures.stays c.next-in-Fens.ensures.end).0
+
+pub returns-in-Some-clause-possible : goal.returns-in-Some-clause-possible
+returns-in-Some-clause-possible g c = (lines_go_on g.B.Board.geometry g.S.Source.supply c.args.self.now
+    c.in-Fens.problems
+    c.next-in-Fens.new.self c.next-in-Fens.result c.in-Fens.is c.next-in-Fens.ensures.given
+    c.next-in-Fens.ensures.stays c.next-in-Fens.ensures.end).1
