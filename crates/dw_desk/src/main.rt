@@ -12,10 +12,10 @@ mod progress;
 use dw_arguments::{BoardSize, DeskArgs};
 use dw_board::{Board, Eight, Ten};
 use dw_commands::Ending;
-use dw_desk_commands::{DeskWatcher, run_on};
+use dw_desk_commands::run_on;
 use dw_notation::{Reading, Writing};
 use dw_shell::{arguments, end_refused, end_with};
-use dw_study::Slices;
+use dw_solve::Watcher;
 use progress::Progress;
 use std::alloc::Global;
 use std::fs::File;
@@ -24,9 +24,6 @@ use std::process::ExitCode;
 
 /// The program's name in its messages.
 const PROGRAM: &str = "dw-desk";
-
-/// How many positions the first slice of a search expands if its progress is shown.
-const FIRST_SLICE: u64 = 50_000;
 
 fn main(rt: HostRuntime) -> ExitCode {
     let words = match arguments(&rt, PROGRAM) {
@@ -68,8 +65,9 @@ fn run_with<'a, B: Board>(
 ) -> Ending<&'a str>
     requires { (B.geometry.rows ≡ 10) ⊎ (B.geometry.rows ≡ 8) }
 {
-    let mut slices = slices_of(rt, args);
-    run_between::<B, _, _, _>(rt.alloc(), &mut slices, args, reader, rt.stdout()).ending
+    let is_shown = args.progress || rt.stderr().is_terminal();
+    let progress = Progress::new(rt, is_shown);
+    run_between::<B, _, _, _>(rt.alloc(), progress, args, reader, rt.stdout()).ending
 }
 
 /// How a command ended, with its streams.
@@ -81,9 +79,9 @@ struct Ended<'a, R, W: Write> {
 }
 
 /// Runs the command with the problems that the reader gives, and writes to the writer.
-fn run_between<'a, B: Board, P: DeskWatcher, R: Read, W: Write>(
+fn run_between<'a, B: Board, P: Watcher + Drop, R: Read, W: Write>(
     alloc: Global,
-    slices: &mut Slices<P>,
+    watcher: P,
     args: &DeskArgs<'a>,
     reader: R,
     writer: W,
@@ -101,18 +99,11 @@ fn run_between<'a, B: Board, P: DeskWatcher, R: Read, W: Write>(
 {
     let mut source = Reading::new(reader);
     let mut sink = Writing::new(writer);
-    let ending = run_on::<B, _, _, _>(alloc, slices, args, &mut source, &mut sink);
+    let ending = run_on::<B, _, _, _>(alloc, watcher, args, &mut source, &mut sink);
     sink.holds_what_it_accepted();
     Ended {
         source,
         sink,
         ending,
     }
-}
-
-/// Returns the slices of the searches and their watcher. If the progress is not shown, a search is one slice.
-fn slices_of<'a>(rt: &'a HostRuntime, args: &DeskArgs<'_>) -> Slices<Progress<'a>> {
-    let is_shown = args.progress || rt.stderr().is_terminal();
-    let first = if is_shown { FIRST_SLICE } else { u64::MAX };
-    Slices::new(first, Progress::new(rt, is_shown))
 }

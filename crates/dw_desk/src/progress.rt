@@ -1,6 +1,5 @@
 //! The line at a terminal that shows how far a search is.
-use dw_desk_commands::DeskWatcher;
-use dw_study::Watcher;
+use dw_solve::Watcher;
 use std::time::{Duration, Instant};
 
 /// How many milliseconds a search takes before the line is shown.
@@ -19,6 +18,8 @@ pub(crate) struct Progress<'a> {
     problem: u32,
     /// The start of its search, if it is to be shown.
     started: Option<Instant>,
+    /// How many positions were expanded before.
+    before: u64,
     /// The time of the last write, if the line is visible.
     written: Option<Instant>,
 }
@@ -31,6 +32,7 @@ impl<'a> Progress<'a> {
             is_shown,
             problem: 0,
             started: None,
+            before: 0,
             written: None,
         }
     }
@@ -57,13 +59,25 @@ impl<'a> Progress<'a> {
 }
 
 impl Watcher for Progress<'_> {
+    /// Notes that the search for a problem begins. Without a clock its progress is not shown.
+    fn begin(&mut self, problem: u32, expanded: u64) {
+        self.problem = problem;
+        self.before = expanded;
+        self.started = if self.is_shown {
+            Instant::now(self.rt).ok()
+        } else {
+            None
+        };
+    }
+
     fn watch(&mut self, moves: u8, expanded: u64) {
         if !self.is_due() {
             return;
         }
         self.written = Instant::now(self.rt).ok();
         let problem = self.problem;
-        let _ = eprint!(self.rt; "\r\x1b[Kproblem {problem}: {moves} moves, {expanded} positions");
+        let positions = expanded.saturating_sub(self.before);
+        let _ = eprint!(self.rt; "\r\x1b[Kproblem {problem}: {moves} moves, {positions} positions");
     }
 
     /// Removes the line, if it is visible.
@@ -72,23 +86,5 @@ impl Watcher for Progress<'_> {
             self.written = None;
             let _ = eprint!(self.rt; "\r\x1b[K");
         }
-    }
-}
-
-impl DeskWatcher for Progress<'_> {
-    /// Notes that the search for a problem begins. Without a clock its progress is not shown.
-    fn begin(&mut self, problem: u32) {
-        self.problem = problem;
-        self.started = if self.is_shown {
-            Instant::now(self.rt).ok()
-        } else {
-            None
-        };
-    }
-
-    /// Notes that the search is over, and removes the line.
-    fn end(&mut self) {
-        self.started = None;
-        self.make_way();
     }
 }

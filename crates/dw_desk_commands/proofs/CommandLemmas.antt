@@ -1,9 +1,10 @@
 -- What a command does with the chosen games.
 use Rattle.std.proofs.Common.{◌≡◌, ℕ, Bool, List, [], ◌∷◌, Option, Some, None, inl, inr, refl, sym, subst, ap}
 use Rattle.dw_board.specs.Geometry.{Geometry}
-use Rattle.dw_desk_commands.specs.Commands.{DoesIt, FailsAt, IsDone, IsLeft, Leaves, StandsAfter, Tells, form_for}
+use Rattle.dw_desk_commands.specs.Commands.{FailsAt, IsDone, IsLeft, Leaves, RunsCommand, StandsAfter, Tells}
+use Rattle.dw_desk_commands.specs.Commands.{form_for}
 use Rattle.dw_desk_commands.specs.Ending.{ending_after}
-use Rattle.dw_desk_commands.specs.Paging.{IsPageOf, IsPageStop}
+use Rattle.dw_desk_commands.specs.Page.{IsPageOf, IsPageStop}
 use Rattle.dw_arguments.specs.declared.page.PageArgs.{PageArgs}
 use Rattle.dw_desk_commands.specs.ProblemText.{IsPartOfFirst, IsPartOfReport, IsReport, IsReportOnAll, IsReportOnOne}
 use Rattle.dw_desk_commands.specs.ProblemText.{nothing}
@@ -35,7 +36,7 @@ pub does_it : {B S T : Type 0} (g : Geometry) (supply : S → Supply) (args : De
     → Appends accepted new text
     → ((whole : List ℕ) → MayBe supply after whole → (games : List NumberedGame) × AreToCome g supply old whole games
     × Tells g args.portion args.task expanded games ending text)
-    → DoesIt g args expanded (supply (source_of old.text)) (supply (source_of after.text)) accepted new ending
+    → RunsCommand g args expanded (supply (source_of old.text)) (supply (source_of after.text)) accepted new ending
 does_it g supply args expanded old after accepted new ending text fresh on wrote told = record {
   read = on.read;
   took = on.took;
@@ -58,7 +59,7 @@ pub does_all : {B S T : Type 0} (g : Geometry) (supply : S → Supply) (args : D
     → ending ≡ ending_after counts.shown counts.refused args.portion
     → ((games : List NumberedGame) (text : List ℕ) → IsReportOnAll One expanded args.portion games ending text
     → Tells g args.portion args.task expanded games ending text)
-    → DoesIt g args expanded (supply (source_of old.text)) (supply (source_of after.text)) accepted new ending
+    → RunsCommand g args expanded (supply (source_of old.text)) (supply (source_of after.text)) accepted new ending
 does_all g supply args expanded old after accepted new One counts ending fresh on report ends tells =
     does_it g supply args expanded old after accepted new ending report.1 fresh on report.4
     (λ whole may. (report.0, report.2 whole may, tells report.0 report.1 (counts, report.3, ends)))
@@ -81,7 +82,7 @@ pub does_one : {B S T : Type 0} (g : Geometry) (supply : S → Supply) (args : D
     × IsReportOnOne One old.portion.first (as_list next) ending text × Appends accepted new text)
     → ((games : List NumberedGame) (text : List ℕ) → IsReportOnOne One args.portion.first games ending text
     → Tells g args.portion args.task expanded games ending text)
-    → DoesIt g args expanded (supply (source_of old.text)) (supply (source_of after.text)) accepted new ending
+    → RunsCommand g args expanded (supply (source_of old.text)) (supply (source_of after.text)) accepted new ending
 does_one g supply args expanded old after accepted new One ending fresh report tells =
     does_it g supply args expanded old after accepted new ending report.1 fresh report.2.2 report.4 (λ whole may.
     let all = first_of_all g supply old after One report.0 old.portion.first ending report.1 whole report.2 report.3 may

@@ -1,9 +1,9 @@
 mod ProblemLemmas
 mod ReportLemmas
 mod StandingLemmas
-mod CheckingLemmas
+mod CheckLemmas
 mod ChosenLemmas
 mod CommandLemmas
-mod FoundLemmas
-mod MendingLemmas
-mod PagingLemmas
+mod FindLemmas
+mod MendLemmas
+mod PageLemmas

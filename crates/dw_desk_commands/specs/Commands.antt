@@ -1,18 +1,18 @@
 -- The effect of each command on the chosen problems of a text.
 use Rattle.std.specs.Prelude.{◌≡◌, ◌⊎◌, ℕ, List, [], false, not}
 use Rattle.dw_board.specs.Geometry.{Geometry}
-use Rattle.dw_desk_commands.specs.Certifying.{IsCertifyOf}
-use Rattle.dw_desk_commands.specs.Checking.{IsCheckOf}
+use Rattle.dw_desk_commands.specs.Certify.{IsCertifyOf}
+use Rattle.dw_desk_commands.specs.Check.{IsCheckOf}
 use Rattle.dw_desk_commands.specs.Chosen.{AreChosen}
 use Rattle.dw_desk_commands.specs.Ending.{ending_after}
-use Rattle.dw_desk_commands.specs.Finding.{IsFindOf}
-use Rattle.dw_desk_commands.specs.Mending.{IsMendOf, IsMendPart}
-use Rattle.dw_desk_commands.specs.Moving.{IsMovesOf}
-use Rattle.dw_desk_commands.specs.Paging.{IsPageOf, IsPageStop}
+use Rattle.dw_desk_commands.specs.Find.{IsFindOf}
+use Rattle.dw_desk_commands.specs.Mend.{IsMendOf, IsMendPart}
+use Rattle.dw_desk_commands.specs.Moves.{IsMovesOf}
+use Rattle.dw_desk_commands.specs.Page.{IsPageOf, IsPageStop}
 use Rattle.dw_desk_commands.specs.ProblemText.{IsHeading, IsPartOfFirst, IsPartOfReport, IsReportOnAll}
 use Rattle.dw_desk_commands.specs.ProblemText.{IsReportOnOne}
-use Rattle.dw_desk_commands.specs.Solving.{IsSolutionOf}
-use Rattle.dw_desk_commands.specs.Writing.{IsTokenFor}
+use Rattle.dw_desk_commands.specs.Solution.{IsSolutionOf}
+use Rattle.dw_desk_commands.specs.Token.{IsTokenFor}
 use Rattle.dw_desk_commands.specs.declared.desk.Counts.{Counts}
 use Rattle.dw_commands.specs.declared.ending.Ending.{Ending}
 use Rattle.dw_commands.specs.declared.ending.Ending.TheVariants.{Failed}
@@ -64,7 +64,7 @@ pub record IsDone {T : Type 0} (g : Geometry) (args : DeskArgs) (expanded : ℕ)
 
 -- A command is done, after a number of expansions: it reads some bytes, and just its output for them is written,
 -- whatever bytes follow; or the end of its source is met.
-pub record DoesIt {T : Type 0} (g : Geometry) (args : DeskArgs) (expanded : ℕ) (before after : Supply)
+pub record RunsCommand {T : Type 0} (g : Geometry) (args : DeskArgs) (expanded : ℕ) (before after : Supply)
     (accepted new : List ℕ) (ending : Ending T) : Type 0 where
   pub read : List ℕ
   pub took : Reads before after read
@@ -117,4 +117,4 @@ abbrev pub Obeys : {T : Type 0} → Geometry → DeskArgs → (before after : Su
     → Type 0
 Obeys {T} g args before after accepted new ending =
     ((fault : RunFault) × (ending ≡ Failed fault) × FailsAt T g args before after accepted new fault)
-    ⊎ ((expanded : ℕ) × DoesIt g args expanded before after accepted new ending)
+    ⊎ ((expanded : ℕ) × RunsCommand g args expanded before after accepted new ending)

@@ -1,6 +1,6 @@
 //! The solver and the counters that all commands share.
 ghost use Rattle.std.specs.Prelude.{◌≡◌, ◌⊎◌, ◌+◌, ◌-◌, ◌<◌, ◌≤◌, false, if◌then◌else◌, Bool, ℕ, List, IfOk, IfErr};
-ghost use Rattle.dw_desk_commands.specs.Commands.{DoesIt, Leaves, Obeys, Tells, form_for};
+ghost use Rattle.dw_desk_commands.specs.Commands.{Leaves, Obeys, RunsCommand, Tells, form_for};
 ghost use Rattle.dw_desk_commands.specs.Ending.{FailsForCause, ending_after};
 ghost use Rattle.dw_desk_commands.specs.declared.desk.DeskFault.TheVariants as because;
 ghost use Rattle.dw_desk_commands.specs.inner.Choosing.{AreToCome, GoesOn, IsFresh, MayBe, lender, source_of};
@@ -11,10 +11,9 @@ ghost use Rattle.dw_desk_commands.specs.inner.Faults.{CommandFails, FailsForMemo
 ghost use Rattle.dw_solve.specs.declared.stop.Stop.TheVariants as stops;
 
 use crate::chosen::Chosen;
-use crate::paging::page_problems;
+use crate::page::page_problems;
 use crate::reporting::{InText, report_all, report_first};
-use crate::watcher::DeskWatcher;
-use crate::writing::Line;
+use crate::token::Line;
 use dw_arguments::{DeskArgs, Task};
 use dw_board::Board;
 use dw_commands::{Ending, LeakedMemo, memo_of};
@@ -22,8 +21,7 @@ use dw_games::GameFault;
 use dw_mend::MendFault;
 use dw_notation::{Form, ReadFault, Sink, Source, WriteFault};
 use dw_report::{RunFault, Stop};
-use dw_solve::{ByTrial, Solver};
-use dw_study::Slices;
+use dw_solve::{ByTrial, Solver, Watched, Watcher};
 use std::alloc::{AllocError, Global};
 
 /// The number of reported problems, and the number of those that count as refused: they or their solutions were
@@ -140,37 +138,44 @@ impl From<WriteFault> for DeskFault {
 
 /// The solver for all problems, which has no limit.
 #[derive(Drop)]
-pub(crate) struct Desk<B: Board> {
+pub(crate) struct Desk<B: Board, W: Watcher> {
     pub(crate) alloc: Global,
-    pub(crate) solver: Solver<B, LeakedMemo<B>, ByTrial>,
+    pub(crate) solver: Solver<B, LeakedMemo<B>, Watched<ByTrial, W>>,
     ghost unbounded: { solver.limit ≡ 18446744073709551615 },
 }
 
-impl<B: Board> Desk<B> {
+impl<B: Board, W: Watcher> Desk<B, W> {
     /// Makes a desk over an empty memo.
-    fn new(alloc: Global, args: &DeskArgs<'_>) -> Result<Self, AllocError> {
+    fn new(alloc: Global, args: &DeskArgs<'_>, watcher: W) -> Result<Self, AllocError>
+    where
+        W: Drop,
+    {
         let memo = memo_of(alloc, args.memo, args.cache)?;
-        let solver = Solver::new(memo, ByTrial, u64::MAX);
+        let guide = Watched {
+            guide: ByTrial,
+            watcher,
+        };
+        let solver = Solver::new(memo, guide, u64::MAX);
         Ok(Desk { alloc, solver })
     }
 
-    /// Begins another problem: the memo may forget those before, and the progress line shows the new number.
-    pub(crate) fn begin<W: DeskWatcher>(&mut self, slices: &mut Slices<W>, number: u32)
-        ensures count { self.new.solver.expanded ≡ self.old.solver.expanded }
-        ensures first { slices.new.first ≡ slices.old.first }
+    /// Begins another problem: the memo may forget those before, and the watcher learns the new number.
+    pub(crate) fn begin(&mut self, number: u32)
+        ensures { self.new.solver.expanded ≡ self.old.solver.expanded }
     {
         self.solver.forget();
-        slices.watcher.begin(number);
+        self.solver.tell_problem(number);
     }
 }
 
-/// Runs a command on the problems of a source, and returns how the program ends. The board must have 10 or 8 rows, and
-/// neither the source nor the sink may have failed before. It fails if memory is refused, if a stream fails, or if
-/// 2^64 - 1 positions are expanded. Then a beginning of the output was written: whole texts of the problems before, and
-/// of the next one's text nothing, or whole lines. After a failed write it may end at any byte.
-pub fn run_on<'a, B: Board, W: DeskWatcher, S: Source, K: Sink>(
+/// Runs a command on the problems of a source, and returns how the program ends. The watcher learns how far the
+/// searches are. The board must have 10 or 8 rows, and neither the source nor the sink may have failed before. It fails
+/// if memory is refused, if a stream fails, or if 2^64 - 1 positions are expanded. Then a beginning of the output was
+/// written: whole texts of the problems before, and of the next one's text nothing, or whole lines. After a failed
+/// write it may end at any byte.
+pub fn run_on<'a, B: Board, W: Watcher + Drop, S: Source, K: Sink>(
     alloc: Global,
-    slices: &mut Slices<W>,
+    watcher: W,
     args: &DeskArgs<'a>,
     source: &mut S,
     sink: &mut K,
@@ -183,16 +188,16 @@ pub fn run_on<'a, B: Board, W: DeskWatcher, S: Source, K: Sink>(
     ensures fails { FailsForCause (S.is_failed source.new) (K.is_failed sink.new) result }
 {
     let mut chosen = Chosen::<B, S>::new(alloc, source, form_of(args), args.portion);
-    let ending = run_chosen(alloc, slices, args, &mut chosen, sink);
+    let ending = run_chosen(alloc, watcher, args, &mut chosen, sink);
     // Chosen problems that are dropped would not tell how much was read.
     let _ = chosen.into_source();
     ending
 }
 
 /// Runs a command on the chosen problems.
-fn run_chosen<'a, B: Board, W: DeskWatcher, S: Source, K: Sink>(
+fn run_chosen<'a, B: Board, W: Watcher + Drop, S: Source, K: Sink>(
     alloc: Global,
-    slices: &mut Slices<W>,
+    watcher: W,
     args: &DeskArgs<'a>,
     chosen: &mut Chosen<'_, B, S>,
     sink: &mut K,
@@ -206,19 +211,20 @@ fn run_chosen<'a, B: Board, W: DeskWatcher, S: Source, K: Sink>(
     ensures fails { FailsForCause (S.is_failed (source_of chosen.new.text)) (K.is_failed sink.new) result }
     ensures source { lender chosen.new.text ≡ lender chosen.old.text }
 {
-    let Ok(mut desk) = Desk::<B>::new(alloc, args) else {
+    let Ok(mut desk) = Desk::<B, W>::new(alloc, args, watcher) else {
         return Ending::no_memory();
     };
-    match dispatch(&mut desk, slices, args, chosen, sink) {
+    let done = dispatch(&mut desk, args, chosen, sink);
+    desk.solver.make_way();
+    match done {
         Ok(ending) => ending,
         Err(fault) => Ending::Failed(fault.in_run(desk.solver.expanded())),
     }
 }
 
 /// Runs a command on the chosen problems, unless something stops it.
-fn dispatch<'a, B: Board, W: DeskWatcher, S: Source, K: Sink>(
-    desk: &mut Desk<B>,
-    slices: &mut Slices<W>,
+fn dispatch<'a, B: Board, W: Watcher, S: Source, K: Sink>(
+    desk: &mut Desk<B, W>,
     args: &DeskArgs<'a>,
     chosen: &mut Chosen<'_, B, S>,
     sink: &mut K,
@@ -227,7 +233,7 @@ fn dispatch<'a, B: Board, W: DeskWatcher, S: Source, K: Sink>(
     requires fresh { IsFresh B.geometry S.supply (form_for args.now.task args.now.form) args.now.portion
         chosen.old }
     requires sink { K.is_failed sink.old ≡ false }
-    ensures does { IfOk result (DoesIt B.geometry args.now (desk.new.solver.expanded - desk.old.solver.expanded)
+    ensures does { IfOk result (RunsCommand B.geometry args.now (desk.new.solver.expanded - desk.old.solver.expanded)
         (S.supply (source_of chosen.old.text)) (S.supply (source_of chosen.new.text)) (K.accepted sink.old)
         (K.accepted sink.new)) }
     ensures told { IfOk result FailsForMemory }
@@ -243,33 +249,33 @@ fn dispatch<'a, B: Board, W: DeskWatcher, S: Source, K: Sink>(
     match args.task {
         Task::Find(query) => {
             let command = InText { command: &query };
-            return Ok(report_all(&command, desk, slices, chosen, sink)?.ending(args));
+            return Ok(report_all(&command, desk, chosen, sink)?.ending(args));
         }
         Task::Check(query) => {
             let command = InText { command: &query };
-            return Ok(report_all(&command, desk, slices, chosen, sink)?.ending(args));
+            return Ok(report_all(&command, desk, chosen, sink)?.ending(args));
         }
         Task::Solution(query) => {
             let command = InText { command: &query };
-            return Ok(report_all(&command, desk, slices, chosen, sink)?.ending(args));
+            return Ok(report_all(&command, desk, chosen, sink)?.ending(args));
         }
         Task::Page(query) => {
-            return Ok(page_problems(desk, slices, chosen, &query, sink)?.ending(args));
+            return Ok(page_problems(desk, chosen, &query, sink)?.ending(args));
         }
         Task::Certify(query) => {
             let command = InText { command: &query };
-            return report_first::<&'a str, _, _, _, _, _>(&command, desk, slices, chosen, sink);
+            return report_first::<&'a str, _, _, _, _, _>(&command, desk, chosen, sink);
         }
         Task::Moves(query) => {
             let command = InText { command: &query };
-            return report_first::<&'a str, _, _, _, _, _>(&command, desk, slices, chosen, sink);
+            return report_first::<&'a str, _, _, _, _, _>(&command, desk, chosen, sink);
         }
         Task::Mend(query) => {
-            return report_first::<&'a str, _, _, _, _, _>(&query, desk, slices, chosen, sink);
+            return report_first::<&'a str, _, _, _, _, _>(&query, desk, chosen, sink);
         }
         Task::Token { line } => {
             let command = Line { text: line };
-            return report_first::<&'a str, _, _, _, _, _>(&command, desk, slices, chosen, sink);
+            return report_first::<&'a str, _, _, _, _, _>(&command, desk, chosen, sink);
         }
     }
 }

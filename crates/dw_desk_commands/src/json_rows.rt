@@ -2,8 +2,8 @@
 ghost use Rattle.std.specs.Prelude.{◌≡◌, ℕ, ◌∷◌, [], Bool, List, codes, IfOk, OnOk};
 ghost use Rattle.std.specs.String.{string_bytes};
 ghost use Rattle.json.specs.Json.{string};
-ghost use Rattle.dw_desk_commands.specs.FindingJson.{AreAfterKeys, AreFound, AreSolutionMembers, IsFoundRow};
-ghost use Rattle.dw_desk_commands.specs.FindingJson.{before_keys, verdict_word};
+ghost use Rattle.dw_desk_commands.specs.FindJson.{AreAfterKeys, AreFound, AreSolutionMembers, IsFoundRow};
+ghost use Rattle.dw_desk_commands.specs.FindJson.{before_keys, verdict_word};
 ghost use Rattle.dw_json.specs.Rows.{Member, count};
 ghost use Rattle.dw_json.specs.Writing.{WritesMembers};
 ghost use Rattle.dw_verdict.specs.Judging.{said_by};

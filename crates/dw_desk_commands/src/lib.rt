@@ -1,23 +1,20 @@
 //! The commands of `dw-desk`, between its arguments and its exit status.
 //!
-//! Begin with `run_on`, which runs a command over any source and sink. This crate knows no operating system. A
-//! `DeskWatcher` learns how far the searches are.
+//! Begin with `run_on`, which runs a command over any source and sink. This crate knows no operating system.
 #![tactic(auto)]
 
-mod certifying;
-mod checking;
+mod certify;
+mod check;
 mod chosen;
 pub mod desk;
-mod finding;
+mod find;
 mod json_rows;
-mod mending;
-mod moving;
+mod mend;
+mod moves;
+mod page;
 mod page_rows;
-mod paging;
 mod reporting;
-mod solving;
-pub mod watcher;
-mod writing;
+mod solution;
+mod token;
 
 pub use desk::{Counts, run_on};
-pub use watcher::DeskWatcher;

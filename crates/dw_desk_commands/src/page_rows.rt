@@ -1,8 +1,8 @@
 //! The verdict and the tries of a problem, as rows of a page.
 ghost use Rattle.std.specs.Prelude.{◌≡◌, ◌≤◌, ◌++◌, ℕ, IfOk, codes, decimal, length, map};
 ghost use Rattle.std.specs.String.{string_bytes};
-ghost use Rattle.dw_desk_commands.specs.Paging.{AreRowsShown, AreTryRows, IsVerdictRow, shorter, try_row};
-ghost use Rattle.dw_desk_commands.specs.Paging as of;
+ghost use Rattle.dw_desk_commands.specs.Page.{AreRowsShown, AreTryRows, IsVerdictRow, shorter, try_row};
+ghost use Rattle.dw_desk_commands.specs.Page as of;
 ghost use Rattle.dw_page.specs.Words as words;
 ghost use Rattle.dw_verdict.specs.Judging.{said_by};
 ghost use Rattle.dw_verdict.specs.Verdict.{IsVerdict, Tries, dual};

@@ -19,13 +19,12 @@ ghost use Rattle.dw_solve.specs.declared.stop.Stop.TheVariants.{Limit};
 
 use crate::chosen::Chosen;
 use crate::desk::{Counts, Desk, DeskFault};
-use crate::watcher::DeskWatcher;
 use dw_board::Board;
 use dw_commands::Ending;
 use dw_games::Game;
 use dw_notation::{Problem, ProblemFault, Sink, Source, write_all};
 use dw_report::{Stop, problem_line, refused_line};
-use dw_study::Slices;
+use dw_solve::Watcher;
 use std::alloc::{AllocError, Global};
 
 /// A command that reports games. `A` is its answer on a game: whether the game counts as refused, or how the program
@@ -47,10 +46,9 @@ pub(crate) trait Report<B: Board, A> {
     ghost counts_on: { Type 0 };
 
     /// Reports a game.
-    fn report<W: DeskWatcher, K: Sink>(
+    fn report<W: Watcher, K: Sink>(
         &self,
-        desk: &mut Desk<B>,
-        slices: &mut Slices<W>,
+        desk: &mut Desk<B, W>,
         game: &Game<B>,
         sink: &mut K,
     ) -> Result<A, DeskFault>
@@ -87,10 +85,9 @@ pub(crate) trait MakesText<B: Board, A> {
         ensures { result ≡ is_headed self.now };
 
     /// Makes the text of a game after that line.
-    fn text_of<W: DeskWatcher>(
+    fn text_of<W: Watcher>(
         &self,
-        desk: &mut Desk<B>,
-        slices: &mut Slices<W>,
+        desk: &mut Desk<B, W>,
         game: &Game<B>,
     ) -> Result<(Vec<u8>, A), Stop>
         ensures text { IfOk result (λ made.
@@ -116,15 +113,15 @@ impl<B: Board, A: Drop, C: MakesText<B, A>> Report<B, A> for InText<'_, C> {
 
     ghost counts_on = { C.counts_on };
 
-    fn report<W: DeskWatcher, K: Sink>(
+    fn report<W: Watcher, K: Sink>(
         &self,
-        desk: &mut Desk<B>,
-        slices: &mut Slices<W>,
+        desk: &mut Desk<B, W>,
         game: &Game<B>,
         sink: &mut K,
     ) -> Result<A, DeskFault> {
         write_heading(self.command.has_heading(), &game.problem, sink)?;
-        let (text, answer) = self.command.text_of(desk, slices, game)?;
+        let (text, answer) = self.command.text_of(desk, game)?;
+        desk.solver.make_way();
         write_all(sink, text.as_slice())?;
         Ok(answer)
     }
@@ -159,10 +156,9 @@ pub(crate) fn push(text: &mut Vec<u8>, bytes: &[u8]) -> Result<(), AllocError>
 }
 
 /// Reports the chosen games, each as soon as it is read, and counts them.
-pub(crate) fn report_all<B: Board, W: DeskWatcher, S: Source, K: Sink, R: Report<B, bool>>(
+pub(crate) fn report_all<B: Board, W: Watcher, S: Source, K: Sink, R: Report<B, bool>>(
     command: &R,
-    desk: &mut Desk<B>,
-    slices: &mut Slices<W>,
+    desk: &mut Desk<B, W>,
     chosen: &mut Chosen<'_, B, S>,
     sink: &mut K,
 ) -> Result<Counts, DeskFault>
@@ -185,24 +181,16 @@ pub(crate) fn report_all<B: Board, W: DeskWatcher, S: Source, K: Sink, R: Report
 {
     let mut counts = Counts::default();
     'games: while let Some(game) = chosen.next()? {
-        counts = counts.with(command.report(desk, slices, &game, sink)?);
+        counts = counts.with(command.report(desk, &game, sink)?);
     }
     Ok(counts)
 }
 
 /// Reports the first of the chosen games, and returns how that ended, or that it is not there. `E` is the type of the
 /// texts that an ending names.
-pub(crate) fn report_first<
-    E,
-    B: Board,
-    W: DeskWatcher,
-    S: Source,
-    K: Sink,
-    R: Report<B, Ending<E>>,
->(
+pub(crate) fn report_first<E, B: Board, W: Watcher, S: Source, K: Sink, R: Report<B, Ending<E>>>(
     command: &R,
-    desk: &mut Desk<B>,
-    slices: &mut Slices<W>,
+    desk: &mut Desk<B, W>,
     chosen: &mut Chosen<'_, B, S>,
     sink: &mut K,
 ) -> Result<Ending<E>, DeskFault>
@@ -226,7 +214,7 @@ pub(crate) fn report_first<
         (K.accepted sink.old) (K.accepted sink.new)) }
 {
     match chosen.next()? {
-        Some(game) => command.report(desk, slices, &game, sink),
+        Some(game) => command.report(desk, &game, sink),
         None => Ok(Ending::NoProblem(chosen.first())),
     }
 }

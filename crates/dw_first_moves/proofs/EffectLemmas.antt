@@ -5,17 +5,16 @@ use Rattle.std.specs.Prelude.{◌==◌}
 use Rattle.std.proofs.Common.{Vec, Global}
 use Rattle.std.specs.Vec.{vec_len}
 use Rattle.std.proofs.lemmas.Bool.{cases_Bool, eqb-true, eqb-false}
-use Rattle.std.proofs.lemmas.List.{take_more, take_all, map_push}
+use Rattle.std.proofs.lemmas.List.{take_more, map_push}
 use Rattle.dw_board.specs.Geometry.{Geometry}
 use Rattle.dw_board.specs.Placement.{Placement}
 use Rattle.dw_board.specs.Lists.{Member}
 use Rattle.dw_moves.specs.Moves.{Move, Legal, play}
 use Rattle.dw_moves.specs.Order.{Precedes, IsListOf}
-use Rattle.dw_moves.specs.inner.MemberLemmas.{mem_cases}
 use Rattle.dw_solve.specs.Laws.{WinsAreDecided}
 use Rattle.dw_solve.specs.Searching.{IsCounted}
 use Rattle.dw_solve.specs.Wins.{Win, Lost}
-use Rattle.dw_solve.specs.inner.ListLemmas.{at_item, listed_as}
+use Rattle.dw_solve.specs.inner.ListLemmas.{listed_as}
 use Rattle.dw_verdict.specs.Verdict.{IsWinning, Refutes}
 use Rattle.dw_verdict.specs.inner.GatheredLemmas.{GatheredTo, to_all}
 use Rattle.dw_parts.specs.Parts.{part_from}
@@ -42,28 +41,6 @@ pub none_first : (g : Geometry) (p : Placement) (m : Move) (j : ℕ) → j < 1 �
 none_first g p m zero low wins = wins
 none_first g p m (suc j) low wins = absurd (omega (arith, low))
 
--- a position is lost as far as all replies were looked at
-abbrev pub WonTo : {V : Type 0} → (V → Move) → Geometry → Placement → ℕ → List V → ℕ → Type 0
-WonTo step g q n xs i = (m : Move) → Member m (map step (take i xs)) → Win g (play g q m) n
-
-pub won_more : {V : Type 0} (step : V → Move) (g : Geometry) (q : Placement) (n : ℕ) (xs : List V) (i : ℕ) (x : V)
-    → i < length xs → x ≡ get_or xs i x → Win g (play g q (step x)) n → WonTo step g q n xs i
-    → WonTo step g q n xs (i + 1)
-won_more step g q n xs i x low at here before m member =
-    let parts = at_item step xs i x low at in
-    let one : i + 1 ≡ suc i = omega arith in
-    let now = subst (λ z. Member m (map step (take z xs))) one member in
-    elim (mem_cases m (map step (take i xs)) (step x ∷ []) (subst (Member m) parts.1 now)) [
-      | inl early ↦ before m early
-      | inr (inl e) ↦ subst (λ z. Win g (play g q z) n) (sym e) here
-      | inr (inr gone) ↦ absurd gone
-    ]
-
-pub won_all : {V : Type 0} (step : V → Move) (g : Geometry) (q : Placement) (n : ℕ) (xs : List V) (i : ℕ)
-    → IsListOf (Precedes g q) (Legal g q) (map step xs) → length xs ≤ i → WonTo step g q n xs i → Lost g q n
-won_all step g q n xs i all end before r legal =
-    before r (subst (λ z. Member r (map step z)) (sym (take_all i xs end)) ((all.exactly r).1 legal))
-
 pub no_win : (g : Geometry) (q after : Placement) (n : ℕ) (r : Move) (won : Bool) → after ≡ play g q r
     → (IsTrue won ↔ Win g after n) → won ≡ false → Win g (play g q r) n → ⊥
 no_win g q after n r won there tells lost w =
@@ -72,11 +49,6 @@ no_win g q after n r won there tells lost w =
 pub a_win : (g : Geometry) (q after : Placement) (n : ℕ) (r : Move) (won : Bool) → after ≡ play g q r
     → (IsTrue won ↔ Win g after n) → won ≡ true → Win g (play g q r) n
 a_win g q after n r won there tells holds = subst (λ z. Win g z n) there (tells.0 holds)
-
--- a reply after which there is no win refutes
-pub not_lost : (g : Geometry) (q : Placement) (n : ℕ) (r : Move) (lost : Bool) → Legal g q r
-    → (Win g (play g q r) n → ⊥) → lost ≡ false → IsTrue lost ↔ Lost g q n
-not_lost g q n r lost legal none is = ((λ e. let bad = sym is ∙ e in cc), λ all. absurd (none (all r legal)))
 
 -- all replies that refute, of all legal ones
 pub refuting : {V : Type 0} (step : V → Move) (g : Geometry) (q : Placement) (n : ℕ) (xs : List V) (i : ℕ)

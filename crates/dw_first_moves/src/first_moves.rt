@@ -1,4 +1,4 @@
-//! The effects of the first moves, searched for in slices.
+//! The effects of the first moves.
 ghost use Rattle.std.specs.Prelude.{◌≡◌, ◌≤◌, IfOk, IsErrOf, map};
 ghost use Rattle.dw_board.specs.Lists.{Member};
 ghost use Rattle.dw_memo.specs.Content.{IsMap};
@@ -20,20 +20,17 @@ use dw_moves::listed::listed;
 use dw_parts::{Part, part_of};
 use dw_solve::{Guide, Solver, Stop};
 use dw_stipulation::MoveCount;
-use dw_study::{Slices, Watcher};
 use std::alloc::{AllocError, Global};
 
 /// Finds the effects of the legal moves of a part within `moves` moves of the side to move, in the order of moves. An
 /// effect is the least number of moves within which the move wins; or it is the list of all replies after which there
-/// is no win within the moves then left. The slices start again, and no answer depends on them. After a stop all bounds
-/// in the memo are right, and the call can be repeated.
-pub fn first_moves<B: Board, M: Memo<B>, G: Guide<B>, W: Watcher>(
+/// is no win within the moves then left. After a stop all bounds in the memo are right, and the call can be repeated.
+pub fn first_moves<B: Board, M: Memo<B>, G: Guide<B>>(
     alloc: Global,
     solver: &mut Solver<B, M, G>,
     position: &Position<B>,
     moves: MoveCount,
     part: Part,
-    slices: &mut Slices<W>,
 ) -> Result<FirstMoves<B>, Stop>
     ensures start { IfOk result (λ found. found.start ≡ position.now) }
     ensures effects { IfOk result (λ found. AreFirstMoves B.geometry position.now moves.value part.number part.parts
@@ -45,10 +42,9 @@ pub fn first_moves<B: Board, M: Memo<B>, G: Guide<B>, W: Watcher>(
 {
     solver.keeps_its_limit();
     solver.keeps_its_facts();
-    slices.begin(solver.expanded());
     let all = all_moves(alloc, position)?;
     let some = part_of(alloc, all.as_slice(), part)?;
-    let found = effects_of(alloc, solver, position, some.as_slice(), moves, slices)?;
+    let found = effects_of(alloc, solver, position, some.as_slice(), moves)?;
     Ok(FirstMoves {
         position: *position,
         moves: found,
@@ -69,13 +65,12 @@ fn all_moves<B: Board>(alloc: Global, position: &Position<B>) -> Result<Vec<Move
 }
 
 /// Finds the effects of some legal moves, in their order.
-fn effects_of<B: Board, M: Memo<B>, G: Guide<B>, W: Watcher>(
+fn effects_of<B: Board, M: Memo<B>, G: Guide<B>>(
     alloc: Global,
     solver: &mut Solver<B, M, G>,
     position: &Position<B>,
     some: &[Move<B>],
     moves: MoveCount,
-    slices: &mut Slices<W>,
 ) -> Result<Vec<FirstMove<B>>, Stop>
     requires legal { (m : of.Move) → Member m some.now → Legal B.geometry position.now m }
     ensures done { IfOk result (λ done. AreEffects B.geometry position.now moves.value some.now
@@ -89,7 +84,7 @@ fn effects_of<B: Board, M: Memo<B>, G: Guide<B>, W: Watcher>(
     solver.keeps_its_facts();
     let mut done = Vec::new(alloc);
     'some: for mv in some {
-        let effect = effect_of(alloc, solver, position, mv, moves, slices)?;
+        let effect = effect_of(alloc, solver, position, mv, moves)?;
         push(&mut done, FirstMove { mv: *mv, effect })?;
     }
     Ok(done)

@@ -30,7 +30,6 @@ use dw_notation::{Sink, WriteFault, write_all};
 use dw_parts::{Part, part_of};
 use dw_solve::{Guide, Solver, Stop};
 use dw_stipulation::MoveCount;
-use dw_study::{Slices, Watcher};
 use std::alloc::{AllocError, Global};
 use thiserror::Error;
 
@@ -96,16 +95,14 @@ impl From<WriteFault> for MendFault {
 /// Writes a line for each sound neighbour of a position, in the order of the changes, and then a line with their
 /// number. The line of a neighbour has its change and its key. The bounds must be in the ranges of `MendBounds`, and
 /// the sink must not have failed. A neighbour that would take more positions than the bounds allow stays undecided, and
-/// is counted. The slices start again. Their watcher is told after each neighbour too, and makes way before each line
-/// is written. After a stop the lines of the first neighbours were written, all bounds in the memo are right, and the
-/// solver's limit is what it was. The error `Write` comes only if the sink failed; then these lines, or the whole text,
-/// were written up to some byte.
-pub fn mend<B: Board, M: Memo<B>, G: Guide<B>, W: Watcher, K: Sink>(
+/// is counted. The solver's watcher makes way before each line is written. After a stop the lines of the first
+/// neighbours were written, all bounds in the memo are right, and the solver's limit is what it was. The error `Write`
+/// comes only if the sink failed; then these lines, or the whole text, were written up to some byte.
+pub fn mend<B: Board, M: Memo<B>, G: Guide<B>, K: Sink>(
     alloc: Global,
     solver: &mut Solver<B, M, G>,
     position: &Position<B>,
     bounds: MendBounds,
-    slices: &mut Slices<W>,
     sink: &mut K,
 ) -> Result<Mended, MendFault>
     requires room { IfSome bounds.each (λ bound. 1 ≤ bound) }
@@ -139,23 +136,21 @@ pub fn mend<B: Board, M: Memo<B>, G: Guide<B>, W: Watcher, K: Sink>(
 {
     solver.keeps_its_limit();
     solver.keeps_its_facts();
-    slices.begin(solver.expanded());
     let all = neighbours(alloc, position)?;
     let some = part_of(alloc, all.as_slice(), bounds.part)?;
-    let mended = mend_these(alloc, solver, some.as_slice(), bounds, slices, sink)?;
+    let mended = mend_these(alloc, solver, some.as_slice(), bounds, sink)?;
     let line = last_line(alloc, bounds.wording, &mended)?;
-    slices.watcher.make_way();
+    solver.make_way();
     write_all(sink, line.as_str().as_bytes())?;
     Ok(mended)
 }
 
 /// Writes the sound ones of some neighbours, and counts them.
-fn mend_these<B: Board, M: Memo<B>, G: Guide<B>, W: Watcher, K: Sink>(
+fn mend_these<B: Board, M: Memo<B>, G: Guide<B>, K: Sink>(
     alloc: Global,
     solver: &mut Solver<B, M, G>,
     some: &[Neighbour<B>],
     bounds: MendBounds,
-    slices: &mut Slices<W>,
     sink: &mut K,
 ) -> Result<Mended, MendFault>
     requires room { IfSome bounds.each (λ bound. 1 ≤ bound) }
@@ -189,12 +184,11 @@ fn mend_these<B: Board, M: Memo<B>, G: Guide<B>, W: Watcher, K: Sink>(
         undecided: 0,
     };
     'neighbours: for neighbour in some {
-        match write_found(alloc, solver, neighbour, bounds, slices, sink)? {
+        match write_found(alloc, solver, neighbour, bounds, sink)? {
             Soundness::Sound(_) => mended.sound += 1,
             Soundness::Unsound => {}
             Soundness::Undecided => mended.undecided += 1,
         }
-        slices.tell(bounds.moves.value, solver.expanded());
     }
     Ok(mended)
 }
@@ -224,12 +218,11 @@ impl<B: Board> Soundness<B> {
 }
 
 /// Writes the line of a neighbour if it is sound, and returns its soundness.
-fn write_found<B: Board, M: Memo<B>, G: Guide<B>, W: Watcher, K: Sink>(
+fn write_found<B: Board, M: Memo<B>, G: Guide<B>, K: Sink>(
     alloc: Global,
     solver: &mut Solver<B, M, G>,
     neighbour: &Neighbour<B>,
     bounds: MendBounds,
-    slices: &mut Slices<W>,
     sink: &mut K,
 ) -> Result<Soundness<B>, MendFault>
     requires room { IfSome bounds.each (λ bound. 1 ≤ bound) }
@@ -248,22 +241,21 @@ fn write_found<B: Board, M: Memo<B>, G: Guide<B>, W: Watcher, K: Sink>(
     ensures sink { OnOk result (K.is_failed sink.new ≡ false) }
     ensures write { result ≡ Err because.Write → K.is_failed sink.new ≡ true }
 {
-    let found = find_soundness(alloc, solver, &neighbour.position, bounds, slices)?;
+    let found = find_soundness(alloc, solver, &neighbour.position, bounds)?;
     if let Soundness::Sound(key) = &found {
         let line = line_of(alloc, bounds.wording, neighbour, bounds.moves.value, key)?;
-        slices.watcher.make_way();
+        solver.make_way();
         write_all(sink, line.as_str().as_bytes())?;
     }
     Ok(found)
 }
 
 /// Finds the soundness of a position, and expands no more positions than the bound allows for one neighbour.
-fn find_soundness<B: Board, M: Memo<B>, G: Guide<B>, W: Watcher>(
+fn find_soundness<B: Board, M: Memo<B>, G: Guide<B>>(
     alloc: Global,
     solver: &mut Solver<B, M, G>,
     position: &Position<B>,
     bounds: MendBounds,
-    slices: &mut Slices<W>,
 ) -> Result<Soundness<B>, Stop>
     requires room { IfSome bounds.each (λ bound. 1 ≤ bound) }
     ensures found { IfOk result (IsSoundnessOf B.geometry position.now bounds.moves.value) }
@@ -276,18 +268,17 @@ fn find_soundness<B: Board, M: Memo<B>, G: Guide<B>, W: Watcher>(
     ensures map { IsMap (M.content solver.new.memo) }
 {
     match bounds.each {
-        Some(bound) => found_within(alloc, solver, position, bounds.moves, bound, slices),
-        None => found_by_key(alloc, solver, position, bounds.moves, slices),
+        Some(bound) => found_within(alloc, solver, position, bounds.moves, bound),
+        None => found_by_key(alloc, solver, position, bounds.moves),
     }
 }
 
 /// Finds the soundness of a position, and may expand any number of positions.
-fn found_by_key<B: Board, M: Memo<B>, G: Guide<B>, W: Watcher>(
+fn found_by_key<B: Board, M: Memo<B>, G: Guide<B>>(
     alloc: Global,
     solver: &mut Solver<B, M, G>,
     position: &Position<B>,
     moves: MoveCount,
-    slices: &mut Slices<W>,
 ) -> Result<Soundness<B>, Stop>
     ensures found { IfOk result (λ found. IsSoundnessOf B.geometry position.now moves.value found
         × (IsUndecided found → ⊥)) }
@@ -296,17 +287,16 @@ fn found_by_key<B: Board, M: Memo<B>, G: Guide<B>, W: Watcher>(
     ensures right { AreTrue B.geometry (M.content solver.new.memo) }
     ensures map { IsMap (M.content solver.new.memo) }
 {
-    Ok(Soundness::of(sound_key(alloc, solver, position, moves, slices)?))
+    Ok(Soundness::of(sound_key(alloc, solver, position, moves)?))
 }
 
 /// Finds the soundness of a position, and expands at most `bound` positions.
-fn found_within<B: Board, M: Memo<B>, G: Guide<B>, W: Watcher>(
+fn found_within<B: Board, M: Memo<B>, G: Guide<B>>(
     alloc: Global,
     solver: &mut Solver<B, M, G>,
     position: &Position<B>,
     moves: MoveCount,
     bound: u64,
-    slices: &mut Slices<W>,
 ) -> Result<Soundness<B>, Stop>
     requires room { 1 ≤ bound }
     ensures found { IfOk result (IsSoundnessOf B.geometry position.now moves.value) }
@@ -320,10 +310,10 @@ fn found_within<B: Board, M: Memo<B>, G: Guide<B>, W: Watcher>(
     let limit = solver.limit();
     let until = solver.expanded().saturating_add(bound);
     if limit <= until {
-        return found_by_key(alloc, solver, position, moves, slices);
+        return found_by_key(alloc, solver, position, moves);
     }
     solver.set_limit(until);
-    let key = sound_key(alloc, solver, position, moves, slices);
+    let key = sound_key(alloc, solver, position, moves);
     solver.set_limit(limit);
     match key {
         Err(Stop::Limit) => Ok(Soundness::Undecided),

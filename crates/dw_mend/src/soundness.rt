@@ -13,19 +13,17 @@ use dw_memo::Memo;
 use dw_moves::Move;
 use dw_solve::{Guide, Solver, Stop};
 use dw_stipulation::MoveCount;
-use dw_study::{Slices, Watcher, verdict_resuming, wins_resuming};
 use dw_verdict::Verdict;
+use dw_verdict::judge::verdict;
 use std::alloc::Global;
 
 /// Finds the key of a position that is sound within `moves` moves of the side to move; it is `None` if the position is
-/// not sound. The slices continue earlier ones, and no answer depends on them. After a stop
-/// all bounds in the memo are right, and the call can be repeated.
-pub fn sound_key<B: Board, M: Memo<B>, G: Guide<B>, W: Watcher>(
+/// not sound. After a stop all bounds in the memo are right, and the call can be repeated.
+pub fn sound_key<B: Board, M: Memo<B>, G: Guide<B>>(
     alloc: Global,
     solver: &mut Solver<B, M, G>,
     position: &Position<B>,
     moves: MoveCount,
-    slices: &mut Slices<W>,
 ) -> Result<Option<Move<B>>, Stop>
     ensures key { IfOk result (λ key. MatchOption key
         ((m : AnyMove) → IsVerdict B.geometry position.now moves.value (sound m) → ⊥)
@@ -34,17 +32,15 @@ pub fn sound_key<B: Board, M: Memo<B>, G: Guide<B>, W: Watcher>(
     ensures stop { IsErrOf result Limit → solver.new.expanded ≡ solver.new.limit }
     ensures right { AreTrue B.geometry (M.content solver.new.memo) }
     ensures map { IsMap (M.content solver.new.memo) }
-    ensures first { slices.new.first ≡ slices.old.first }
-    ensures start { slices.new.start ≡ slices.old.start }
 {
     dw_verdict::laws::one_verdict();
-    if !wins_resuming(alloc, solver, position, moves.value, slices)? {
+    if !solver.wins(alloc, position, moves.value)? {
         return Ok(None);
     }
-    if wins_resuming(alloc, solver, position, moves.value - 1, slices)? {
+    if solver.wins(alloc, position, moves.value - 1)? {
         return Ok(None);
     }
-    let verdict = verdict_resuming(alloc, solver, position, moves, slices)?;
+    let verdict = verdict(alloc, solver, position, moves.value)?;
     Ok(key_of(&verdict))
 }
 

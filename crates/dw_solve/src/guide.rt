@@ -4,14 +4,16 @@ ghost use Rattle.dw_moves.specs.Moves.{Legal, play};
 ghost use Rattle.dw_solve.specs.Trial.{IsCaptureRank, IsRankByTrial, IsTrial};
 
 use crate::trial::{freedom, trial};
+use crate::watcher::Watcher;
 use dw_board::{Board, Position};
 use dw_moves::Move;
 use dw_moves::best::best_captures;
 use dw_moves::play::play as played;
 
 /// Ranks moves: those of a lower rank are tried first, if they leave the attacker two further moves or more. With
-/// fewer, a search goes by orders of its own, which cost less than ranks. No answer depends on it.
-pub trait Guide<B: Board> {
+/// fewer, a search goes by orders of its own, which cost less than ranks. No answer depends on it. A guide is a watcher
+/// too.
+pub trait Guide<B: Board>: Watcher {
     /// Returns the rank of a legal move.
     fn rank(&self, position: &Position<B>, mv: &Move<B>) -> u32
         requires { Legal B.geometry position.now mv.now };
@@ -46,6 +48,8 @@ pub trait Guide<B: Board> {
 #[derive(Clone, Copy, Debug, Default)]
 pub struct AnyOrder;
 
+impl Watcher for AnyOrder {}
+
 impl<B: Board> Guide<B> for AnyOrder {
     fn rank(&self, _position: &Position<B>, _mv: &Move<B>) -> u32
         ensures { result ≡ 0 }
@@ -66,6 +70,8 @@ const PER_PIECE: u32 = 3;
 /// 3 more for each piece after the first that it takes.
 #[derive(Clone, Copy, Debug, Default)]
 pub struct ByTrial;
+
+impl Watcher for ByTrial {}
 
 impl<B: Board> Guide<B> for ByTrial {
     fn rank(&self, position: &Position<B>, mv: &Move<B>) -> u32

@@ -2,6 +2,7 @@
 ghost use Rattle.std.specs.Prelude.{◌≤◌, ◌<◌};
 
 use crate::guide::Guide;
+use crate::watcher::Watcher;
 use dw_board::{Board, Position};
 use dw_moves::Move;
 
@@ -92,6 +93,8 @@ pub(crate) struct ByHistory<'a, G> {
     pub(crate) guide: &'a G,
     pub(crate) history: &'a History,
 }
+
+impl<'a, G> Watcher for ByHistory<'a, G> {}
 
 impl<'a, B: Board, G: Guide<B>> Guide<B> for ByHistory<'a, G> {
     fn rank(&self, position: &Position<B>, mv: &Move<B>) -> u32 {

@@ -13,8 +13,10 @@ mod search;
 pub mod solver;
 pub mod stop;
 pub mod trial;
+pub mod watcher;
 
 pub use guide::{AnyOrder, ByTrial, Guide};
 pub use lineup::Lineup;
 pub use solver::Solver;
 pub use stop::Stop;
+pub use watcher::{Unwatched, Watched, Watcher};

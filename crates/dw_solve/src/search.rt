@@ -21,18 +21,23 @@ use crate::history::{ByHistory, FEWEST_LEFT, History};
 use crate::ply::Ply;
 use crate::replies::{Tried, add_reply, line_up_last, put_off};
 use crate::stop::Stop;
+use crate::watcher::Watcher;
 use dw_board::{Board, Position};
 use dw_memo::{Bounds, Memo};
 use dw_moves::play::play as played;
 use dw_moves::{Move, has_move, legal_into};
 use std::alloc::AllocError;
 
-/// The state of a search: a memo, an order of moves, the number of positions expanded, the limit of that number, and
-/// the moves of the attacker that won.
+/// The number of expansions after which the watcher is told again how far the search is. They take a millisecond.
+const PER_TELLING: u64 = 4_096;
+
+/// The state of a search: a memo, an order of moves, the number of moves within which a win is searched for, the number
+/// of positions expanded, the limit of that number, and the moves of the attacker that won.
 #[derive(Drop)]
 pub(crate) struct Search<M, G> {
     pub(crate) memo: M,
     pub(crate) guide: G,
+    pub(crate) moves: u8,
     pub(crate) expanded: u64,
     pub(crate) limit: u64,
     pub(crate) history: History,
@@ -307,7 +312,7 @@ fn known_loss<B: Board, M: Memo<B>, G>(
 }
 
 /// Returns whether the side to move has lost, with one move of the attacker left.
-pub(crate) fn loses_last<B: Board, M: Memo<B>, G>(
+pub(crate) fn loses_last<B: Board, M: Memo<B>, G: Watcher>(
     search: &mut Search<M, G>,
     plies: &mut [Ply<B>],
     position: &Position<B>,
@@ -356,7 +361,7 @@ fn line_up<B: Board, M, G: Guide<B>>(
 
 /// Records that the side to move has no win in one move. The other side must have a reply to each of its moves. The
 /// memo may leave the record out.
-fn refute<B: Board, M: Memo<B>, G>(
+fn refute<B: Board, M: Memo<B>, G: Watcher>(
     search: &mut Search<M, G>,
     position: &Position<B>,
 ) -> Result<(), Stop>
@@ -373,7 +378,7 @@ fn refute<B: Board, M: Memo<B>, G>(
 }
 
 /// Records the same in a memo that keeps it: counts and notes the position, unless the memo decides it.
-fn refute_noted<B: Board, M: Memo<B>, G>(
+fn refute_noted<B: Board, M: Memo<B>, G: Watcher>(
     search: &mut Search<M, G>,
     position: &Position<B>,
 ) -> Result<(), Stop>
@@ -393,7 +398,7 @@ fn refute_noted<B: Board, M: Memo<B>, G>(
 }
 
 /// Returns whether the side to move wins with its next move, which is its last. The memo may leave the answer out.
-fn wins_last<B: Board, M: Memo<B>, G>(
+fn wins_last<B: Board, M: Memo<B>, G: Watcher>(
     search: &mut Search<M, G>,
     ply: &mut Ply<B>,
     position: &Position<B>,
@@ -413,7 +418,7 @@ fn wins_last<B: Board, M: Memo<B>, G>(
 
 /// Returns whether the memo leaves out bounds of one move, and then counts the position as expanded. The memo counts it
 /// as a lost entry.
-fn leave_out<B: Board, M: Memo<B>, G>(search: &mut Search<M, G>) -> Result<bool, Stop>
+fn leave_out<B: Board, M: Memo<B>, G: Watcher>(search: &mut Search<M, G>) -> Result<bool, Stop>
     requires { CanSearch B.geometry M.content search.old }
     ensures searched { HasSearched B.geometry M.content M.dropped 1 search.old search.new result }
     ensures loses { IfOk result (λ yes. IsTrue yes → LosesNothing M.content M.dropped search.old search.new → ⊥) }
@@ -427,7 +432,7 @@ fn leave_out<B: Board, M: Memo<B>, G>(search: &mut Search<M, G>) -> Result<bool,
 
 /// Returns the same for a memo that keeps the answer. Nothing comes between the look at the memo and the note, so the
 /// bounds are looked up once.
-fn wins_at_once<B: Board, M: Memo<B>, G>(
+fn wins_at_once<B: Board, M: Memo<B>, G: Watcher>(
     search: &mut Search<M, G>,
     ply: &mut Ply<B>,
     position: &Position<B>,
@@ -469,7 +474,7 @@ pub(crate) fn known<B: Board, M: Memo<B>, G>(
 }
 
 /// Counts one more expanded position, or returns `Stop::Limit` if the limit is reached.
-fn count<M, G>(search: &mut Search<M, G>) -> Result<(), Stop>
+fn count<M, G: Watcher>(search: &mut Search<M, G>) -> Result<(), Stop>
     requires { search.old.expanded ≤ search.old.limit }
     ensures memo { search.new.memo ≡ search.old.memo }
     ensures limit { search.new.limit ≡ search.old.limit }
@@ -483,6 +488,9 @@ fn count<M, G>(search: &mut Search<M, G>) -> Result<(), Stop>
         return Err(Stop::Limit);
     }
     search.expanded += 1;
+    if search.expanded % PER_TELLING == 0 {
+        search.guide.watch(search.moves, search.expanded);
+    }
     Ok(())
 }
 

@@ -22,6 +22,7 @@ use dw_board::{Board, Position};
 use dw_memo::Memo;
 use std::alloc::{AllocError, Global};
 use std::marker::Model;
+use std::mem::replace;
 
 /// The most moves of the attacker in a line.
 const MOST_MOVES: usize = 20;
@@ -66,6 +67,7 @@ impl<B: Board, M: Memo<B>, G: Guide<B>> Solver<B, M, G> {
             search: Search {
                 memo,
                 guide,
+                moves: 0,
                 expanded: 0,
                 limit,
                 history: History::new(),
@@ -234,6 +236,31 @@ impl<B: Board, M: Memo<B>, G: Guide<B>> Solver<B, M, G> {
         lineup.ply.fill(position, &self.search.guide)
     }
 
+    /// Tells the watcher that the search for the problem of this number begins.
+    pub fn tell_problem(&mut self, number: u32)
+        ensures { self.new ≡ self.old }
+    {
+        let expanded = self.search.expanded;
+        self.search.guide.begin(number, expanded);
+    }
+
+    /// Has the watcher clear its display, if it has one.
+    pub fn make_way(&mut self)
+        ensures { self.new ≡ self.old }
+    {
+        self.search.guide.make_way();
+    }
+
+    /// Goes on with another memo, whose bounds must all be right, and returns the one before.
+    pub fn replace_memo(&mut self, memo: M) -> M
+        requires right { AreTrue B.geometry (M.content memo) }
+        ensures memo { result ≡ self.old.memo }
+        ensures right { AreTrue B.geometry (M.content result) }
+        ensures new { self.new ≡ record self.old { memo = memo } }
+    {
+        replace(&mut self.search.memo, memo)
+    }
+
     /// Returns the memo. All its bounds are right.
     pub fn into_memo(self) -> M
     where
@@ -269,6 +296,7 @@ fn ask_wins<B: Board, M: Memo<B>, G: Guide<B>>(
         return Ok(answer);
     }
     let mut plies = prepared(alloc, spare.take(), PLIES)?;
+    search.moves = moves;
     search.history.forget();
     let answer = expand(search, plies.as_mut_slice(), position, moves);
     *spare = Some(plies);
@@ -294,6 +322,7 @@ fn ask_loses<B: Board, M: Memo<B>, G: Guide<B>>(
 {
     let needed = if moves == 0 { 0 } else { PLIES };
     let mut plies = prepared(alloc, spare.take(), needed)?;
+    search.moves = moves + 1;
     search.history.forget();
     let answer = loses_at_root(search, plies.as_mut_slice(), position, moves);
     *spare = Some(plies);
@@ -312,6 +341,7 @@ fn ask_loses_last<B: Board, M: Memo<B>, G: Guide<B>>(
     ensures searched { HasSearched B.geometry M.content M.dropped 1 search.old search.new result }
 {
     let mut plies = prepared(alloc, spare.take(), PLIES)?;
+    search.moves = 2;
     let answer = loses_last(search, plies.as_mut_slice(), position);
     *spare = Some(plies);
     answer

@@ -1,6 +1,6 @@
-pub mod SliceLemmas
+pub mod LookingLemmas
+pub mod AskedLemmas
 pub mod FindingLemmas
-pub mod WentLemmas
 pub mod OpenLemmas
 pub mod ChildLemmas
 pub mod SeenLemmas

@@ -5,7 +5,7 @@ use Rattle.std.specs.Prelude.{IfOk}
 use Rattle.std.specs.declared.alloc.AllocError.{AllocError}
 use Rattle.std.proofs.Common.{Option, Some, None, refl, sym, ap, subst, ◌∙◌, inl, inr, arith, Bool, true, false, IsTrue}
 use Rattle.std.proofs.Common.{◌↔◌, append-nil, append_assoc, not}
-use Rattle.std.specs.Prelude.{option_map, is_some}
+use Rattle.std.specs.Prelude.{option_map}
 use Rattle.std.proofs.lemmas.Bool.{true≢false}
 use Rattle.std.specs.List.{slice_get}
 use Rattle.std.proofs.lemmas.List.{take_all, map-append, map-id}
@@ -115,20 +115,16 @@ pub refuted : (g : Geometry) (p : Placement) (n : ℕ) (m r : Move) → IsFirstR
     → IsWinning g p n m → ⊥
 refuted g p n m r first h = let lost = (key_lost g p n m h).2 in first.refutes.1 (lost r first.refutes.0)
 
--- a move that was looked at wins if no reply was found, and else does not
-pub wins_found : (g : Geometry) (p after : Placement) (n : ℕ) (m : Move) (found : Option Move) (none : Bool) → 1 ≤ n
-    → Legal g p m → after ≡ play g p m → FindsFirst g after (n - 1) found → is_some found ≡ not none → none ≡ true
-    → IsWinning g p n m
-wins_found g p after n m None none some legal there lost is e =
-    wins_if g p n m some legal (subst (λ z. Lost g z (n - 1)) there lost)
-wins_found g p after n m (Some r) none some legal there first is e = absurd (true≢false (is ∙ ap not e))
+-- a move wins exactly if the position after it is lost
+pub wins_lost : (g : Geometry) (p after : Placement) (n : ℕ) (m : Move) (answer : Bool) → 1 ≤ n → Legal g p m
+    → after ≡ play g p m → (IsTrue answer ↔ Lost g after (n - 1)) → answer ≡ true → IsWinning g p n m
+wins_lost g p after n m answer some legal there is e =
+    wins_if g p n m some legal (subst (λ z. Lost g z (n - 1)) there (is.0 e))
 
-pub fails_found : (g : Geometry) (p after : Placement) (n : ℕ) (m : Move) (found : Option Move) (none : Bool)
-    → after ≡ play g p m → FindsFirst g after (n - 1) found → is_some found ≡ not none → none ≡ false
-    → IsWinning g p n m → ⊥
-fails_found g p after n m None none there lost is e wins = true≢false (sym (is ∙ ap not e))
-fails_found g p after n m (Some r) none there first is e wins =
-    refuted g p n m r (subst (λ z. IsFirstRefutation g z (n - 1) r) there first) wins
+pub fails_kept : (g : Geometry) (p after : Placement) (n : ℕ) (m : Move) (answer : Bool) → after ≡ play g p m
+    → (IsTrue answer ↔ Lost g after (n - 1)) → answer ≡ false → IsWinning g p n m → ⊥
+fails_kept g p after n m answer there is e wins =
+    true≢false (sym (is.1 (subst (λ z. Lost g z (n - 1)) (sym there) (key_lost g p n m wins).2)) ∙ e)
 
 pub item_member : {A : Type 0} (xs : List A) (i : ℕ) (x : A) → i < length xs → x ≡ get_or xs i x → Member x xs
 item_member [] i x low at = absurd (omega (arith, low))

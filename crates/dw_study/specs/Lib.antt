@@ -5,6 +5,5 @@ pub mod FoundText
 pub mod RemarkText
 pub mod RemarkFields
 pub mod Turns
-pub mod Slices
 pub mod Laws
 pub mod inner

@@ -1,18 +1,20 @@
 -- Findings and remarks of the code, as values of the definitions.
-use Rattle.std.specs.Prelude.{◌≡◌, ℕ, ◌+◌, ◌≤◌, Result, Ok, Err, Option, Some, IfSome, option_map, List, map}
+use Rattle.std.specs.Prelude.{◌≡◌, ℕ, ◌+◌, ◌≤◌, Result, Ok, Err, Option, Some, IfSome, IsErrOf, List}
+use Rattle.std.specs.Prelude.{map, option_map}
 use Rattle.dw_board.specs.Geometry.{Geometry}
 use Rattle.dw_board.specs.Placement.{Placement}
 use Rattle.dw_memo.specs.Content.{Content}
 use Rattle.dw_solve.specs.declared.stop.Stop.{Stop}
+use Rattle.dw_solve.specs.declared.stop.Stop.TheVariants.{Limit}
 use Rattle.dw_solve.specs.Certificates.{SaysLeast}
 use Rattle.dw_solve.specs.Questions.{moment_of}
 use Rattle.dw_solve.specs.Solving.{Solving}
+use Rattle.dw_solve.specs.Searching.{IsCounted}
 use Rattle.dw_solve.specs.Work.{Moment, NothingLost, Searched}
 use Rattle.dw_verdict.specs.Judging.{said_by}
 use Rattle.dw_moves.specs.Moves.{Move}
 use Rattle.dw_games.specs.Walk.{place_of, beginning_at}
 use Rattle.dw_study.specs.Finding.{Finding, judged, undecided}
-use Rattle.dw_study.specs.Slices.{SearchedInSlices}
 use Rattle.std.specs.String.{string_bytes}
 use Rattle.dw_study.specs.RemarkFields.{Words}
 use Rattle.dw_study.specs.declared.worded.RemarkFields.{RemarkFields}
@@ -48,23 +50,30 @@ pub record StaysOpen {M B : Type 0} (content : M → Content) (p : Placement) (e
       → (bound : ℕ) × (each ≡ Some bound) × (new.expanded ≡ old.expanded + bound)
   pub known : (j k : ℕ) → SaysLeast (content old.memo) p j → answer ≡ Ok (Undecided k) → j ≤ k
 
+-- the searches for an answer: each expansion is counted, up to the limit, and the memo is as searches leave it
+pub record Sought {M B : Type 0} (g : Geometry) (content : M → Content) (lost : M → ℕ) (n : ℕ) (old new : Solving M)
+    (answer : Result (findings.Finding B) Stop) : Type 0 where
+  pub count : IsCounted old.expanded old.limit new.expanded new.limit
+  pub stop : IsErrOf answer Limit → new.expanded ≡ new.limit
+  pub searched : Searched g (searched_to answer n) (cut_short answer (searched_to answer n))
+      (moment_of content lost old) (moment_of content lost new)
+
 -- It was known in time at which number of moves a position is judged, and whether there is a win within it: up to some
 -- moment no more positions were expanded than the bound allows, and then the memo itself said of each number up to this
 -- one whether there is a win, if it had lost nothing. What was searched after that moment is the verdict.
 pub record KnownInTime {M : Type 0} (g : Geometry) (content : M → Content) (lost : M → ℕ) (p : Placement)
-    (n first : ℕ) (each : Option ℕ) (old new : Solving M) (moves : ℕ) : Type 0 where
+    (n : ℕ) (each : Option ℕ) (old new : Solving M) (moves : ℕ) : Type 0 where
   pub then : Moment
   pub few : IfSome each (λ bound. then.expanded ≤ old.expanded + bound)
-  pub before : SearchedInSlices g n first 0 (moment_of content lost old) then
+  pub before : Searched g n 0 (moment_of content lost old) then
   pub says : NothingLost (moment_of content lost old) then → SaysLeast then.content p moves
-  pub after : (cut : ℕ) × Searched g moves cut then (moment_of content lost new)
+  pub after : Searched g moves 0 then (moment_of content lost new)
 
 -- the number at which a position is judged was known in time
-abbrev pub IsKnownInTime : {M B : Type 0} → Geometry → (M → Content) → (M → ℕ) → Placement → (n first : ℕ)
+abbrev pub IsKnownInTime : {M B : Type 0} → Geometry → (M → Content) → (M → ℕ) → Placement → (n : ℕ)
     → (each : Option ℕ) → Solving M → Solving M → findings.Finding B → Type 0
-IsKnownInTime g content lost p n first each old new (Judged k it) =
-    KnownInTime g content lost p n first each old new k.value
-IsKnownInTime g content lost p n first each old new (Undecided k) = Unit {0}
+IsKnownInTime g content lost p n each old new (Judged k it) = KnownInTime g content lost p n each old new k.value
+IsKnownInTime g content lost p n each old new (Undecided k) = Unit {0}
 
 -- the value of a remark, whose beginning is given by its place in a tree
 abbrev pub remark_in : {B : Type 0} → List (List Move) → remarks.Remark B → Option Remark

@@ -1,6 +1,4 @@
 -- Definitions that only relate the code to the public ones: no public contract names them.
-pub mod Slicing
-pub mod Questions
 pub mod Looking
 pub mod Checking
 pub mod Beginnings

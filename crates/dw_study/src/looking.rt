@@ -4,12 +4,10 @@ ghost use Rattle.dw_memo.specs.Content.{IsMap};
 ghost use Rattle.dw_solve.specs.Certificates.{SaysLeast};
 ghost use Rattle.dw_solve.specs.Facts.{AreTrue};
 ghost use Rattle.dw_solve.specs.Questions.{LostNothing};
-ghost use Rattle.dw_study.specs.inner.Looking.{IsLooked, LooksOn, lowered};
+ghost use Rattle.dw_study.specs.inner.Looking.{IsLooked, LooksFor, lowered};
 
 use crate::finding::FindBounds;
 use crate::limits::{lower, raise};
-use crate::sliced::wins_resuming;
-use crate::slices::{Slices, Watcher};
 use dw_board::{Board, Position};
 use dw_memo::Memo;
 use dw_solve::{Guide, Solver, Stop};
@@ -27,12 +25,11 @@ pub(crate) struct Cut {
 
 /// Returns the least number of moves up to `bounds.moves` within which there is a win, or that number if there is none,
 /// if the expansions that `bounds` allow suffice to find it.
-pub(crate) fn number_within<B: Board, M: Memo<B>, G: Guide<B>, W: Watcher>(
+pub(crate) fn number_within<B: Board, M: Memo<B>, G: Guide<B>>(
     alloc: Global,
     solver: &mut Solver<B, M, G>,
     position: &Position<B>,
     bounds: FindBounds,
-    slices: &mut Slices<W>,
 ) -> Result<u8, Cut>
     requires room { IfSome bounds.each (λ bound. 1 ≤ bound) }
     ensures number { IsLooked B.geometry position.now bounds.moves.value result }
@@ -40,14 +37,14 @@ pub(crate) fn number_within<B: Board, M: Memo<B>, G: Guide<B>, W: Watcher>(
         → SaysLeast (M.content solver.new.memo) position.now moves) }
     ensures known { IfErr result (λ cut. (j : ℕ) → SaysLeast (M.content solver.old.memo) position.now j
         → j ≤ cut.no_win_in) }
-    ensures looks { LooksOn B.geometry M.content M.dropped (lowered bounds.each solver.old.limit solver.old.expanded)
-        slices.old slices.new solver.old solver.new result }
+    ensures looks { LooksFor B.geometry M.content M.dropped (lowered bounds.each solver.old.limit solver.old.expanded)
+        solver.old solver.new result }
     ensures right { AreTrue B.geometry (M.content solver.new.memo) }
     ensures map { IsMap (M.content solver.new.memo) }
 {
     let until = count_after(solver.expanded(), bounds.each);
     let limit = lower(solver, until);
-    let number = number(alloc, solver, position, bounds.moves, slices);
+    let number = number(alloc, solver, position, bounds.moves);
     raise(solver, limit);
     solver.keeps_its_facts();
     number
@@ -68,25 +65,23 @@ fn count_after(expanded: u64, each: Option<u64>) -> u64
 
 /// Returns the least number of moves within which there is a win, or `most` if there is none, or how far a stopped
 /// search came.
-fn number<B: Board, M: Memo<B>, G: Guide<B>, W: Watcher>(
+fn number<B: Board, M: Memo<B>, G: Guide<B>>(
     alloc: Global,
     solver: &mut Solver<B, M, G>,
     position: &Position<B>,
     most: MoveCount,
-    slices: &mut Slices<W>,
 ) -> Result<u8, Cut>
     ensures number { IsLooked B.geometry position.now most.value result }
     ensures says { IfOk result (λ moves. LostNothing M.content M.dropped solver.old solver.new
         → SaysLeast (M.content solver.new.memo) position.now moves) }
     ensures known { IfErr result (λ cut. (j : ℕ) → SaysLeast (M.content solver.old.memo) position.now j
         → j ≤ cut.no_win_in) }
-    ensures looks { LooksOn B.geometry M.content M.dropped solver.old.limit slices.old slices.new solver.old solver.new
-        result }
+    ensures looks { LooksFor B.geometry M.content M.dropped solver.old.limit solver.old solver.new result }
 {
     dw_solve::laws::searches_add_up();
     solver.keeps_its_limit();
     'moves: for moves in 1..most.value + 1 {
-        match wins_resuming(alloc, solver, position, moves, slices) {
+        match solver.wins(alloc, position, moves) {
             Ok(true) => return Ok(moves),
             Ok(false) => {}
             Err(stop) => {

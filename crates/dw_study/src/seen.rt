@@ -3,15 +3,13 @@ ghost use Rattle.std.specs.Prelude.{◌≡◌, ◌≤◌, ◌∷◌, [], true, f
 ghost use Rattle.dw_board.specs.Lists.{Member};
 ghost use Rattle.dw_moves.specs.Moves.{Legal};
 ghost use Rattle.dw_moves.specs.Moves as of;
+ghost use Rattle.dw_solve.specs.Questions.{Asked};
 ghost use Rattle.dw_solve.specs.Wins.{Lost};
-ghost use Rattle.dw_study.specs.Slices.{Went};
 ghost use Rattle.dw_study.specs.inner.Checking.{AreChildren, AreOthers, AreOtherKeys};
 ghost use Rattle.dw_study.specs.inner.Checking.{FindsFirst, IsAt, IsSeen, IsSorted};
 
 use crate::branch::{CheckNode, Child, Seen, children, others, push};
 use crate::remark::Remark;
-use crate::sliced::wins_resuming;
-use crate::slices::{Slices, Watcher};
 use dw_board::{Board, Position};
 use dw_games::Tree;
 use dw_memo::Memo;
@@ -22,10 +20,9 @@ use dw_solve::{Guide, Solver, Stop};
 use std::alloc::{AllocError, Global};
 
 /// Returns the remarks at a turn of the attacker, and the children to examine further: those that win.
-pub(crate) fn seen_by_attacker<B: Board, M: Memo<B>, G: Guide<B>, W: Watcher>(
+pub(crate) fn seen_by_attacker<B: Board, M: Memo<B>, G: Guide<B>>(
     alloc: Global,
     solver: &mut Solver<B, M, G>,
-    slices: &mut Slices<W>,
     tree: &Tree<B>,
     spot: &CheckNode<B>,
 ) -> Result<Seen<B>, Stop>
@@ -34,17 +31,17 @@ pub(crate) fn seen_by_attacker<B: Board, M: Memo<B>, G: Guide<B>, W: Watcher>(
     requires few { spot.now.left ≤ 20 }
     ensures seen { (b : _) → IsAt B.geometry tree.now spot.now b
         → IfOk result (IsSeen B.geometry tree.now.paths true spot.now.left spot.now.position b) }
-    ensures went { Went B.geometry M.content M.dropped spot.now.left slices.old slices.new solver.old solver.new
-        result }
+    ensures asked { Asked B.geometry M.content M.dropped spot.now.left solver.old solver.new result }
 {
+    dw_solve::laws::searches_add_up();
     solver.keeps_its_limit();
     let children = children(alloc, tree, spot)?;
     if children.is_empty() {
         return Ok(end(alloc, spot)?);
     }
-    let mut seen = sorted(alloc, solver, slices, spot, children.as_slice())?;
+    let mut seen = sorted(alloc, solver, spot, children.as_slice())?;
     let others = others(alloc, &spot.position, children.as_slice())?;
-    let keys = winning(alloc, solver, slices, spot, others.as_slice())?;
+    let keys = winning(alloc, solver, spot, others.as_slice())?;
     if !keys.is_empty() {
         let also = Remark::Also {
             at: spot.node,
@@ -100,10 +97,9 @@ fn end<B: Board>(alloc: Global, spot: &CheckNode<B>) -> Result<Seen<B>, AllocErr
 }
 
 /// Returns the children that win, and remarks on those that fail.
-fn sorted<B: Board, M: Memo<B>, G: Guide<B>, W: Watcher>(
+fn sorted<B: Board, M: Memo<B>, G: Guide<B>>(
     alloc: Global,
     solver: &mut Solver<B, M, G>,
-    slices: &mut Slices<W>,
     spot: &CheckNode<B>,
     children: &[Child<B>],
 ) -> Result<Seen<B>, Stop>
@@ -113,15 +109,15 @@ fn sorted<B: Board, M: Memo<B>, G: Guide<B>, W: Watcher>(
     requires few { spot.now.left ≤ 20 }
     ensures sorted { (tree : _) (b : _) → AreChildren B.geometry spot.now.position tree b children.now
         → IfOk result (IsSorted B.geometry spot.now.position spot.now.left tree b spot.now.node children.now) }
-    ensures went { Went B.geometry M.content M.dropped spot.now.left slices.old slices.new solver.old solver.new
-        result }
+    ensures asked { Asked B.geometry M.content M.dropped spot.now.left solver.old solver.new result }
 {
     dw_moves::laws::moves_have_keys();
+    dw_solve::laws::searches_add_up();
     solver.keeps_its_limit();
     let mut remarks = Vec::new(alloc);
     let mut followed = Vec::new(alloc);
     'children: for child in children {
-        match refutation(alloc, solver, slices, &child.position, spot.left - 1)? {
+        match refutation(alloc, solver, &child.position, spot.left - 1)? {
             Some(reply) => {
                 let fails = Remark::Fails {
                     at: spot.node,
@@ -137,10 +133,9 @@ fn sorted<B: Board, M: Memo<B>, G: Guide<B>, W: Watcher>(
 }
 
 /// Returns the moves among some legal ones that win within the moves that are left.
-fn winning<B: Board, M: Memo<B>, G: Guide<B>, W: Watcher>(
+fn winning<B: Board, M: Memo<B>, G: Guide<B>>(
     alloc: Global,
     solver: &mut Solver<B, M, G>,
-    slices: &mut Slices<W>,
     spot: &CheckNode<B>,
     moves: &[Move<B>],
 ) -> Result<Vec<Move<B>>, Stop>
@@ -149,14 +144,14 @@ fn winning<B: Board, M: Memo<B>, G: Guide<B>, W: Watcher>(
     requires few { spot.now.left ≤ 20 }
     ensures keys { (given : _) → AreOthers B.geometry spot.now.position given moves.now
         → IfOk result (λ keys. AreOtherKeys B.geometry spot.now.position spot.now.left given keys.items) }
-    ensures went { Went B.geometry M.content M.dropped spot.now.left slices.old slices.new solver.old solver.new
-        result }
+    ensures asked { Asked B.geometry M.content M.dropped spot.now.left solver.old solver.new result }
 {
+    dw_solve::laws::searches_add_up();
     solver.keeps_its_limit();
     let mut keys = Vec::new(alloc);
     'moves: for mv in moves {
         let after = play(&spot.position, mv);
-        if refutation(alloc, solver, slices, &after, spot.left - 1)?.is_none() {
+        if solver.loses(alloc, &after, spot.left - 1)? {
             push(&mut keys, *mv)?;
         }
     }
@@ -164,22 +159,22 @@ fn winning<B: Board, M: Memo<B>, G: Guide<B>, W: Watcher>(
 }
 
 /// Returns the first reply after which the attacker has no win within `left` moves, if there is one.
-fn refutation<B: Board, M: Memo<B>, G: Guide<B>, W: Watcher>(
+fn refutation<B: Board, M: Memo<B>, G: Guide<B>>(
     alloc: Global,
     solver: &mut Solver<B, M, G>,
-    slices: &mut Slices<W>,
     position: &Position<B>,
     left: u8,
 ) -> Result<Option<Move<B>>, Stop>
     requires { left ≤ 20 }
     ensures found { IfOk result (FindsFirst B.geometry position.now left) }
-    ensures went { Went B.geometry M.content M.dropped left slices.old slices.new solver.old solver.new result }
+    ensures asked { Asked B.geometry M.content M.dropped left solver.old solver.new result }
 {
+    dw_solve::laws::searches_add_up();
     solver.keeps_its_limit();
     let list = listed(alloc, position)?;
     'replies: for reply in list.as_slice() {
         let after = play(position, &reply.step);
-        if !wins_resuming(alloc, solver, &after, left, slices)? {
+        if !solver.wins(alloc, &after, left)? {
             return Ok(Some(reply.step));
         }
     }

@@ -10,7 +10,7 @@ use dw_memo::AnyMemo;
 use dw_moves::Move;
 use dw_report::judge::judge;
 use dw_report::judged_text;
-use dw_solve::{Guide, Solver, Stop};
+use dw_solve::{Guide, Solver, Stop, Watcher};
 use std::alloc::Global;
 use std::fmt::Write;
 
@@ -20,6 +20,8 @@ const AMPLE: u64 = 1_000_000_000;
 /// Moves to lower numbers come first.
 #[derive(Clone, Copy)]
 pub struct ByEnd;
+
+impl Watcher for ByEnd {}
 
 impl<B: Board> Guide<B> for ByEnd {
     fn rank(&self, _position: &Position<B>, step: &Move<B>) -> u32 {

@@ -98,17 +98,17 @@ abbrev pub Refuses : (before after : List ℕ) → (full : Bool) → Ending (Bor
 Refuses before after full ending = (error : CliError) × EndsUnread before after full error ending
 
 -- the effect of the named program; without a program nothing is done
-abbrev pub DoesIt : Option Program → (input before after : List ℕ) → (full : Bool)
+abbrev pub RunsProgram : Option Program → (input before after : List ℕ) → (full : Bool)
     → Ending (Bor (List ℕ)) → Type 0
-DoesIt (Some Report) input before after full ending = DoesReport input before after full ending
-DoesIt (Some Desk) input before after full ending = DoesDesk input before after full ending
-DoesIt None input before after full ending = ⊥
+RunsProgram (Some Report) input before after full ending = DoesReport input before after full ending
+RunsProgram (Some Desk) input before after full ending = DoesDesk input before after full ending
+RunsProgram None input before after full ending = ⊥
 
 -- the arguments are refused, or the program does what they request
 abbrev pub Answers : Option Program → (input before after : List ℕ) → (full : Bool)
     → Ending (Bor (List ℕ)) → Type 0
 Answers program input before after full ending =
-    Refuses before after full ending ⊎ DoesIt program input before after full ending
+    Refuses before after full ending ⊎ RunsProgram program input before after full ending
 
 -- the reason of a run that failed
 abbrev pub fault_reason : RunFault → Reason

@@ -12,7 +12,7 @@ use dw_board::{Board, Eight, Ten};
 use dw_commands::Ending;
 use dw_desk_commands::run_on;
 use dw_notation::Reading;
-use dw_study::Slices;
+use dw_solve::Unwatched;
 use std::alloc::Global;
 
 /// The program's name in its messages.
@@ -74,7 +74,6 @@ fn run_from<'a, B: Board, L: Limit>(
     if let Some(path) = args.file {
         return Ending::NotOpened(path);
     }
-    let mut slices = Slices::whole();
     let mut source = Reading::new(input);
-    run_on::<B, _, _, _>(alloc, &mut slices, args, &mut source, room)
+    run_on::<B, _, _, _>(alloc, Unwatched, args, &mut source, room)
 }

@@ -1,7 +1,7 @@
 -- A solution that was compared with all wins, as the code keeps it.
 use Rattle.std.specs.Prelude.{[], IsTrue, ◌↔◌}
 use Rattle.dw_board.specs.Geometry.{Geometry}
-use Rattle.dw_desk_commands.specs.declared.checking.Solution.{Solution}
+use Rattle.dw_desk_commands.specs.declared.check.Solution.{Solution}
 use Rattle.dw_solve.specs.Wins.{Win}
 use Rattle.dw_study.specs.Remarks.{AreRemarks}
 use Rattle.dw_study.specs.Telling.{Say}

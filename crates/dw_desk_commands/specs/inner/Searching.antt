@@ -10,9 +10,9 @@ use Rattle.dw_study.specs.declared.finding.Finding.{Finding}
 
 -- It began after a number of expansions. If it stays open whether there is a win, as many positions were expanded as
 -- the bound says, and no more until it was known.
-pub record IsBounded {B : Type 0} (g : Geometry) (p : Placement) (moves first : ℕ) (each : Option ℕ) (before : ℕ)
+pub record IsBounded {B : Type 0} (g : Geometry) (p : Placement) (moves : ℕ) (each : Option ℕ) (before : ℕ)
     (after : Solving (AnyMemo B)) (finding : Finding B) : Type 0 where
   pub start : Solving (AnyMemo B)
   pub began : start.expanded ≡ before
   pub stays : StaysOpen content_of p each start after (Ok finding)
-  pub known : IsKnownInTime g content_of dropped_of p moves first each start after finding
+  pub known : IsKnownInTime g content_of dropped_of p moves each start after finding

@@ -1,8 +1,8 @@
 -- Numbers of remarks, as the code keeps them.
 use Rattle.std.specs.Prelude.{ℕ, ◌+◌}
 use Rattle.dw_study.specs.Remarks.{Remark, fails, also, leaves_open, ends}
-use Rattle.dw_desk_commands.specs.Checking.{Counted}
-use Rattle.dw_desk_commands.specs.declared.checking.Tally.{Tally}
+use Rattle.dw_desk_commands.specs.Check.{Counted}
+use Rattle.dw_desk_commands.specs.declared.check.Tally.{Tally}
 
 -- the value of a tally
 abbrev pub tallied : Tally → Counted

@@ -7,11 +7,10 @@ use Rattle.dw_solve.specs.Wins.{Win}
 use Rattle.dw_solve.specs.declared.stop.Stop.TheVariants.{Limit}
 use Rattle.dw_solve.specs.Searching.{IsCounted}
 use Rattle.dw_solve.specs.Solving.{Solving}
-use Rattle.dw_solve.specs.Work.{cut_off}
+use Rattle.dw_solve.specs.Questions.{moment_of}
+use Rattle.dw_solve.specs.Work.{Searched, cut_off}
 use Rattle.dw_study.specs.declared.looking.Cut.{Cut}
-use Rattle.dw_study.specs.declared.slices.Slices.{Slices}
 use Rattle.dw_study.specs.Finding.{IsJudgedAt}
-use Rattle.dw_study.specs.Slices.{GoesOn}
 
 -- the number was found, or it was found that there is no win within some lower number of moves
 abbrev pub IsLooked : Geometry → Placement → ℕ → Result ℕ Cut → Type 0
@@ -34,13 +33,12 @@ abbrev pub StopsAt : ℕ → ℕ → Result ℕ Cut → Type 0
 StopsAt limit expanded (Ok k) = Unit {0}
 StopsAt limit expanded (Err cut) = cut.stop ≡ Limit → expanded ≡ limit
 
--- Searches for the least number of moves, in slices that began before: each expansion is counted, up to a limit that
--- may be lower than the solver's own; no win is looked for within more moves than the answer tells; the slices go on.
-pub record LooksOn {M W : Type 0} (g : Geometry) (content : M → Content) (lost : M → ℕ) (limit : ℕ)
-    (before after : Slices W) (old new : Solving M) (answer : Result ℕ Cut) : Type 0 where
+-- Searches for the least number of moves: each expansion is counted, up to a limit that may be lower than the solver's
+-- own; no win is looked for within more moves than the answer tells.
+pub record LooksFor {M : Type 0} (g : Geometry) (content : M → Content) (lost : M → ℕ) (limit : ℕ) (old new : Solving M)
+    (answer : Result ℕ Cut) : Type 0 where
   pub count : IsCounted old.expanded old.limit new.expanded new.limit
   pub few : new.expanded ≤ limit
   pub stop : StopsAt limit new.expanded answer
-  pub on : GoesOn g content lost (reached answer) before.first before.start (cut_off answer (reached answer)) old new
-  pub first : after.first ≡ before.first
-  pub start : after.start ≡ before.start
+  pub searched : Searched g (reached answer) (cut_off answer (reached answer)) (moment_of content lost old)
+      (moment_of content lost new)

@@ -2,16 +2,16 @@ use Rattle.std.proofs.Common.{◌≡◌, ◌-◌, ℕ, List, [], Option, ap, fal
 use Rattle.std.proofs.lemmas.Result.{IfErr-weaker, err_from_is_err_and}
 use Rattle.std.specs.Borrow.{Bor}
 use Rattle.dw_commands.specs.declared.ending.Ending.{Ending}
-use Rattle.dw_desk_commands.specs.Certifying.{IsCertifyOf}
-use Rattle.dw_desk_commands.specs.Checking.{IsCheckOf}
-use Rattle.dw_desk_commands.specs.Commands.{DoesIt, Leaves, Tells}
-use Rattle.dw_desk_commands.specs.Finding.{IsFindOf}
-use Rattle.dw_desk_commands.specs.Mending.{IsMendOf}
-use Rattle.dw_desk_commands.specs.Moving.{IsMovesOf}
-use Rattle.dw_desk_commands.specs.Paging.{IsPageOf}
+use Rattle.dw_desk_commands.specs.Certify.{IsCertifyOf}
+use Rattle.dw_desk_commands.specs.Check.{IsCheckOf}
+use Rattle.dw_desk_commands.specs.Commands.{Leaves, RunsCommand, Tells}
+use Rattle.dw_desk_commands.specs.Find.{IsFindOf}
+use Rattle.dw_desk_commands.specs.Mend.{IsMendOf}
+use Rattle.dw_desk_commands.specs.Moves.{IsMovesOf}
+use Rattle.dw_desk_commands.specs.Page.{IsPageOf}
 use Rattle.dw_desk_commands.specs.ProblemText.{IsHeading, IsPartOfFirst, IsReportOnOne}
-use Rattle.dw_desk_commands.specs.Solving.{IsSolutionOf}
-use Rattle.dw_desk_commands.specs.Writing.{IsTokenFor}
+use Rattle.dw_desk_commands.specs.Solution.{IsSolutionOf}
+use Rattle.dw_desk_commands.specs.Token.{IsTokenFor}
 use Rattle.dw_desk_commands.specs.inner.Choosing.{AreToCome, MayBe, source_of}
 use Rattle.dw_desk_commands.specs.inner.Standing.{StandsOf}
 use Rattle.dw_arguments.specs.declared.desk.Task.TheVariants as tasks
@@ -96,7 +96,8 @@ returns-in-Certify-clause-does g c =
     let One = λ (game : NumberedGame). IsCertifyOf geo c.in-Certify.query.n.value (problem_of game) in
     ok_so (λ ending. (next : Option NumberedGame) × (text : List ℕ) × IsNext geo supply chosen after next
     × IsReportOnOne One chosen.portion.first (as_list next) ending text × Appends before_text after_text text)
-    (DoesIt geo args expanded (supply (source_of chosen.text)) (supply (source_of after.text)) before_text after_text)
+    (RunsCommand geo args expanded (supply (source_of chosen.text)) (supply (source_of after.text)) before_text
+    after_text)
     c.report_first.result
     (λ ending told. does_one geo supply args expanded chosen after before_text after_text One ending c.requires.fresh
     told (λ games text one. subst (λ t. Tells geo args.portion t expanded games ending text) (sym c.in-Certify.is) one))
@@ -115,7 +116,8 @@ returns-in-Moves-clause-does g c =
     let One = λ (game : NumberedGame). IsMovesOf geo c.in-Moves.query (problem_of game) in
     ok_so (λ ending. (next : Option NumberedGame) × (text : List ℕ) × IsNext geo supply chosen after next
     × IsReportOnOne One chosen.portion.first (as_list next) ending text × Appends before_text after_text text)
-    (DoesIt geo args expanded (supply (source_of chosen.text)) (supply (source_of after.text)) before_text after_text)
+    (RunsCommand geo args expanded (supply (source_of chosen.text)) (supply (source_of after.text)) before_text
+    after_text)
     c.report_first-in-Moves.result
     (λ ending told. does_one geo supply args expanded chosen after before_text after_text One ending c.requires.fresh
     told (λ games text one. subst (λ t. Tells geo args.portion t expanded games ending text) (sym c.in-Moves.is) one))
@@ -134,7 +136,8 @@ returns-in-Mend-clause-does g c =
     let One = λ (game : NumberedGame). IsMendOf geo c.in-Mend.query expanded (problem_of game) in
     ok_so (λ ending. (next : Option NumberedGame) × (text : List ℕ) × IsNext geo supply chosen after next
     × IsReportOnOne One chosen.portion.first (as_list next) ending text × Appends before_text after_text text)
-    (DoesIt geo args expanded (supply (source_of chosen.text)) (supply (source_of after.text)) before_text after_text)
+    (RunsCommand geo args expanded (supply (source_of chosen.text)) (supply (source_of after.text)) before_text
+    after_text)
     c.report_first-in-Mend.result
     (λ ending told. does_one geo supply args expanded chosen after before_text after_text One ending c.requires.fresh
     told (λ games text one. subst (λ t. Tells geo args.portion t expanded games ending text) (sym c.in-Mend.is) one))
@@ -153,7 +156,8 @@ returns-in-Token-clause-does g c =
     let One = λ (game : NumberedGame). IsTokenFor geo c.in-Token.line.now game.said.found in
     ok_so (λ ending. (next : Option NumberedGame) × (text : List ℕ) × IsNext geo supply chosen after next
     × IsReportOnOne One chosen.portion.first (as_list next) ending text × Appends before_text after_text text)
-    (DoesIt geo args expanded (supply (source_of chosen.text)) (supply (source_of after.text)) before_text after_text)
+    (RunsCommand geo args expanded (supply (source_of chosen.text)) (supply (source_of after.text)) before_text
+    after_text)
     c.report_first-in-Token.result
     (λ ending told. does_one geo supply args expanded chosen after before_text after_text One ending c.requires.fresh
     told (λ games text one. subst (λ t. Tells geo args.portion t expanded games ending text) (sym c.in-Token.is) one))

@@ -22,13 +22,13 @@ returns-clause-obeys g c =
     let supply = g.S.Source.supply in
     let args = c.args.args.now in
     let start = g.K.Sink.accepted c.args.sink.now in
-    let new = g.K.Sink.accepted c.dispatch.new.sink in
-    let after = c.dispatch.new.chosen in
+    let new = g.K.Sink.accepted c.dispatch-done.new.sink in
+    let after = c.dispatch-done.new.chosen in
     inl (
       c.in_run.result,
       refl,
       subst (FailsAt (Bor (List ℕ)) geo args (supply (source_of c.args.chosen.now.text)) (supply (source_of after.text))
           start new) (sym c.in_run.ensures)
           (fails_at (Bor (List ℕ)) geo supply args c.args.chosen.now after start new c.in-Err.fault c.expanded.result
-          c.requires.fresh c.dispatch.ensures.on c.in-Err.ensures.stands),
+          c.requires.fresh c.dispatch-done.ensures.on c.in-Err.ensures.stands),
     )

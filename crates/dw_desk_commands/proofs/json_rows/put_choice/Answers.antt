@@ -5,7 +5,7 @@ use Rattle.json.specs.Json.{string}
 use Rattle.dw_verdict.specs.Judging.{said_by}
 use Rattle.dw_verdict.specs.Verdict.{IsVerdict, dual}
 use Rattle.dw_json.specs.Rows.{texts}
-use Rattle.dw_desk_commands.proofs.FoundLemmas.{choice_told}
+use Rattle.dw_desk_commands.proofs.FindLemmas.{choice_told}
 use Rattle.dw_json.specs.inner.Composing.{both, then_ok}
 use Rattle.dw_desk_commands.proofs.json_rows.put_choice.Goals as goal
 

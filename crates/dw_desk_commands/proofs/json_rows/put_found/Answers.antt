@@ -2,7 +2,7 @@ use Rattle.std.proofs.Common.{◌∷◌, [], List, refl, sym, subst}
 use Rattle.std.specs.Prelude.{codes}
 use Rattle.json.specs.Json.{string}
 use Rattle.dw_study.specs.Telling.{told_by}
-use Rattle.dw_desk_commands.specs.FindingJson.{AreFound}
+use Rattle.dw_desk_commands.specs.FindJson.{AreFound}
 use Rattle.dw_json.specs.Rows.{Member, count}
 use Rattle.dw_json.specs.inner.Composing.{then_ok}
 use Rattle.dw_desk_commands.proofs.json_rows.put_found.Goals as goal

@@ -3,9 +3,9 @@ use Rattle.std.specs.Prelude.{codes}
 use Rattle.std.specs.String.{string_bytes}
 use Rattle.json.specs.Json.{string}
 use Rattle.dw_verdict.specs.Judging.{said_by}
-use Rattle.dw_desk_commands.specs.FindingJson.{before_keys}
+use Rattle.dw_desk_commands.specs.FindJson.{before_keys}
 use Rattle.dw_json.specs.Rows.{count, pairs, texts}
-use Rattle.dw_desk_commands.proofs.FoundLemmas.{judged_told, judged_written}
+use Rattle.dw_desk_commands.proofs.FindLemmas.{judged_told, judged_written}
 use Rattle.dw_json.specs.inner.Composing.{then_ok}
 use Rattle.dw_desk_commands.proofs.json_rows.put_judged.Goals as goal
 

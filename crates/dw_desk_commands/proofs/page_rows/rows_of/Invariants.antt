@@ -1,6 +1,6 @@
 use Rattle.std.proofs.Common.{◌≡◌, map, take}
 use Rattle.std.specs.String.{string_bytes}
-use Rattle.dw_desk_commands.specs.Paging.{try_row}
+use Rattle.dw_desk_commands.specs.Page.{try_row}
 use Rattle.dw_desk_commands.proofs.page_rows.rows_of.Given as goal
 
 abbrev pub invariant-tries : goal.invariant-tries

@@ -2,7 +2,7 @@ use Rattle.std.proofs.Common.{◌≡◌, ◌++◌, ◌∙◌, ℕ, List, IfOk, a
 use Rattle.std.specs.Prelude.{codes}
 use Rattle.std.specs.List.{join_by}
 use Rattle.std.specs.String.{string_bytes}
-use Rattle.dw_desk_commands.specs.Paging.{IsVerdictRow, shorter}
+use Rattle.dw_desk_commands.specs.Page.{IsVerdictRow, shorter}
 use Rattle.dw_page.specs.Words.{phrase}
 use Rattle.dw_page.specs.declared.words.Phrase.TheVariants as phrases
 use Rattle.dw_verdict.specs.Judging.{said_by}

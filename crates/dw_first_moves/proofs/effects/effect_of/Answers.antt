@@ -14,12 +14,12 @@ one_less n some = omega (arith, some)
 pub moves-preserved : goal.moves-preserved
 moves-preserved g c =
     let geo = g.B.Board.geometry in
-    let here = c.in_ok-is_lost.ensures in
+    let here = c.in_ok-loses.ensures in
     record {
-      none = below_more _ _ c.moves.invariant.none (λ wins. true≢false (sym (here.lost.1
+      none = below_more _ _ c.moves.invariant.none (λ wins. true≢false (sym (here.answer.1
           (subst (λ z. Lost geo z c.moves.left) (sym c.play-after.ensures)
           (lost_of geo c.args.position.now c.moves.left c.args.mv.now wins))) ∙ c.if-branch.false));
-      count = counted_then _ _ _ _ _ _ c.moves.invariant.count here.count;
+      count = counted_then _ _ _ _ _ _ c.moves.invariant.count here.asked.count;
       right = here.right;
       map = here.map;
     }
@@ -29,7 +29,7 @@ returns-then-branch-clause-effect g c =
     let geo = g.B.Board.geometry in
     record {
       wins = wins_with geo c.args.position.now c.moves.left c.args.mv.now c.requires.legal
-          (subst (λ z. Lost geo z c.moves.left) c.play-after.ensures (c.in_ok-is_lost.ensures.lost.0 c.if-branch.true));
+          (subst (λ z. Lost geo z c.moves.left) c.play-after.ensures (c.in_ok-loses.ensures.answer.0 c.if-branch.true));
       few = omega (arith, c.moves-test.true);
       none_less = c.moves.invariant.none;
     }

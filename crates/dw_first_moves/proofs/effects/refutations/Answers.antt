@@ -26,7 +26,7 @@ replies-preserved g c =
     let i = c.replies.reply-index in
     let all = subst (λ z. IsListOf (Precedes geo q) (Legal geo q) (map (λ item. item.step) z))
     (sym c.as_slice-reply-items.ensures.value) c.in_ok-list.ensures.in_order in
-    let here = c.in_ok-wins_resuming.ensures in
+    let here = c.in_ok-wins.ensures in
     let is = ap (λ l. l.step) c.reply.view_is in
     let there = c.play.ensures ∙ ap (play geo q) is in
     record {
@@ -38,7 +38,7 @@ replies-preserved g c =
             c.reply-item.result c.replies.replies.items c.reply.inside.step all.ascending c.replies-test.true
             c.reply-item.is is
             (subst (λ m. Win geo (play geo q m) n → ⊥) (sym is)
-            (no_win geo q c.play.result n c.reply-item.result.step c.in_ok-wins_resuming.field-0 there here.answer
+            (no_win geo q c.play.result n c.reply-item.result.step c.in_ok-wins.field-0 there here.answer
             w.if-not-branch.true)) (λ z e h. e ∙ sym is) c.replies.invariant.found)
         | else-not-branch w ↦
             subst (GatheredTo (λ item. item.step) (Precedes geo q) (λ m. m) (λ m. Win geo (play geo q m) n → ⊥) items
@@ -46,10 +46,10 @@ replies-preserved g c =
             (to_same (λ item. item.step) (Precedes geo q) (λ m. m) (λ m. Win geo (play geo q m) n → ⊥) items i
             c.reply-item.result c.replies.replies.items c.replies-test.true c.reply-item.is
             (λ z e h. h (subst (λ m. Win geo (play geo q m) n) (sym e)
-            (a_win geo q c.play.result n c.reply-item.result.step c.in_ok-wins_resuming.field-0 there here.answer
+            (a_win geo q c.play.result n c.reply-item.result.step c.in_ok-wins.field-0 there here.answer
             w.if-not-branch.false))) c.replies.invariant.found)
       ];
-      count = counted_then _ _ _ _ _ _ c.replies.invariant.count here.went.count;
+      count = counted_then _ _ _ _ _ _ c.replies.invariant.count here.asked.count;
       right = here.right;
       map = here.map;
     }

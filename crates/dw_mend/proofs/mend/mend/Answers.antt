@@ -3,7 +3,7 @@ use Rattle.std.proofs.lemmas.List.{length-map}
 use Rattle.dw_notation.specs.Streams.{Appends}
 use Rattle.dw_notation.specs.Writes.{StopsShort}
 use Rattle.dw_notation.specs.inner.StreamLemmas.{Appends-nil, Appends-trans}
-use Rattle.dw_mend.specs.Mending.{AreMended, IsMendStop}
+use Rattle.dw_mend.specs.Mending.{AreBounded, AreMended, IsMendStop}
 use Rattle.dw_mend.specs.MendText.{last_line}
 use Rattle.dw_mend.specs.Telling.{told_by}
 use Rattle.dw_mend.specs.declared.mend.MendFault.TheVariants as because
@@ -96,11 +96,17 @@ returns-clause-text g c =
         neighbours = map told_by items;
         are = c.in_ok-all.ensures;
         lines = t.0;
-        mended = subst (λ z. AreMended c.args.bounds.wording geo n c.args.bounds.each z t.0 (record {
-          sound = counts.sound;
-          undecided = counts.undecided;
-          expanded = c.mend_these.new.solver.expanded - c.args.solver.now.expanded;
-        })) told t.1;
+        mended = subst (λ solver. AreMended c.args.bounds.wording geo n c.args.bounds.each
+            (part_of i m (map told_by items)) t.0 (record {
+              sound = counts.sound;
+              undecided = counts.undecided;
+              expanded = solver.expanded - c.args.solver.now.expanded;
+            })) (sym c.make_way.ensures) (subst (λ z. AreMended c.args.bounds.wording geo n c.args.bounds.each z t.0
+            (record {
+              sound = counts.sound;
+              undecided = counts.undecided;
+              expanded = c.mend_these.new.solver.expanded - c.args.solver.now.expanded;
+            })) told t.1);
         count = c.in_ok-mended.ensures.all ∙ (sym (length-map some told_by) ∙ ap length told);
         is = refl;
       },
@@ -139,14 +145,21 @@ returns-in_err-write_all-clause-short g c = λ e.
           neighbours = map told_by items;
           are = c.in_ok-all.ensures;
           lines = t.0;
-          mended = subst (λ z. AreMended c.args.bounds.wording geo n c.args.bounds.each z t.0 (record {
-            sound = counts.sound;
-            undecided = counts.undecided;
-            expanded = c.mend_these.new.solver.expanded - c.args.solver.now.expanded;
-          })) told t.1;
+          mended = subst (λ solver. AreMended c.args.bounds.wording geo n c.args.bounds.each
+              (part_of i m (map told_by items)) t.0 (record {
+                sound = counts.sound;
+                undecided = counts.undecided;
+                expanded = solver.expanded - c.args.solver.now.expanded;
+              })) (sym c.make_way.ensures) (subst (λ z. AreMended c.args.bounds.wording geo n c.args.bounds.each z t.0
+              (record {
+                sound = counts.sound;
+                undecided = counts.undecided;
+                expanded = c.mend_these.new.solver.expanded - c.args.solver.now.expanded;
+              })) told t.1);
           count = c.in_ok-mended.ensures.all ∙ (sym (length-map some told_by) ∙ ap length told);
           is = refl;
         },
-        c.in_ok-mended.ensures.bounded,
+        subst (λ solver. AreBounded c.args.bounds.each counts.all counts.undecided c.args.solver.now.expanded
+            solver.expanded) (sym c.make_way.ensures) c.in_ok-mended.ensures.bounded,
       ),
     )

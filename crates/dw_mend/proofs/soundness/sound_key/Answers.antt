@@ -6,7 +6,7 @@ use Rattle.dw_mend.proofs.soundness.sound_key.Goals as goal
 pub returns-then-not-branch-clause-key : goal.returns-then-not-branch-clause-key
 returns-then-not-branch-clause-key g c = λ m is.
     let wins = sound_wins g.B.Board.geometry c.args.position.now c.args.moves.value m is in
-    let bad : true ≡ false = sym (c.in_ok-wins_resuming.ensures.answer.1 wins) ∙ c.if-not-branch.true in
+    let bad : true ≡ false = sym (c.in_ok-wins.ensures.answer.1 wins) ∙ c.if-not-branch.true in
     cc
 
 pub returns-clause-key : goal.returns-clause-key

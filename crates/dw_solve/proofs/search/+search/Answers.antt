@@ -839,6 +839,20 @@ try_reply-returns-clause-known g t c known =
     (subst (λ q. (c.args.moves ≡ 0) ⊎ IsDecided (g.M.Memo.content c.args.search.now.memo) q c.args.moves)
     (sym c.play-after.ensures) known)
 
+pub all_replies_lose-replies-init : goal.all_replies_lose-replies-init
+all_replies_lose-replies-init g t c =
+    let geo = g.B.Board.geometry in (
+      c.requires.ready.right,
+      (
+        counted_none c.args.search.now.expanded c.args.search.now.limit c.requires.ready.within,
+        (
+          (λ k x low e. absurd (none_below_none k low)),
+          tried_none _ _ (Answered geo c.args.position.now c.args.moves) _ _,
+          λ all. unchanged_none (g.M.Memo.content c.args.search.now.memo) c.args.search.now.expanded,
+        ),
+      ),
+    )
+
 pub all_replies_lose-play-requires : goal.all_replies_lose-play-requires
 all_replies_lose-play-requires g t c =
     put_off_legal g.B.Board.geometry c.args.position.now c.args.ranked.now c.replies.candidate-index

@@ -1,7 +1,8 @@
 use Rattle.std.proofs.Common.{◌∷◌, ◌++◌, [], sym, subst, arith}
 use Rattle.dw_study.proofs.SeenLemmas.{SaidTo, said_none, said_more, said_all, child_kept, kept_some, after_there}
 use Rattle.dw_study.proofs.SeenLemmas.{after_kept, after_less, after_falls, after_says}
-use Rattle.dw_study.proofs.WentLemmas.{answered, went_then, went_ok, went_stop, went_memory}
+use Rattle.dw_solve.specs.inner.QuestionLemmas.{answered, asked_ok, asked_stop, asked_memory}
+use Rattle.dw_study.proofs.AskedLemmas.{asked_on}
 use Rattle.dw_study.proofs.check.+remarks_from.Goals as goal
 
 pub followed-init : goal.followed-init
@@ -14,8 +15,8 @@ followed-init g t c =
       said = λ b there. subst (λ z. SaidTo geo tree spot.attacks spot.left spot.position b z 0 seen.remarks.items)
           (sym c.as_slice-child-items.ensures.value)
           (said_none geo tree spot.attacks spot.left spot.position b seen (c.in_ok-remarks.ensures.seen b there));
-      went = went_ok geo g.M.Memo.content g.M.Memo.dropped spot.left c.args.slices.now c.seen.new.slices
-          c.args.solver.now c.seen.new.solver seen 0 c.in_ok-remarks.ensures.went;
+      asked = asked_ok geo g.M.Memo.content g.M.Memo.dropped spot.left
+          c.args.solver.now c.seen.new.solver seen 0 c.in_ok-remarks.ensures.asked;
     }
 
 pub after-requires : goal.after-requires
@@ -48,48 +49,43 @@ remarks_from-requires g t c κs within =
         (
           within.1.0,
           (
-            within.1.1.0,
+            within.1.1,
             (
-              within.1.1.1,
               (
-                (
-                  there.0 ++ item.mv ∷ [],
-                  after_there geo c.args.tree.now spot after item there.0 there.1 c.after.ensures kept.2.there,
-                ),
-                (after_kept geo spot after item c.after.ensures kept.1, omega (arith, less, c.requires.few)),
+                there.0 ++ item.mv ∷ [],
+                after_there geo c.args.tree.now spot after item there.0 there.1 c.after.ensures kept.2.there,
               ),
+              (after_kept geo spot after item c.after.ensures kept.1, omega (arith, less, c.requires.few)),
             ),
           ),
         ),
       ),
     )
 
-pub returns-in_err-behind-clause-went : goal.returns-in_err-behind-clause-went
-returns-in_err-behind-clause-went g t c =
+pub returns-in_err-behind-clause-asked : goal.returns-in_err-behind-clause-asked
+returns-in_err-behind-clause-asked g t c =
     let geo = g.B.Board.geometry in
     let content = g.M.Memo.content in
     let lost = g.M.Memo.dropped in
     let less = after_less geo c.args.spot.now c.after.result c.child-item.result c.after.ensures in
-    went_then geo content lost c.after.result.left c.args.spot.now.left c.args.slices.now c.followed.slices
-    c.remarks_from.new.slices c.args.solver.now c.followed.solver c.remarks_from.new.solver
-    c.from_residual-in_err-behind.result less c.followed.invariant.went
-    (went_stop geo content lost c.after.result.left c.followed.slices c.remarks_from.new.slices c.followed.solver
+    asked_on c.searches_add_up.ensures geo content lost c.after.result.left c.args.spot.now.left c.args.solver.now
+    c.followed.solver c.remarks_from.new.solver c.from_residual-in_err-behind.result less c.followed.invariant.asked
+    (asked_stop geo content lost c.after.result.left c.followed.solver
     c.remarks_from.new.solver c.in_err-behind.field-0.0 c.from_residual-in_err-behind.result
-    c.from_residual-in_err-behind.ensures.1 c.in_err-behind.ensures.went)
+    c.from_residual-in_err-behind.ensures.1 c.in_err-behind.ensures.asked)
 
-pub returns-in_err-append-clause-went : goal.returns-in_err-append-clause-went
-returns-in_err-append-clause-went g t c =
+pub returns-in_err-append-clause-asked : goal.returns-in_err-append-clause-asked
+returns-in_err-append-clause-asked g t c =
     let geo = g.B.Board.geometry in
     let content = g.M.Memo.content in
     let lost = g.M.Memo.dropped in
     let less = after_less geo c.args.spot.now c.after.result c.child-item.result c.after.ensures in
-    went_memory geo content lost c.args.spot.now.left c.args.slices.now c.remarks_from.new.slices c.args.solver.now
+    asked_memory geo content lost c.args.spot.now.left c.args.solver.now
     c.remarks_from.new.solver c.from_residual-in_err-append.result c.from_residual-in_err-append.ensures.1
-    (went_then geo content lost c.after.result.left c.args.spot.now.left c.args.slices.now c.followed.slices
-    c.remarks_from.new.slices c.args.solver.now c.followed.solver c.remarks_from.new.solver answered less
-    c.followed.invariant.went
-    (went_ok geo content lost c.after.result.left c.followed.slices c.remarks_from.new.slices c.followed.solver
-    c.remarks_from.new.solver c.in_ok-behind.behind 0 c.in_ok-behind.ensures.went))
+    (asked_on c.searches_add_up.ensures geo content lost c.after.result.left c.args.spot.now.left c.args.solver.now
+    c.followed.solver c.remarks_from.new.solver answered less c.followed.invariant.asked
+    (asked_ok geo content lost c.after.result.left c.followed.solver
+    c.remarks_from.new.solver c.in_ok-behind.behind 0 c.in_ok-behind.ensures.asked))
 
 pub followed-preserved : goal.followed-preserved
 followed-preserved g t c =
@@ -114,11 +110,10 @@ followed-preserved g t c =
           (c.in_ok-behind.ensures.remarks (b ++ item.mv ∷ [])
           (after_there geo c.args.tree.now spot after item b there c.after.ensures kept.2.there)))
           c.in_ok-append.ensures.items;
-      went = went_then geo content lost after.left spot.left c.args.slices.now c.followed.slices
-          c.remarks_from.new.slices c.args.solver.now c.followed.solver c.remarks_from.new.solver answered less
-          c.followed.invariant.went
-          (went_ok geo content lost after.left c.followed.slices c.remarks_from.new.slices c.followed.solver
-          c.remarks_from.new.solver c.in_ok-behind.behind 0 c.in_ok-behind.ensures.went);
+      asked = asked_on c.searches_add_up.ensures geo content lost after.left spot.left c.args.solver.now
+          c.followed.solver c.remarks_from.new.solver answered less c.followed.invariant.asked
+          (asked_ok geo content lost after.left c.followed.solver
+          c.remarks_from.new.solver c.in_ok-behind.behind 0 c.in_ok-behind.ensures.asked);
     }
 
 pub returns-clause-remarks : goal.returns-clause-remarks

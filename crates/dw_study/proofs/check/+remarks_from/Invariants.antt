@@ -1,9 +1,9 @@
 use Rattle.std.proofs.Common.{◌+◌, ◌*◌, cond, List}
 use Rattle.dw_moves.specs.Moves.{Move}
-use Rattle.dw_study.specs.Slices.{Went}
+use Rattle.dw_solve.specs.Questions.{Asked}
 use Rattle.dw_study.specs.inner.Checking.{IsAt}
 use Rattle.dw_study.proofs.SeenLemmas.{SaidTo}
-use Rattle.dw_study.proofs.WentLemmas.{answered}
+use Rattle.dw_solve.specs.inner.QuestionLemmas.{answered}
 use Rattle.dw_study.proofs.check.+remarks_from.Given as goal
 
 abbrev pub decreases-remarks_from : goal.decreases-remarks_from
@@ -14,6 +14,6 @@ invariant-followed g l = record {
   said : (b : List Move) → IsAt g.B.Board.geometry l.tree l.spot b
       → SaidTo g.B.Board.geometry l.tree.paths l.spot.attacks l.spot.left l.spot.position b l.child-items l.child-index
       l.remarks.items;
-  went : Went g.B.Board.geometry g.M.Memo.content g.M.Memo.dropped l.spot.left l.fn.slices l.slices l.fn.solver
+  asked : Asked g.B.Board.geometry g.M.Memo.content g.M.Memo.dropped l.spot.left l.fn.solver
       l.solver answered;
 }

@@ -1,10 +1,9 @@
 use Rattle.std.proofs.Common.{◌≡◌, ℕ, ◌+◌, ◌-◌, ◌<◌, ◌≤◌}
 use Rattle.dw_solve.specs.Certificates.{SaysLeast}
-use Rattle.dw_solve.specs.Questions.{Idle, LostNothing}
-use Rattle.dw_solve.specs.Work.{LossIsCounted}
+use Rattle.dw_solve.specs.Questions.{Idle, LostNothing, moment_of}
 use Rattle.dw_solve.specs.Searching.{IsCounted}
 use Rattle.dw_solve.specs.Wins.{Win}
-use Rattle.dw_study.specs.Slices.{GoesOn}
+use Rattle.dw_solve.specs.Work.{LossIsCounted, Searched}
 use Rattle.dw_study.proofs.looking.number.Given as goal
 
 abbrev pub invariant-moves : goal.invariant-moves
@@ -13,11 +12,9 @@ invariant-moves g l = record {
   idle : (j : ℕ) → SaysLeast (g.M.Memo.content l.initial.solver.memo) l.position j → l.moves ≤ j + 1
       → Idle g.M.Memo.content l.initial.solver l.solver;
   count : IsCounted l.initial.solver.expanded l.initial.solver.limit l.solver.expanded l.solver.limit;
-  on : GoesOn g.B.Board.geometry g.M.Memo.content g.M.Memo.dropped (l.moves - 1) l.initial.slices.first
-      l.initial.slices.start 0 l.initial.solver l.solver;
+  searched : Searched g.B.Board.geometry (l.moves - 1) 0 (moment_of g.M.Memo.content g.M.Memo.dropped l.initial.solver)
+      (moment_of g.M.Memo.content g.M.Memo.dropped l.solver);
   lost : LossIsCounted (g.M.Memo.dropped l.initial.solver.memo) (g.M.Memo.dropped l.solver.memo);
   says : LostNothing g.M.Memo.content g.M.Memo.dropped l.initial.solver l.solver
       → SaysLeast (g.M.Memo.content l.solver.memo) l.position (l.moves - 1);
-  first : l.slices.first ≡ l.initial.slices.first;
-  start : l.slices.start ≡ l.initial.slices.start;
 }

@@ -1,9 +1,8 @@
 use Rattle.std.proofs.Common.{◌≡◌, ℕ, ◌≤◌, ◌∙◌, subst, ap, arith}
 use Rattle.std.specs.Prelude.{IfErr, min}
 use Rattle.dw_solve.specs.Certificates.{SaysLeast}
-use Rattle.dw_study.proofs.SliceLemmas.{same_memo}
 use Rattle.dw_study.specs.inner.Looking.{lowered}
-use Rattle.dw_study.proofs.WentLemmas.{looks_between, says_between}
+use Rattle.dw_study.proofs.LookingLemmas.{looks_between, same_memo, says_between}
 use Rattle.dw_study.proofs.looking.number_within.Goals as goal
 
 pub returns-clause-known : goal.returns-clause-known
@@ -18,9 +17,8 @@ returns-clause-looks g c =
     let before = c.args.solver.now in
     let until = c.count_after-until.result in
     looks_between g.B.Board.geometry g.M.Memo.content g.M.Memo.dropped (min before.limit until)
-    (lowered c.args.bounds.each before.limit before.expanded) c.args.slices.now
-    c.number-number.new.slices before c.lower-limit.new.solver c.number-number.new.solver c.raise.new.solver
-    c.number-number.result c.lower-limit.ensures.lowered
+    (lowered c.args.bounds.each before.limit before.expanded) before c.lower-limit.new.solver c.number-number.new.solver
+    c.raise.new.solver c.number-number.result c.lower-limit.ensures.lowered
     (c.raise.ensures ∙ ap (λ z. record c.number-number.new.solver { limit = z }) c.lower-limit.ensures.was)
     (subst (λ z. min before.limit until ≡ lowered c.args.bounds.each before.limit z) c.expanded.ensures
     (c.count_after-until.ensures.limit before.limit (omega arith))) (omega arith) c.number-number.ensures.looks

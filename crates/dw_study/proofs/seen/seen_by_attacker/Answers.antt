@@ -3,7 +3,8 @@ use Rattle.dw_board.specs.Lists.{Member}
 use Rattle.dw_study.specs.inner.Checking.{IsSeen, AreChildren, AreOthers}
 use Rattle.dw_study.proofs.ChildLemmas.{none_there, some_there}
 use Rattle.dw_study.proofs.SeenLemmas.{ends_seen, attacker_seen, attacker_misses, others_of, sorted_of}
-use Rattle.dw_study.proofs.WentLemmas.{answered, went_then, went_ok, went_memory}
+use Rattle.dw_solve.specs.inner.QuestionLemmas.{answered, asked_memory, asked_ok, asked_stop}
+use Rattle.dw_study.proofs.AskedLemmas.{asked_on}
 use Rattle.dw_study.proofs.seen.seen_by_attacker.Goals.{then-not-is_empty+in_ok-push, else-not-is_empty}
 use Rattle.dw_study.proofs.seen.seen_by_attacker.Goals as goal
 
@@ -25,47 +26,59 @@ sorted-requires-clause-reached g c = λ d member.
     let all = c.in_ok-children.ensures c.requires.there.0 c.requires.there.1 in
     (all.each d (subst (Member d) c.as_slice.ensures.value member)).position
 
-pub returns-in_err-others-clause-went : goal.returns-in_err-others-clause-went
-returns-in_err-others-clause-went g c =
-    went_memory g.B.Board.geometry g.M.Memo.content g.M.Memo.dropped c.args.spot.now.left c.args.slices.now
-    c.sorted.new.slices c.args.solver.now c.sorted.new.solver c.from_residual-in_err-others.result
-    c.from_residual-in_err-others.ensures.1
-    (went_ok g.B.Board.geometry g.M.Memo.content g.M.Memo.dropped c.args.spot.now.left c.args.slices.now
-    c.sorted.new.slices c.args.solver.now c.sorted.new.solver c.in_ok-seen.seen 0 c.in_ok-seen.ensures.went)
+pub returns-in_err-others-clause-asked : goal.returns-in_err-others-clause-asked
+returns-in_err-others-clause-asked g c =
+    asked_memory g.B.Board.geometry g.M.Memo.content g.M.Memo.dropped c.args.spot.now.left c.args.solver.now
+    c.sorted.new.solver c.from_residual-in_err-others.result c.from_residual-in_err-others.ensures.1
+    (asked_ok g.B.Board.geometry g.M.Memo.content g.M.Memo.dropped c.args.spot.now.left c.args.solver.now
+    c.sorted.new.solver c.in_ok-seen.seen 0 c.in_ok-seen.ensures.asked)
 
 pub winning-requires-clause-legal : goal.winning-requires-clause-legal
 winning-requires-clause-legal g c = λ m member.
     ((c.in_ok-others.ensures.exactly m).0 (subst (Member m) c.as_slice-3.ensures.value member)).0
 
-pub returns-in_err-push-clause-went : goal.returns-in_err-push-clause-went
-returns-in_err-push-clause-went g c =
+pub returns-in_err-keys-clause-asked : goal.returns-in_err-keys-clause-asked
+returns-in_err-keys-clause-asked g c =
     let geo = g.B.Board.geometry in
     let content = g.M.Memo.content in
     let lost = g.M.Memo.dropped in
     let n = c.args.spot.now.left in
     let less : n ≤ n = omega arith in
-    went_memory geo content lost n c.args.slices.now c.winning.new.slices c.args.solver.now c.winning.new.solver
-    c.from_residual-in_err-push.result c.from_residual-in_err-push.ensures.1
-    (went_then geo content lost n n c.args.slices.now c.sorted.new.slices c.winning.new.slices c.args.solver.now
-    c.sorted.new.solver c.winning.new.solver answered less
-    (went_ok geo content lost n c.args.slices.now c.sorted.new.slices c.args.solver.now c.sorted.new.solver
-    c.in_ok-seen.seen 0 c.in_ok-seen.ensures.went)
-    (went_ok geo content lost n c.sorted.new.slices c.winning.new.slices c.sorted.new.solver c.winning.new.solver
-    c.in_ok-keys.keys 0 c.in_ok-keys.ensures.went))
+    asked_on c.searches_add_up.ensures geo content lost n n c.args.solver.now c.sorted.new.solver c.winning.new.solver
+    c.from_residual-in_err-keys.result less
+    (asked_ok geo content lost n c.args.solver.now c.sorted.new.solver c.in_ok-seen.seen 0 c.in_ok-seen.ensures.asked)
+    (asked_stop geo content lost n c.sorted.new.solver c.winning.new.solver c.in_err-keys.field-0.0
+    c.from_residual-in_err-keys.result c.from_residual-in_err-keys.ensures.1 c.in_err-keys.ensures.asked)
 
-pub returns-clause-went : goal.returns-clause-went
-returns-clause-went g c =
+pub returns-in_err-push-clause-asked : goal.returns-in_err-push-clause-asked
+returns-in_err-push-clause-asked g c =
     let geo = g.B.Board.geometry in
     let content = g.M.Memo.content in
     let lost = g.M.Memo.dropped in
     let n = c.args.spot.now.left in
     let less : n ≤ n = omega arith in
-    went_then geo content lost n n c.args.slices.now c.sorted.new.slices c.winning.new.slices c.args.solver.now
+    asked_memory geo content lost n c.args.solver.now c.winning.new.solver
+    c.from_residual-in_err-push.result c.from_residual-in_err-push.ensures.1
+    (asked_on c.searches_add_up.ensures geo content lost n n c.args.solver.now
+    c.sorted.new.solver c.winning.new.solver answered less
+    (asked_ok geo content lost n c.args.solver.now c.sorted.new.solver
+    c.in_ok-seen.seen 0 c.in_ok-seen.ensures.asked)
+    (asked_ok geo content lost n c.sorted.new.solver c.winning.new.solver
+    c.in_ok-keys.keys 0 c.in_ok-keys.ensures.asked))
+
+pub returns-clause-asked : goal.returns-clause-asked
+returns-clause-asked g c =
+    let geo = g.B.Board.geometry in
+    let content = g.M.Memo.content in
+    let lost = g.M.Memo.dropped in
+    let n = c.args.spot.now.left in
+    let less : n ≤ n = omega arith in
+    asked_on c.searches_add_up.ensures geo content lost n n c.args.solver.now
     c.sorted.new.solver c.winning.new.solver _ less
-    (went_ok geo content lost n c.args.slices.now c.sorted.new.slices c.args.solver.now c.sorted.new.solver
-    c.in_ok-seen.seen 0 c.in_ok-seen.ensures.went)
-    (went_ok geo content lost n c.sorted.new.slices c.winning.new.slices c.sorted.new.solver c.winning.new.solver
-    c.in_ok-keys.keys _ c.in_ok-keys.ensures.went)
+    (asked_ok geo content lost n c.args.solver.now c.sorted.new.solver
+    c.in_ok-seen.seen 0 c.in_ok-seen.ensures.asked)
+    (asked_ok geo content lost n c.sorted.new.solver c.winning.new.solver
+    c.in_ok-keys.keys _ c.in_ok-keys.ensures.asked)
 
 pub returns-clause-seen : goal.returns-clause-seen
 returns-clause-seen g c = λ b there.

@@ -2,7 +2,8 @@ use Rattle.std.proofs.Common.{◌+◌, ◌-◌, ◌≤◌, sym, ap, ◌∙◌, s
 use Rattle.dw_moves.specs.inner.MemberLemmas.{mem_map}
 use Rattle.dw_study.specs.inner.Checking.{FindsFirst}
 use Rattle.dw_study.proofs.SeenLemmas.{SortedTo, sorted_none, sorted_fail, sorted_key, sorted_all, item_member}
-use Rattle.dw_study.proofs.WentLemmas.{answered, went_none, went_then, went_ok, went_stop, went_memory}
+use Rattle.dw_solve.specs.inner.QuestionLemmas.{answered, asked_none, asked_ok, asked_stop, asked_memory}
+use Rattle.dw_study.proofs.AskedLemmas.{asked_on}
 use Rattle.dw_study.proofs.seen.sorted.Goals.{in-Some+in_ok-push-in-Some, in-None+in_ok-push-in-None}
 use Rattle.dw_study.proofs.seen.sorted.Goals as goal
 
@@ -11,50 +12,50 @@ children-init g c = record {
   sorted = λ tree b all. sorted_none g.B.Board.geometry c.args.spot.now.position c.args.spot.now.left tree b
       c.args.spot.now.node c.args.children.now c.new-remarks.result.items c.new-followed.result.items
       c.new-remarks.ensures.items c.new-followed.ensures.items;
-  went = went_none g.B.Board.geometry g.M.Memo.content g.M.Memo.dropped c.args.spot.now.left c.args.slices.now
+  asked = asked_none g.B.Board.geometry g.M.Memo.content g.M.Memo.dropped c.searches_add_up.ensures c.args.spot.now.left
       c.args.solver.now c.keeps_its_limit.ensures;
 }
 
-pub returns-in_err-reply-clause-went : goal.returns-in_err-reply-clause-went
-returns-in_err-reply-clause-went g c =
+pub returns-in_err-reply-clause-asked : goal.returns-in_err-reply-clause-asked
+returns-in_err-reply-clause-asked g c =
     let geo = g.B.Board.geometry in
     let content = g.M.Memo.content in
     let lost = g.M.Memo.dropped in
     let n = c.args.spot.now.left in
     let less : n - 1 ≤ n = omega arith in
-    went_then geo content lost (n - 1) n c.args.slices.now c.children.slices c.refutation.new.slices c.args.solver.now
-    c.children.solver c.refutation.new.solver c.from_residual.result less c.children.invariant.went
-    (went_stop geo content lost (n - 1) c.children.slices c.refutation.new.slices c.children.solver
+    asked_on c.searches_add_up.ensures geo content lost (n - 1) n c.args.solver.now
+    c.children.solver c.refutation.new.solver c.from_residual.result less c.children.invariant.asked
+    (asked_stop geo content lost (n - 1) c.children.solver
     c.refutation.new.solver c.in_err-reply.field-0.0 c.from_residual.result c.from_residual.ensures.1
-    c.in_err-reply.ensures.went)
+    c.in_err-reply.ensures.asked)
 
-pub returns-in_err-push-in-Some-clause-went : goal.returns-in_err-push-in-Some-clause-went
-returns-in_err-push-in-Some-clause-went g c =
+pub returns-in_err-push-in-Some-clause-asked : goal.returns-in_err-push-in-Some-clause-asked
+returns-in_err-push-in-Some-clause-asked g c =
     let geo = g.B.Board.geometry in
     let content = g.M.Memo.content in
     let lost = g.M.Memo.dropped in
     let n = c.args.spot.now.left in
     let less : n - 1 ≤ n = omega arith in
-    went_memory geo content lost n c.args.slices.now c.refutation.new.slices c.args.solver.now c.refutation.new.solver
+    asked_memory geo content lost n c.args.solver.now c.refutation.new.solver
     c.from_residual-in_err-push-in-Some.result c.from_residual-in_err-push-in-Some.ensures.1
-    (went_then geo content lost (n - 1) n c.args.slices.now c.children.slices c.refutation.new.slices c.args.solver.now
-    c.children.solver c.refutation.new.solver answered less c.children.invariant.went
-    (went_ok geo content lost (n - 1) c.children.slices c.refutation.new.slices c.children.solver
-    c.refutation.new.solver c.in_ok-reply.field-0 0 c.in_ok-reply.ensures.went))
+    (asked_on c.searches_add_up.ensures geo content lost (n - 1) n c.args.solver.now
+    c.children.solver c.refutation.new.solver answered less c.children.invariant.asked
+    (asked_ok geo content lost (n - 1) c.children.solver
+    c.refutation.new.solver c.in_ok-reply.field-0 0 c.in_ok-reply.ensures.asked))
 
-pub returns-in_err-push-in-None-clause-went : goal.returns-in_err-push-in-None-clause-went
-returns-in_err-push-in-None-clause-went g c =
+pub returns-in_err-push-in-None-clause-asked : goal.returns-in_err-push-in-None-clause-asked
+returns-in_err-push-in-None-clause-asked g c =
     let geo = g.B.Board.geometry in
     let content = g.M.Memo.content in
     let lost = g.M.Memo.dropped in
     let n = c.args.spot.now.left in
     let less : n - 1 ≤ n = omega arith in
-    went_memory geo content lost n c.args.slices.now c.refutation.new.slices c.args.solver.now c.refutation.new.solver
+    asked_memory geo content lost n c.args.solver.now c.refutation.new.solver
     c.from_residual-in_err-push-in-None.result c.from_residual-in_err-push-in-None.ensures.1
-    (went_then geo content lost (n - 1) n c.args.slices.now c.children.slices c.refutation.new.slices c.args.solver.now
-    c.children.solver c.refutation.new.solver answered less c.children.invariant.went
-    (went_ok geo content lost (n - 1) c.children.slices c.refutation.new.slices c.children.solver
-    c.refutation.new.solver c.in_ok-reply.field-0 0 c.in_ok-reply.ensures.went))
+    (asked_on c.searches_add_up.ensures geo content lost (n - 1) n c.args.solver.now
+    c.children.solver c.refutation.new.solver answered less c.children.invariant.asked
+    (asked_ok geo content lost (n - 1) c.children.solver
+    c.refutation.new.solver c.in_ok-reply.field-0 0 c.in_ok-reply.ensures.asked))
 
 pub children-preserved : goal.children-preserved
 children-preserved g c =
@@ -89,10 +90,10 @@ children-preserved g c =
             (subst (FindsFirst geo item.position (n - 1)) w.in-None.is c.in_ok-reply.ensures.found)
             (ap (λ v. v.items) w.followed-is ∙ w.in_ok-push-in-None.ensures) (c.children.invariant.sorted tree b all))
       ];
-      went = went_then geo content lost (n - 1) n c.args.slices.now c.children.slices c.refutation.new.slices
-          c.args.solver.now c.children.solver c.refutation.new.solver answered less c.children.invariant.went
-          (went_ok geo content lost (n - 1) c.children.slices c.refutation.new.slices c.children.solver
-          c.refutation.new.solver c.in_ok-reply.field-0 0 c.in_ok-reply.ensures.went);
+      asked = asked_on c.searches_add_up.ensures geo content lost (n - 1) n
+          c.args.solver.now c.children.solver c.refutation.new.solver answered less c.children.invariant.asked
+          (asked_ok geo content lost (n - 1) c.children.solver
+          c.refutation.new.solver c.in_ok-reply.field-0 0 c.in_ok-reply.ensures.asked);
     }
 
 pub returns-clause-sorted : goal.returns-clause-sorted
@@ -103,7 +104,7 @@ returns-clause-sorted g c = λ tree b all.
       followed = c.children.followed;
     }) (omega (arith, c.children-test.false)) (c.children.invariant.sorted tree b all)
 
-pub returns-clause-went : goal.returns-clause-went
-returns-clause-went g c =
-    went_ok g.B.Board.geometry g.M.Memo.content g.M.Memo.dropped c.args.spot.now.left c.args.slices.now
-    c.children.slices c.args.solver.now c.children.solver 0 _ c.children.invariant.went
+pub returns-clause-asked : goal.returns-clause-asked
+returns-clause-asked g c =
+    asked_ok g.B.Board.geometry g.M.Memo.content g.M.Memo.dropped c.args.spot.now.left c.args.solver.now
+    c.children.solver 0 _ c.children.invariant.asked

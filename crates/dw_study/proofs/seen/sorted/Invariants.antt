@@ -1,9 +1,9 @@
 use Rattle.std.proofs.Common.{List}
 use Rattle.dw_moves.specs.Moves.{Move}
 use Rattle.dw_study.specs.inner.Checking.{AreChildren}
-use Rattle.dw_study.specs.Slices.{Went}
+use Rattle.dw_solve.specs.Questions.{Asked}
 use Rattle.dw_study.proofs.SeenLemmas.{SortedTo}
-use Rattle.dw_study.proofs.WentLemmas.{answered}
+use Rattle.dw_solve.specs.inner.QuestionLemmas.{answered}
 use Rattle.dw_study.proofs.seen.sorted.Given as goal
 
 abbrev pub invariant-children : goal.invariant-children
@@ -12,6 +12,6 @@ invariant-children g l = record {
       → AreChildren g.B.Board.geometry l.spot.position tree b l.children
       → SortedTo g.B.Board.geometry l.spot.position l.spot.left tree b l.spot.node l.children l.child-index
       l.remarks.items l.followed.items;
-  went : Went g.B.Board.geometry g.M.Memo.content g.M.Memo.dropped l.spot.left l.initial.slices l.slices
+  asked : Asked g.B.Board.geometry g.M.Memo.content g.M.Memo.dropped l.spot.left
       l.initial.solver l.solver answered;
 }

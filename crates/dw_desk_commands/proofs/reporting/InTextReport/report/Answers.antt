@@ -18,7 +18,9 @@ returns-clause-text g c =
     let front = heading g.B.Board.geometry (g.C.MakesText.is_headed c.args.self.now.command.now)
     (problem_of (numbered_game c.args.game.now)) in (
       front ++ c.in_ok-text.text.items,
-      c.in_ok-text.ensures.text,
+      subst (λ s. g.C.MakesText.says c.args.self.now.command.now (s.expanded - c.args.desk.now.solver.expanded)
+          (numbered_game c.args.game.now) c.in_ok-text.answer (front ++ c.in_ok-text.text.items))
+          (sym c.make_way.ensures) c.in_ok-text.ensures.text,
       Appends-trans (taken c.args.sink.now) (taken c.write_heading.new.sink) (taken c.write_all.new.sink) front
           c.in_ok-text.text.items
           (subst (λ b. Appends (taken c.args.sink.now) (taken c.write_heading.new.sink) (heading g.B.Board.geometry b

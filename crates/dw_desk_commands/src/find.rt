@@ -1,0 +1,158 @@
+//! The command `find`: the verdict on each problem, at the least number of moves within which it is won or at a given
+//! number.
+ghost use Rattle.std.specs.Prelude.{◌≡◌, ◌≤◌, ◌-◌, ◌++◌, ⊤, not, true, IfOk, IsErrOf};
+ghost use Rattle.std.specs.String.{string_bytes};
+ghost use Rattle.dw_desk_commands.specs.Find.{HasSolution, IsFindOf, IsFound, IsJsonOf, SaysFound, is_open};
+ghost use Rattle.dw_desk_commands.specs.ProblemText.{IsProblemText};
+ghost use Rattle.dw_desk_commands.specs.inner.Searching.{IsBounded};
+ghost use Rattle.dw_games.specs.Games.{problem_of};
+ghost use Rattle.dw_notation.specs.Problems.{numbered};
+ghost use Rattle.dw_report.specs.Report.{first_line};
+ghost use Rattle.dw_solve.specs.declared.stop.Stop.TheVariants.{Limit};
+ghost use Rattle.dw_study.specs.Telling.{told_by};
+
+use crate::desk::Desk;
+use crate::json_rows::found_line;
+use crate::reporting::MakesText;
+use crate::solution::lines_within;
+use dw_arguments::{FindArgs, USUAL_LINES};
+use dw_board::{Board, Position};
+use dw_games::Game;
+use dw_notation::Problem;
+use dw_report::{Stop, refused_line};
+use dw_solution::FirstLines;
+use dw_solve::Watcher;
+use dw_study::find::find;
+use dw_study::{FindBounds, Finding, found_text};
+
+impl<B: Board> MakesText<B, bool> for FindArgs {
+    ghost says = { λ query expanded game. IsFindOf B.geometry query expanded (problem_of game) };
+
+    ghost is_headed = { λ query. not query.json };
+
+    ghost may_answer = { λ refused. ⊤ };
+
+    ghost counts_on = { ⊤ };
+
+    fn has_heading(&self) -> bool {
+        !self.json
+    }
+
+    fn text_of<W: Watcher>(
+        &self,
+        desk: &mut Desk<B, W>,
+        game: &Game<B>,
+    ) -> Result<(Vec<u8>, bool), Stop> {
+        if self.json {
+            let (row, is_refused) = json_of(desk, self, &game.problem)?;
+            Ok((row.into_bytes(), is_refused))
+        } else {
+            let (words, is_refused) = words_of(desk, self, &game.problem)?;
+            Ok((words.into_bytes(), is_refused))
+        }
+    }
+}
+
+/// Makes the text after the first line of one problem, and returns whether it was refused or stayed undecided.
+fn words_of<B: Board, W: Watcher>(
+    desk: &mut Desk<B, W>,
+    query: &FindArgs,
+    problem: &Problem<B>,
+) -> Result<(String, bool), Stop>
+    ensures text { IfOk result (λ told. IsProblemText B.geometry (SaysFound B.geometry query.now
+        (desk.new.solver.expanded - desk.old.solver.expanded)) (numbered problem.now) told.1
+        (first_line B.geometry (numbered problem.now) ++ string_bytes told.0)) }
+    ensures counts { desk.old.solver.expanded ≤ desk.new.solver.expanded }
+    ensures stop { IsErrOf result Limit → desk.new.solver.expanded ≡ u64.MAX }
+{
+    let Ok(position) = &problem.found else {
+        return Ok((String::new(desk.alloc), true));
+    };
+    let finding = search(desk, query, problem.number, position)?;
+    let text = found_text(desk.alloc, position, &finding)?;
+    Ok((text, is_undecided(&finding)))
+}
+
+/// Makes the line of JSON of one problem, and returns whether it was refused or stayed undecided.
+fn json_of<B: Board, W: Watcher>(
+    desk: &mut Desk<B, W>,
+    query: &FindArgs,
+    problem: &Problem<B>,
+) -> Result<(String, bool), Stop>
+    ensures row { IfOk result (λ told. IsJsonOf B.geometry query.now
+        (desk.new.solver.expanded - desk.old.solver.expanded) problem.now.number problem.now.found told.1
+        (string_bytes told.0)) }
+    ensures counts { desk.old.solver.expanded ≤ desk.new.solver.expanded }
+    ensures stop { IsErrOf result Limit → desk.new.solver.expanded ≡ u64.MAX }
+{
+    let number = problem.number;
+    match &problem.found {
+        Ok(position) => {
+            let finding = search(desk, query, number, position)?;
+            let solution = solution_lines(desk, query, position, &finding)?;
+            let line = found_line(desk.alloc, number, position, &finding, &solution)?;
+            Ok((line, is_undecided(&finding)))
+        }
+        Err(fault) => Ok((refused_line(desk.alloc, number, *fault)?, true)),
+    }
+}
+
+/// Lists the first lines of the solution, if they are asked for and the position is judged. The memo has what the
+/// search for the verdict found.
+fn solution_lines<B: Board, W: Watcher>(
+    desk: &mut Desk<B, W>,
+    query: &FindArgs,
+    position: &Position<B>,
+    finding: &Finding<B>,
+) -> Result<Option<FirstLines<B>>, Stop>
+    ensures solution { IfOk result (HasSolution B.geometry query.now position.now (told_by finding.now)) }
+    ensures same { is_open (told_by finding.now) ≡ true → desk.new.solver.expanded ≡ desk.old.solver.expanded }
+    ensures counts { desk.old.solver.expanded ≤ desk.new.solver.expanded }
+    ensures stop { IsErrOf result Limit → desk.new.solver.expanded ≡ u64.MAX }
+{
+    if !query.solution {
+        return Ok(None);
+    }
+    match finding {
+        Finding::Judged { moves, .. } => {
+            let first = lines_within(desk, position, *moves, USUAL_LINES)?;
+            Ok(Some(first))
+        }
+        Finding::Undecided { .. } => Ok(None),
+    }
+}
+
+/// Returns whether it stays open whether there is a win.
+fn is_undecided<B: Board>(finding: &Finding<B>) -> bool
+    ensures { result ≡ is_open (told_by finding.now) }
+{
+    matches!(finding, Finding::Undecided { .. })
+}
+
+/// Finds the verdict on a position. If the number of positions is bounded, the memo is empty first, so that nothing
+/// depends on the problems before.
+fn search<B: Board, W: Watcher>(
+    desk: &mut Desk<B, W>,
+    query: &FindArgs,
+    number: u32,
+    position: &Position<B>,
+) -> Result<Finding<B>, Stop>
+    ensures found { IfOk result (λ finding. IsFound B.geometry query.now
+        (desk.new.solver.expanded - desk.old.solver.expanded) position.now (told_by finding)) }
+    ensures bounded { IfOk result (IsBounded B.geometry position.now query.now.moves.value query.now.each
+        desk.old.solver.expanded desk.new.solver) }
+    ensures counts { desk.old.solver.expanded ≤ desk.new.solver.expanded }
+    ensures stop { IsErrOf result Limit → desk.new.solver.expanded ≡ u64.MAX }
+{
+    if query.each.is_some() {
+        desk.solver.clear_memo();
+    }
+    let bounds = FindBounds {
+        moves: query.moves,
+        is_least: query.is_least,
+        each: query.each,
+    };
+    desk.begin(number);
+    let finding = find(desk.alloc, &mut desk.solver, position, bounds)?;
+    Ok(finding)
+}
