@@ -30,7 +30,7 @@ WORKER = """(async () => {
     const text = (id) => document.getElementById(id).textContent;
     const packed = Uint8Array.from(atob(text('module')), (letter) => letter.charCodeAt(0));
     const stream = new Blob([packed]).stream().pipeThrough(new DecompressionStream('deflate'));
-    const module = await new Response(stream).arrayBuffer();
+    const module = await WebAssembly.compile(await new Response(stream).arrayBuffer());
     const worker = new Worker(URL.createObjectURL(new Blob([text('worker')], { type: 'text/javascript' })));
     worker.postMessage({ module });
     const ask = (words, input) => new Promise((resolve) => {
