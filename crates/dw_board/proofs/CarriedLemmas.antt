@@ -1,22 +1,25 @@
 -- A position stays one where a piece is carried to another square.
-use Rattle.std.proofs.Common.{◌≡◌, ◌∙◌, ℕ, ◌+◌, ◌-◌, ◌≤◌, ◌<◌, ◌≢◌, true, false, cond, List, Option, Some, None, length}
+use Rattle.std.proofs.Common.{◌≡◌, ◌∙◌, ℕ, ◌+◌, ◌-◌, ◌≤◌, ◌<◌, ◌≢◌, Bool, true, false, cond, not, ◌&&◌, ◌||◌, leb}
+use Rattle.std.proofs.Common.{List, Option, Some, None, length}
 use Rattle.std.proofs.Common.{get_or, set as put_at, count_by, refl, sym, ap, subst, arith, get_or-set_other}
 use Rattle.std.proofs.Common.{get_or-set_same, length-set, inl, inr}
 use Rattle.std.specs.FinSet as set
-use Rattle.std.proofs.lemmas.Bool.{cases_Bool, cases_eq, eq-eqb, or_left}
+use Rattle.std.proofs.lemmas.Bool.{cases_Bool, cases_eq, eq-eqb, or_left, and_from, le-leb}
 use Rattle.std.proofs.lemmas.List.{ext_get_or, set-set}
 use Rattle.std.proofs.lemmas.List.Sums.{sum_by-set}
 use Rattle.std.proofs.lemmas.List.FromFn.{length-map-range_with_len, get_or-map-range_with_len}
 use Rattle.dw_board.specs.declared.piece.Side.{Side}
 use Rattle.dw_board.specs.declared.piece.Side.TheVariants.{White, Black}
 use Rattle.dw_board.specs.declared.piece.Kind.{Kind}
+use Rattle.dw_board.specs.declared.piece.Kind.TheVariants.{Man, King}
 use Rattle.dw_board.specs.declared.piece.Piece.{Piece}
 use Rattle.dw_board.specs.Geometry.{Geometry, IsBoard, OnBoard, Squares}
 use Rattle.dw_board.specs.inner.SquareSetLemmas.{contains-insert, and-false}
 use Rattle.dw_board.specs.Placement.{Placement, is_of, is_man, is_stuck, same_side, on_last_row, at, left, placed}
 use Rattle.dw_board.specs.Placement.{without, crowned, landed, carried}
-use Rattle.dw_board.specs.PieceSets.{IsKept}
-use Rattle.dw_board.specs.inner.Held.{entered}
+use Rattle.dw_board.specs.PieceSets.{IsKept, is_that, same_kind}
+use Rattle.dw_board.specs.inner.Held.{arrives, entered}
+use Rattle.dw_board.specs.inner.PieceSetLemmas.{contains-standing}
 use Rattle.dw_board.proofs.ClearedLemmas.{few_left, kept-without}
 use Rattle.dw_board.proofs.PieceSetLemmas.{count-fits, kept-entered, kept-left}
 
@@ -83,7 +86,7 @@ origin_goes : (taken : Squares) (from : ℕ) → set.contains (set.insert taken 
 origin_goes taken from = contains-insert taken from from ∙ or_left _ _ (eq-eqb from from refl)
 
 -- ---- the sets
-pub kept-carried : (g : Geometry) → IsBoard g → (p : Placement) (sets low now : Side → Kind
+kept-carried : (g : Geometry) → IsBoard g → (p : Placement) (sets low now : Side → Kind
     → Squares) (from to : ℕ) (taken : Squares) (piece : Piece)
     → IsKept g p.cells sets → OnBoard g from → OnBoard g to → at p from ≡ Some piece
     → ((side : Side) (k : Kind) → low side k ≡ set.remove (set.difference (sets side k) (set.insert taken from)) to)
@@ -111,7 +114,7 @@ kept-carried g b p sets low now from to taken piece is from_on to_on there goes 
     subst (λ cells. IsKept g cells now) same kept
 
 -- nothing stood there
-pub kept-none : (g : Geometry) → IsBoard g → (p : Placement) (sets low : Side → Kind
+kept-none : (g : Geometry) → IsBoard g → (p : Placement) (sets low : Side → Kind
     → Squares) (from to : ℕ) (taken : Squares)
     → IsKept g p.cells sets → OnBoard g to → at p from ≡ None
     → ((side : Side) (k : Kind) → low side k ≡ set.remove (set.difference (sets side k) (set.insert taken from)) to)
@@ -122,3 +125,69 @@ kept-none g b p sets low from to taken is to_on there goes =
     let mid : Side → Kind → Squares = λ side k. set.difference (sets side k) emptied in
     let kept = kept-left g b bare mid low to (kept-without g p sets mid emptied is (λ side k. refl)) to_on goes in
     subst (λ cells. IsKept g cells low) (ap (λ o. put_at bare (to - 1) (landed g to o)) (sym there)) kept
+
+-- ---- what the sets have tells which piece comes
+man_comes : (s side : Side) (k : Kind) (last : Side → Bool) → ((same_side s side && same_kind k Man) && not (last side))
+    ≡ (same_side s side && same_kind (cond (last s) King k) Man)
+man_comes White White Man last = elim (last White) as (λ b. not b ≡ same_kind (cond b King Man) Man)
+    [ true ↦ refl | false ↦ refl ]
+man_comes White White King last = elim (last White) as (λ b. false ≡ same_kind (cond b King King) Man)
+    [ true ↦ refl | false ↦ refl ]
+man_comes White Black k last = refl
+man_comes Black White k last = refl
+man_comes Black Black Man last = elim (last Black) as (λ b. not b ≡ same_kind (cond b King Man) Man)
+    [ true ↦ refl | false ↦ refl ]
+man_comes Black Black King last = elim (last Black) as (λ b. false ≡ same_kind (cond b King King) Man)
+    [ true ↦ refl | false ↦ refl ]
+
+king_comes : (s side : Side) (k : Kind) (last : Side → Bool)
+    → ((same_side s side && same_kind k King) || ((same_side s side && same_kind k Man) && last side))
+    ≡ (same_side s side && same_kind (cond (last s) King k) King)
+king_comes White White Man last = elim (last White) as (λ b. b ≡ same_kind (cond b King Man) King)
+    [ true ↦ refl | false ↦ refl ]
+king_comes White White King last = elim (last White) as (λ b. true ≡ same_kind (cond b King King) King)
+    [ true ↦ refl | false ↦ refl ]
+king_comes White Black k last = refl
+king_comes Black White k last = refl
+king_comes Black Black Man last = elim (last Black) as (λ b. b ≡ same_kind (cond b King Man) King)
+    [ true ↦ refl | false ↦ refl ]
+king_comes Black Black King last = elim (last Black) as (λ b. true ≡ same_kind (cond b King King) King)
+    [ true ↦ refl | false ↦ refl ]
+
+arrives-is : (g : Geometry) (sets : Side → Kind → Squares) (from to : ℕ) (o : Option Piece)
+    → ((side : Side) (k : Kind) → set.contains (sets side k) from ≡ is_that side k o)
+    → (side : Side) (k : Kind) → arrives g sets from to side k ≡ is_that side k (landed g to o)
+arrives-is g sets from to None has side Man = rw (has side Man) refl
+arrives-is g sets from to None has side King = rw (has side Man, has side King) refl
+arrives-is g sets from to (Some piece) has side Man =
+    rw (has side Man) (man_comes piece.side side piece.kind (λ s. on_last_row g s to))
+arrives-is g sets from to (Some piece) has side King =
+    rw (has side Man, has side King) (king_comes piece.side side piece.kind (λ s. on_last_row g s to))
+
+has_piece : (g : Geometry) → IsBoard g → (p : Placement) (sets : Side → Kind → Squares) (from : ℕ)
+    → IsKept g p.cells sets → OnBoard g from
+    → (side : Side) (k : Kind) → set.contains (sets side k) from ≡ is_that side k (at p from)
+has_piece g b p sets from is on side k =
+    let few = b.squares_high in
+    let fits : (leb 1 from && leb from 50) ≡ true = and_from _ _ (le-leb _ _ on.0) (le-leb _ _ (omega (arith, on.1))) in
+    ap (λ v. set.contains v from) (sym (is.standing_is side k)) ∙ (contains-standing p.cells side k from
+    ∙ ap (λ z. z && is_that side k (at p from)) fits)
+
+-- the sets after a piece was carried
+pub kept-moved : (g : Geometry) → IsBoard g → (p : Placement) (sets low now : Side → Kind
+    → Squares) (from to : ℕ) (taken : Squares)
+    → IsKept g p.cells sets → OnBoard g from → OnBoard g to
+    → ((side : Side) (k : Kind) → low side k ≡ set.remove (set.difference (sets side k) (set.insert taken from)) to)
+    → ((side : Side) (k : Kind) → now side k
+    ≡ cond (arrives g sets from to side k) (set.insert (low side k) to) (low side k))
+    → IsKept g (carried g p from to taken).cells now
+kept-moved g b p sets low now from to taken is from_on to_on goes comes = by_piece (at p from) refl where
+  arrived : (o : Option Piece) → at p from ≡ o → (side : Side) (k : Kind)
+      → now side k ≡ cond (is_that side k (landed g to o)) (set.insert (low side k) to) (low side k)
+  arrived o e side k = comes side k ∙ ap (λ z. cond z (set.insert (low side k) to) (low side k))
+      (arrives-is g sets from to o (λ s j. has_piece g b p sets from is from_on s j ∙ ap (is_that s j) e) side k)
+
+  by_piece : (o : Option Piece) → at p from ≡ o → IsKept g (carried g p from to taken).cells now
+  by_piece None e = kept-none g b p sets now from to taken is to_on e (λ side k. arrived None e side k ∙ goes side k)
+  by_piece (Some piece) e = kept-carried g b p sets low now from to taken piece is from_on to_on e goes
+      (arrived (Some piece) e)

@@ -57,9 +57,6 @@ set_squares-Sets g piece place from (suc n) p q e =
     let h = set_ok (put_fault g p from piece) place _ q e in
     (h.0, set_squares-Sets g piece place (from + 1) n (placed p from (Some piece)) q h.1)
 
-pub item_placing : Item → ℕ → Placing
-item_placing item to = record { is_king = item.is_king; from = item.from; to = to }
-
 -- an item's squares are set
 pub item_sets : (g : Geometry) (list : Listing) (item : Item) (to : ℕ) (all : Listing) → with_item g list item to
     ≡ Ok all

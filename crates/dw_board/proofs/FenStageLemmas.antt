@@ -23,11 +23,6 @@ use Rattle.dw_board.specs.declared.fen.fault.FenFaultKind.{FenFaultKind}
 use Rattle.dw_board.specs.declared.fen.fault.FenFaultKind.TheVariants.{Turn, Colon, Colour, Number, SameColour, Rest}
 use Rattle.dw_board.specs.declared.fen.fault.FenFaultKind.TheVariants.{RangeBackwards}
 
->>=-assoc : {A B C : Type 0} (r : Result A FenFault) (f : A → Result B FenFault) (k : B → Result C FenFault)
-    → ((r >>= f) >>= k) ≡ (r >>= λ x. f x >>= k)
->>=-assoc (Ok x) f k = refl
->>=-assoc (Err e) f k = refl
-
 -- ---- what the tokens say from a stage on, by the first token
 module _ (g : Geometry) (end : ℕ) where
   pub turn_read : (ts : List Token) (side : Side) → first_named side_named ts ≡ Some side → read_from g end Start ts

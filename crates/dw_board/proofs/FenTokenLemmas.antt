@@ -1,6 +1,6 @@
 -- Lemmas on the tokens of a text.
 use Rattle.std.proofs.Common.{◌≡◌, ℕ, suc, zero, ◌+◌, ◌≤◌, Bool, true, false, ◌&&◌, ◌||◌, cond, eqb, List, [], ◌∷◌}
-use Rattle.std.proofs.Common.{◌++◌, length, take, drop, get_or, Some, None, refl, sym, ap, ◌∙◌, arith, inl, inr}
+use Rattle.std.proofs.Common.{◌++◌, length, take, drop, Some, None, refl, sym, ap, ◌∙◌, arith, inl, inr}
 use Rattle.std.proofs.Common.{slice_get}
 use Rattle.std.specs.Option.{option_eq}
 use Rattle.std.proofs.lemmas.Bool.{cases_Bool, and_parts, eqb-true, eq-eqb, ne_eqb, cases_eq, leb-true}
@@ -25,10 +25,6 @@ tokens_from-sign place byte bytes h k = rw (h, k) refl
 
 pub digit-not_blank : (byte : ℕ) → is_digit byte ≡ true → is_blank byte ≡ false
 digit-not_blank byte h = grind (arith, nat_tests)
-
--- the byte of a digit is 48 to 57
-pub digit_byte : (byte : ℕ) → is_digit byte ≡ true → (48 ≤ byte) × (byte ≤ 57)
-digit_byte byte h = let parts = and_parts _ _ h in (leb-true _ _ parts.0, leb-true _ _ parts.1)
 
 with_byte-joined : (byte place : ℕ) (joins : Bool) (tokens : List Token) → is_blank byte ≡ false → is_digit byte ≡ true
     → joins ≡ true
@@ -117,14 +113,6 @@ first_is-sign sign place (byte ∷ bytes) blank digit h = elim (cases_Bool (eqb 
       let b = tokens_from-begins place byte bytes h in
       ap (first_is (is_sign sign)) b.is ∙ (is_sign-other sign byte b.more other ∙ sym other)
 ]
-
-pub begins_with_sign-cons : (sign byte : ℕ) (bytes : List ℕ) → begins_with_sign sign (byte ∷ bytes) ≡ eqb byte sign
-unfolding begins_with_sign
-begins_with_sign-cons sign byte bytes = refl
-
-pub begins_with_sign-nil : (sign : ℕ) → begins_with_sign sign [] ≡ false
-unfolding begins_with_sign
-begins_with_sign-nil sign = refl
 
 -- ---- tests of the first token
 pub first_is_king : (tokens : List Token) → first_is is_king_letter tokens

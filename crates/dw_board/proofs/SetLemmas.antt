@@ -39,9 +39,6 @@ pub bit-injective : (g : Geometry) → IsBoard g → (s t : ℕ) → OnBoard g s
 bit-injective g b s t on to e = let p = square_at-bit g b s on in let q = square_at-bit g b t to in
     some_injective (sym p ∙ (ap (square_at g) e ∙ q))
 
-abbrev pub Off : Geometry → ℕ → Type 0
-Off g q = OnBoard g q → ⊥
-
 pub is_square-on : (g : Geometry) (q : ℕ) → is_square g q ≡ true → OnBoard g q
 is_square-on g q e = let p = and_parts _ _ e in (leb-true _ _ p.0, leb-true _ _ p.1)
 

@@ -9,7 +9,7 @@ use Rattle.dw_board.specs.declared.piece.Kind.TheVariants.{Man, King}
 use Rattle.dw_board.specs.declared.piece.Piece.{Piece}
 use Rattle.dw_board.specs.declared.held.Held.{Held}
 use Rattle.dw_board.specs.Geometry.{Geometry, Squares}
-use Rattle.dw_board.specs.Placement.{Placement, IsPosition, same_side}
+use Rattle.dw_board.specs.Placement.{IsPosition, same_side}
 
 -- whether two kinds are the same
 abbrev pub same_kind : Kind → Kind → Bool

@@ -1,16 +1,16 @@
 //! The squares of each side's men and of its kings.
-ghost use Rattle.std.specs.Prelude.{◌≡◌, ⊤};
+ghost use Rattle.std.specs.Prelude.{◌≡◌, cond, ⊤};
 ghost use Rattle.dw_board.specs.inner.PieceSetLemmas.{same_sets};
 ghost use Rattle.std.specs.FinSet as set;
 ghost use Rattle.dw_board.specs.PieceSets.{set_of, held_at};
-ghost use Rattle.dw_board.specs.inner.Held.{entered};
+ghost use Rattle.dw_board.specs.inner.Held.{arrives, entered};
 ghost use Rattle.dw_board.specs.Packing.{parted};
 ghost use Rattle.dw_board.specs.declared.piece.Side.TheVariants.{White, Black};
 ghost use Rattle.dw_board.specs.declared.piece.Kind.TheVariants.{Man, King};
 
 use crate::board::Board;
 use crate::piece::{Kind, Piece, Side};
-use crate::square::Square;
+use crate::square::{Square, on_last_row};
 use crate::squares::Squares;
 use std::alloc::AllocError;
 
@@ -125,6 +125,27 @@ impl<B: Board> Held<B> {
             (Side::Black, Kind::King) => held.black_kings = held.black_kings.with(square),
         }
         held
+    }
+
+    /// Adds the square `to` to the set of the piece on `from` before, if there is one; a man on its last row is a king.
+    /// Each set is asked whether it has `from`: to find out which one has it would take longer.
+    #[inline]
+    pub(crate) fn with_arrival(self, before: &Self, from: Square<B>, to: Square<B>) -> Self
+        ensures { (side : Side) (kind : Kind) → set_of result side kind ≡ cond (arrives B.geometry (set_of before.now)
+            from to side kind) (set.insert (set_of self side kind) to) (set_of self side kind) }
+    {
+        let white_crowned = on_last_row(to, Side::White);
+        let black_crowned = on_last_row(to, Side::Black);
+        let white_man = before.white_men.has(from);
+        let black_man = before.black_men.has(from);
+        let white_king = before.white_kings.has(from) || (white_man && white_crowned);
+        let black_king = before.black_kings.has(from) || (black_man && black_crowned);
+        Held {
+            white_men: self.white_men.with_if(to, white_man && !white_crowned),
+            white_kings: self.white_kings.with_if(to, white_king),
+            black_men: self.black_men.with_if(to, black_man && !black_crowned),
+            black_kings: self.black_kings.with_if(to, black_king),
+        }
     }
 
     /// Returns the sets without the square. It is removed from all four, without a test which one has it.

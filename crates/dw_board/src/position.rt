@@ -21,7 +21,7 @@ use crate::board::Board;
 use crate::held::Held;
 use crate::packed::Packed;
 use crate::piece::{Kind, Piece, PutFault, Side};
-use crate::square::Square;
+use crate::square::{Square, on_last_row};
 use crate::squares::Squares;
 use std::cmp::Ordering;
 use std::hash::{Hash, Hasher};
@@ -133,12 +133,8 @@ impl<B: Board> Position<B> {
         from.keeps_to_its_board();
         to.keeps_to_its_board();
         let left = self.held.minus(taken.with(from)).without(to);
-        let held = match self.held.at(from) {
-            Some(piece) => left.with(to, crowned(to, piece)),
-            None => left,
-        };
         Position {
-            held,
+            held: left.with_arrival(&self.held, from, to),
             turn: self.turn,
         }
     }
@@ -264,32 +260,6 @@ fn is_stuck<B: Board>(square: Square<B>, piece: Piece) -> bool
     ensures { result ≡ of.is_stuck B.geometry square (Some piece) }
 {
     matches!(piece.kind, Kind::Man) && on_last_row(square, piece.side)
-}
-
-#[inline]
-fn on_last_row<B: Board>(square: Square<B>, side: Side) -> bool
-    ensures { result ≡ of.on_last_row B.geometry side square }
-{
-    match side {
-        Side::White => square <= Square::behind(B::PER_ROW - 1),
-        Side::Black => Square::behind(B::ROWS * B::PER_ROW - B::PER_ROW) <= square,
-    }
-}
-
-/// Returns the piece after a move that ends on this square: a man on its last row becomes a king.
-#[inline]
-fn crowned<B: Board>(to: Square<B>, piece: Piece) -> Piece
-    ensures { result ≡ of.crowned B.geometry to piece }
-{
-    let kind = if on_last_row(to, piece.side) {
-        Kind::King
-    } else {
-        piece.kind
-    };
-    Piece {
-        side: piece.side,
-        kind,
-    }
 }
 
 /// Returns the number of a square's content, from 0 to 4.

@@ -1,5 +1,5 @@
 //! Sets of squares, as padded words.
-ghost use Rattle.std.specs.Prelude.{◌≡◌, ◌≤◌, ◌<◌, ◌↔◌, ℕ, Some, IsTrue, IsNone, IfSome};
+ghost use Rattle.std.specs.Prelude.{◌≡◌, ◌≤◌, ◌<◌, ◌↔◌, ℕ, Some, IsTrue, IsNone, IfSome, cond};
 ghost use Rattle.std.specs.FinSet as set;
 ghost use Rattle.dw_board.specs.Geometry as Geo;
 ghost use Rattle.dw_board.specs.Slides.{SlidesTo};
@@ -95,6 +95,14 @@ impl<B: Board> Squares<B> {
             word: self.word | (1 << square.place()),
             board: PhantomData,
         }
+    }
+
+    /// Returns this set, and the square if it is to be added.
+    #[inline]
+    pub(crate) fn with_if(self, square: Square<B>, is_added: bool) -> Self
+        ensures { result ≡ cond is_added (set.insert self square) self }
+    {
+        if is_added { self.with(square) } else { self }
     }
 
     /// Returns the squares in either set.

@@ -15,7 +15,7 @@ use dw_commands::Ending;
 use dw_desk_commands::run_on;
 use dw_notation::{Reading, Writing};
 use dw_shell::{arguments, end_refused, end_with};
-use dw_solve::Watcher;
+use dw_solve::{ByTrial, Watched, Watcher};
 use progress::Progress;
 use std::alloc::Global;
 use std::fs::File;
@@ -99,7 +99,11 @@ fn run_between<'a, B: Board, P: Watcher + Drop, R: Read, W: Write>(
 {
     let mut source = Reading::new(reader);
     let mut sink = Writing::new(writer);
-    let ending = run_on::<B, _, _, _>(alloc, watcher, args, &mut source, &mut sink);
+    let guide = Watched {
+        guide: ByTrial,
+        watcher,
+    };
+    let ending = run_on::<B, _, _, _>(alloc, guide, args, &mut source, &mut sink);
     sink.holds_what_it_accepted();
     Ended {
         source,

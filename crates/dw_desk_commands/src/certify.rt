@@ -12,7 +12,7 @@ use dw_certificate::{CertificateFault, certificate_text, certify};
 use dw_commands::{Ending, memo_of};
 use dw_games::Game;
 use dw_report::{RunFault, Stop};
-use dw_solve::Watcher;
+use dw_solve::Guide;
 use dw_stipulation::MoveCount;
 use std::alloc::Global;
 
@@ -31,9 +31,9 @@ impl<B: Board, E> MakesText<B, Ending<E>> for CertifyArgs {
 
     /// Makes the certificate of whether a problem is won within `n` moves, and returns how the program ends. A refused
     /// problem has only its first line.
-    fn text_of<W: Watcher>(
+    fn text_of<G: Guide<B>>(
         &self,
-        desk: &mut Desk<B, W>,
+        desk: &mut Desk<B, G>,
         game: &Game<B>,
     ) -> Result<(Vec<u8>, Ending<E>), Stop> {
         let problem = &game.problem;
@@ -64,8 +64,8 @@ impl<B: Board, E> MakesText<B, Ending<E>> for CertifyArgs {
 
 /// Makes the text of the certificate of a position out of the memo of the desk. The desk then has a memo that keeps
 /// nothing.
-fn text_of<B: Board, W: Watcher>(
-    desk: &mut Desk<B, W>,
+fn text_of<B: Board, G: Guide<B>>(
+    desk: &mut Desk<B, G>,
     position: &Position<B>,
     n: MoveCount,
 ) -> Result<Vec<u8>, CertificateFault>

@@ -27,7 +27,7 @@ use dw_games::{Game, MovetextFault, MovetextFaultKind, Tree, read_movetext};
 use dw_notation::Problem;
 use dw_report::{Stop, problem_line};
 use dw_rows::{CheckNumbers, checked_row, refused_solution_row};
-use dw_solve::Watcher;
+use dw_solve::Guide;
 use dw_stipulation::MoveCount;
 use dw_study::check::check;
 use dw_study::{Checked, Remark, remark_text, turns_of};
@@ -48,9 +48,9 @@ impl<B: Board> MakesText<B, bool> for CheckArgs {
     }
 
     /// Makes the text of one game, and returns whether it or its solution is refused, or the solution does not hold.
-    fn text_of<W: Watcher>(
+    fn text_of<G: Guide<B>>(
         &self,
-        desk: &mut Desk<B, W>,
+        desk: &mut Desk<B, G>,
         game: &Game<B>,
     ) -> Result<(Vec<u8>, bool), Stop> {
         let problem = &game.problem;
@@ -129,8 +129,8 @@ fn moves_for<B: Board>(query: Option<MoveCount>, tree: &Tree<B>) -> MoveCount
 }
 
 /// Compares a solution with all wins.
-fn checked<B: Board, W: Watcher>(
-    desk: &mut Desk<B, W>,
+fn checked<B: Board, G: Guide<B>>(
+    desk: &mut Desk<B, G>,
     number: u32,
     tree: &Tree<B>,
     n: MoveCount,

@@ -21,7 +21,7 @@ use dw_games::GameFault;
 use dw_mend::MendFault;
 use dw_notation::{Form, ReadFault, Sink, Source, WriteFault};
 use dw_report::{RunFault, Stop};
-use dw_solve::{ByTrial, Solver, Watched, Watcher};
+use dw_solve::{Guide, Solver};
 use std::alloc::{AllocError, Global};
 
 /// The number of reported problems, and the number of those that count as refused: they or their solutions were
@@ -138,23 +138,19 @@ impl From<WriteFault> for DeskFault {
 
 /// The solver for all problems, which has no limit.
 #[derive(Drop)]
-pub(crate) struct Desk<B: Board, W: Watcher> {
+pub(crate) struct Desk<B: Board, G: Guide<B>> {
     pub(crate) alloc: Global,
-    pub(crate) solver: Solver<B, LeakedMemo<B>, Watched<ByTrial, W>>,
+    pub(crate) solver: Solver<B, LeakedMemo<B>, G>,
     ghost unbounded: { solver.limit ≡ 18446744073709551615 },
 }
 
-impl<B: Board, W: Watcher> Desk<B, W> {
+impl<B: Board, G: Guide<B>> Desk<B, G> {
     /// Makes a desk over an empty memo.
-    fn new(alloc: Global, args: &DeskArgs<'_>, watcher: W) -> Result<Self, AllocError>
+    fn new(alloc: Global, args: &DeskArgs<'_>, guide: G) -> Result<Self, AllocError>
     where
-        W: Drop,
+        G: Drop,
     {
         let memo = memo_of(alloc, args.memo, args.cache)?;
-        let guide = Watched {
-            guide: ByTrial,
-            watcher,
-        };
         let solver = Solver::new(memo, guide, u64::MAX);
         Ok(Desk { alloc, solver })
     }
@@ -168,14 +164,14 @@ impl<B: Board, W: Watcher> Desk<B, W> {
     }
 }
 
-/// Runs a command on the problems of a source, and returns how the program ends. The watcher learns how far the
-/// searches are. The board must have 10 or 8 rows, and neither the source nor the sink may have failed before. It fails
-/// if memory is refused, if a stream fails, or if 2^64 - 1 positions are expanded. Then a beginning of the output was
-/// written: whole texts of the problems before, and of the next one's text nothing, or whole lines. After a failed
-/// write it may end at any byte.
-pub fn run_on<'a, B: Board, W: Watcher + Drop, S: Source, K: Sink>(
+/// Runs a command on the problems of a source, and returns how the program ends. The guide orders the moves of the
+/// searches, and learns how far they are. The board must have 10 or 8 rows, and neither the source nor the sink may have
+/// failed before. It fails if memory is refused, if a stream fails, or if 2^64 - 1 positions are expanded. Then a
+/// beginning of the output was written: whole texts of the problems before, and of the next one's text nothing, or
+/// whole lines. After a failed write it may end at any byte.
+pub fn run_on<'a, B: Board, G: Guide<B> + Drop, S: Source, K: Sink>(
     alloc: Global,
-    watcher: W,
+    guide: G,
     args: &DeskArgs<'a>,
     source: &mut S,
     sink: &mut K,
@@ -188,16 +184,16 @@ pub fn run_on<'a, B: Board, W: Watcher + Drop, S: Source, K: Sink>(
     ensures fails { FailsForCause (S.is_failed source.new) (K.is_failed sink.new) result }
 {
     let mut chosen = Chosen::<B, S>::new(alloc, source, form_of(args), args.portion);
-    let ending = run_chosen(alloc, watcher, args, &mut chosen, sink);
+    let ending = run_chosen(alloc, guide, args, &mut chosen, sink);
     // Chosen problems that are dropped would not tell how much was read.
     let _ = chosen.into_source();
     ending
 }
 
 /// Runs a command on the chosen problems.
-fn run_chosen<'a, B: Board, W: Watcher + Drop, S: Source, K: Sink>(
+fn run_chosen<'a, B: Board, G: Guide<B> + Drop, S: Source, K: Sink>(
     alloc: Global,
-    watcher: W,
+    guide: G,
     args: &DeskArgs<'a>,
     chosen: &mut Chosen<'_, B, S>,
     sink: &mut K,
@@ -211,7 +207,7 @@ fn run_chosen<'a, B: Board, W: Watcher + Drop, S: Source, K: Sink>(
     ensures fails { FailsForCause (S.is_failed (source_of chosen.new.text)) (K.is_failed sink.new) result }
     ensures source { lender chosen.new.text ≡ lender chosen.old.text }
 {
-    let Ok(mut desk) = Desk::<B, W>::new(alloc, args, watcher) else {
+    let Ok(mut desk) = Desk::<B, G>::new(alloc, args, guide) else {
         return Ending::no_memory();
     };
     let done = dispatch(&mut desk, args, chosen, sink);
@@ -223,8 +219,8 @@ fn run_chosen<'a, B: Board, W: Watcher + Drop, S: Source, K: Sink>(
 }
 
 /// Runs a command on the chosen problems, unless something stops it.
-fn dispatch<'a, B: Board, W: Watcher, S: Source, K: Sink>(
-    desk: &mut Desk<B, W>,
+fn dispatch<'a, B: Board, G: Guide<B>, S: Source, K: Sink>(
+    desk: &mut Desk<B, G>,
     args: &DeskArgs<'a>,
     chosen: &mut Chosen<'_, B, S>,
     sink: &mut K,

@@ -21,7 +21,7 @@ use dw_games::Game;
 use dw_notation::Problem;
 use dw_report::{Stop, refused_line};
 use dw_solution::FirstLines;
-use dw_solve::Watcher;
+use dw_solve::Guide;
 use dw_study::find::find;
 use dw_study::{FindBounds, Finding, found_text};
 
@@ -38,9 +38,9 @@ impl<B: Board> MakesText<B, bool> for FindArgs {
         !self.json
     }
 
-    fn text_of<W: Watcher>(
+    fn text_of<G: Guide<B>>(
         &self,
-        desk: &mut Desk<B, W>,
+        desk: &mut Desk<B, G>,
         game: &Game<B>,
     ) -> Result<(Vec<u8>, bool), Stop> {
         if self.json {
@@ -54,8 +54,8 @@ impl<B: Board> MakesText<B, bool> for FindArgs {
 }
 
 /// Makes the text after the first line of one problem, and returns whether it was refused or stayed undecided.
-fn words_of<B: Board, W: Watcher>(
-    desk: &mut Desk<B, W>,
+fn words_of<B: Board, G: Guide<B>>(
+    desk: &mut Desk<B, G>,
     query: &FindArgs,
     problem: &Problem<B>,
 ) -> Result<(String, bool), Stop>
@@ -74,8 +74,8 @@ fn words_of<B: Board, W: Watcher>(
 }
 
 /// Makes the line of JSON of one problem, and returns whether it was refused or stayed undecided.
-fn json_of<B: Board, W: Watcher>(
-    desk: &mut Desk<B, W>,
+fn json_of<B: Board, G: Guide<B>>(
+    desk: &mut Desk<B, G>,
     query: &FindArgs,
     problem: &Problem<B>,
 ) -> Result<(String, bool), Stop>
@@ -99,8 +99,8 @@ fn json_of<B: Board, W: Watcher>(
 
 /// Lists the first lines of the solution, if they are asked for and the position is judged. The memo has what the
 /// search for the verdict found.
-fn solution_lines<B: Board, W: Watcher>(
-    desk: &mut Desk<B, W>,
+fn solution_lines<B: Board, G: Guide<B>>(
+    desk: &mut Desk<B, G>,
     query: &FindArgs,
     position: &Position<B>,
     finding: &Finding<B>,
@@ -131,8 +131,8 @@ fn is_undecided<B: Board>(finding: &Finding<B>) -> bool
 
 /// Finds the verdict on a position. If the number of positions is bounded, the memo is empty first, so that nothing
 /// depends on the problems before.
-fn search<B: Board, W: Watcher>(
-    desk: &mut Desk<B, W>,
+fn search<B: Board, G: Guide<B>>(
+    desk: &mut Desk<B, G>,
     query: &FindArgs,
     number: u32,
     position: &Position<B>,

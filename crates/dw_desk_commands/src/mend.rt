@@ -15,7 +15,7 @@ use dw_mend::mend::mend;
 use dw_mend::{MendBounds, Mended, Wording};
 use dw_notation::{Sink, write_all};
 use dw_parts::Part;
-use dw_solve::Watcher;
+use dw_solve::Guide;
 
 impl<B: Board, E> Report<B, Ending<E>> for MendArgs {
     ghost says = { λ query expanded game. IsMendOf B.geometry query expanded (problem_of game) };
@@ -28,9 +28,9 @@ impl<B: Board, E> Report<B, Ending<E>> for MendArgs {
 
     /// Writes the sound neighbours of a problem, each as soon as it is found, and returns how that ended. Only the
     /// first line or the row of a refused problem is written.
-    fn report<W: Watcher, K: Sink>(
+    fn report<G: Guide<B>, K: Sink>(
         &self,
-        desk: &mut Desk<B, W>,
+        desk: &mut Desk<B, G>,
         game: &Game<B>,
         sink: &mut K,
     ) -> Result<Ending<E>, DeskFault> {

@@ -23,7 +23,7 @@ use dw_notation::Problem;
 use dw_parts::Part;
 use dw_report::{Stop, refused_line};
 use dw_rows::first_moves_row;
-use dw_solve::Watcher;
+use dw_solve::Guide;
 
 impl<B: Board, E> MakesText<B, Ending<E>> for MovesArgs {
     ghost says = { λ query expanded game.
@@ -40,9 +40,9 @@ impl<B: Board, E> MakesText<B, Ending<E>> for MovesArgs {
     }
 
     /// Makes the effects of the first moves of a problem, and returns how the program ends.
-    fn text_of<W: Watcher>(
+    fn text_of<G: Guide<B>>(
         &self,
-        desk: &mut Desk<B, W>,
+        desk: &mut Desk<B, G>,
         game: &Game<B>,
     ) -> Result<(Vec<u8>, Ending<E>), Stop> {
         if self.json {
@@ -67,8 +67,8 @@ fn ending_if<E>(is_refused: bool) -> Ending<E>
 }
 
 /// Makes the text after the first line of a problem: the effects of its first moves. Returns whether it is refused.
-fn words_of<B: Board, W: Watcher>(
-    desk: &mut Desk<B, W>,
+fn words_of<B: Board, G: Guide<B>>(
+    desk: &mut Desk<B, G>,
     query: &MovesArgs,
     problem: &Problem<B>,
 ) -> Result<(String, bool), Stop>
@@ -86,8 +86,8 @@ fn words_of<B: Board, W: Watcher>(
 }
 
 /// Makes the row of a problem, and returns whether it is refused.
-fn row_of<B: Board, W: Watcher>(
-    desk: &mut Desk<B, W>,
+fn row_of<B: Board, G: Guide<B>>(
+    desk: &mut Desk<B, G>,
     query: &MovesArgs,
     problem: &Problem<B>,
 ) -> Result<(String, bool), Stop>
@@ -108,8 +108,8 @@ fn row_of<B: Board, W: Watcher>(
 }
 
 /// Searches for the effects of the first moves of a position.
-fn searched<B: Board, W: Watcher>(
-    desk: &mut Desk<B, W>,
+fn searched<B: Board, G: Guide<B>>(
+    desk: &mut Desk<B, G>,
     query: &MovesArgs,
     number: u32,
     position: &Position<B>,

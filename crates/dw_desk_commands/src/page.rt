@@ -34,7 +34,7 @@ use dw_page::{
     push_problem, push_refused, push_solution, push_solutions_heading,
 };
 use dw_report::{Stop, refusal_text};
-use dw_solve::Watcher;
+use dw_solve::Guide;
 use dw_study::find::find;
 use dw_study::{FindBounds, Finding};
 use dw_verdict::Judged;
@@ -43,8 +43,8 @@ use std::alloc::{AllocError, Global};
 
 /// Writes the page, each problem as soon as it is read. If problems were asked for by their numbers and none of them is
 /// there, nothing is written.
-pub(crate) fn page_problems<B: Board, W: Watcher, S: Source, K: Sink>(
-    desk: &mut Desk<B, W>,
+pub(crate) fn page_problems<B: Board, G: Guide<B>, S: Source, K: Sink>(
+    desk: &mut Desk<B, G>,
     chosen: &mut Chosen<'_, B, S>,
     query: &PageArgs<'_>,
     sink: &mut K,
@@ -164,8 +164,8 @@ fn end_page<K: Sink>(alloc: Global, later: &mut Vec<u8>, sink: &mut K) -> Result
 }
 
 /// Writes the part of a problem, and returns whether the problem is refused.
-fn write_part<B: Board, W: Watcher, K: Sink>(
-    desk: &mut Desk<B, W>,
+fn write_part<B: Board, G: Guide<B>, K: Sink>(
+    desk: &mut Desk<B, G>,
     query: &PageArgs<'_>,
     game: &Game<B>,
     later: &mut Vec<u8>,
@@ -189,8 +189,8 @@ fn write_part<B: Board, W: Watcher, K: Sink>(
 }
 
 /// Makes the part of a problem, and returns whether the problem is refused.
-fn part_of<B: Board, W: Watcher>(
-    desk: &mut Desk<B, W>,
+fn part_of<B: Board, G: Guide<B>>(
+    desk: &mut Desk<B, G>,
     query: &PageArgs<'_>,
     game: &Game<B>,
     later: &mut Vec<u8>,
@@ -228,8 +228,8 @@ fn refused_part(
 }
 
 /// Makes the part of a problem that has a position.
-fn known_part<B: Board, W: Watcher>(
-    desk: &mut Desk<B, W>,
+fn known_part<B: Board, G: Guide<B>>(
+    desk: &mut Desk<B, G>,
     query: &PageArgs<'_>,
     number: u32,
     position: &Position<B>,
@@ -265,8 +265,8 @@ fn known_part<B: Board, W: Watcher>(
 }
 
 /// Finds the least number of moves with a win, and the verdict.
-fn found<B: Board, W: Watcher>(
-    desk: &mut Desk<B, W>,
+fn found<B: Board, G: Guide<B>>(
+    desk: &mut Desk<B, G>,
     query: &PageArgs<'_>,
     number: u32,
     position: &Position<B>,
@@ -286,8 +286,8 @@ fn found<B: Board, W: Watcher>(
 }
 
 /// Finds the verdict within the requested number of moves.
-fn judged_within<B: Board, W: Watcher>(
-    desk: &mut Desk<B, W>,
+fn judged_within<B: Board, G: Guide<B>>(
+    desk: &mut Desk<B, G>,
     query: &PageArgs<'_>,
     number: u32,
     position: &Position<B>,
@@ -302,8 +302,8 @@ fn judged_within<B: Board, W: Watcher>(
 }
 
 /// Makes the part of a judged problem, with its solution if that belongs there.
-fn judged_part<B: Board, W: Watcher>(
-    desk: &mut Desk<B, W>,
+fn judged_part<B: Board, G: Guide<B>>(
+    desk: &mut Desk<B, G>,
     query: &PageArgs<'_>,
     task: &Task<'_, B>,
     judged: &Judged<B>,
@@ -326,8 +326,8 @@ fn judged_part<B: Board, W: Watcher>(
 }
 
 /// Appends the solution of a problem where it is to stand: after its problem, or later.
-fn push_placed<B: Board, W: Watcher>(
-    desk: &mut Desk<B, W>,
+fn push_placed<B: Board, G: Guide<B>>(
+    desk: &mut Desk<B, G>,
     query: &PageArgs<'_>,
     task: &Task<'_, B>,
     judged: &Judged<B>,
@@ -357,8 +357,8 @@ fn push_placed<B: Board, W: Watcher>(
 }
 
 /// Appends a problem up to its task, with the tags of its section.
-fn push_tagged<B: Board, W: Watcher>(
-    desk: &Desk<B, W>,
+fn push_tagged<B: Board, G: Guide<B>>(
+    desk: &Desk<B, G>,
     query: &PageArgs<'_>,
     task: &Task<'_, B>,
     section: &[u8],
@@ -397,8 +397,8 @@ fn heading_under<'v>(
 }
 
 /// Appends the solution of a problem, apart from it or not.
-fn push_solved<B: Board, W: Watcher>(
-    desk: &mut Desk<B, W>,
+fn push_solved<B: Board, G: Guide<B>>(
+    desk: &mut Desk<B, G>,
     query: &PageArgs<'_>,
     task: &Task<'_, B>,
     judged: &Judged<B>,

@@ -24,7 +24,7 @@ use dw_commands::Ending;
 use dw_games::Game;
 use dw_notation::{Problem, ProblemFault, Sink, Source, write_all};
 use dw_report::{Stop, problem_line, refused_line};
-use dw_solve::Watcher;
+use dw_solve::Guide;
 use std::alloc::{AllocError, Global};
 
 /// A command that reports games. `A` is its answer on a game: whether the game counts as refused, or how the program
@@ -46,9 +46,9 @@ pub(crate) trait Report<B: Board, A> {
     ghost counts_on: { Type 0 };
 
     /// Reports a game.
-    fn report<W: Watcher, K: Sink>(
+    fn report<G: Guide<B>, K: Sink>(
         &self,
-        desk: &mut Desk<B, W>,
+        desk: &mut Desk<B, G>,
         game: &Game<B>,
         sink: &mut K,
     ) -> Result<A, DeskFault>
@@ -85,9 +85,9 @@ pub(crate) trait MakesText<B: Board, A> {
         ensures { result ≡ is_headed self.now };
 
     /// Makes the text of a game after that line.
-    fn text_of<W: Watcher>(
+    fn text_of<G: Guide<B>>(
         &self,
-        desk: &mut Desk<B, W>,
+        desk: &mut Desk<B, G>,
         game: &Game<B>,
     ) -> Result<(Vec<u8>, A), Stop>
         ensures text { IfOk result (λ made.
@@ -113,9 +113,9 @@ impl<B: Board, A: Drop, C: MakesText<B, A>> Report<B, A> for InText<'_, C> {
 
     ghost counts_on = { C.counts_on };
 
-    fn report<W: Watcher, K: Sink>(
+    fn report<G: Guide<B>, K: Sink>(
         &self,
-        desk: &mut Desk<B, W>,
+        desk: &mut Desk<B, G>,
         game: &Game<B>,
         sink: &mut K,
     ) -> Result<A, DeskFault> {
@@ -156,9 +156,9 @@ pub(crate) fn push(text: &mut Vec<u8>, bytes: &[u8]) -> Result<(), AllocError>
 }
 
 /// Reports the chosen games, each as soon as it is read, and counts them.
-pub(crate) fn report_all<B: Board, W: Watcher, S: Source, K: Sink, R: Report<B, bool>>(
+pub(crate) fn report_all<B: Board, G: Guide<B>, S: Source, K: Sink, R: Report<B, bool>>(
     command: &R,
-    desk: &mut Desk<B, W>,
+    desk: &mut Desk<B, G>,
     chosen: &mut Chosen<'_, B, S>,
     sink: &mut K,
 ) -> Result<Counts, DeskFault>
@@ -188,9 +188,9 @@ pub(crate) fn report_all<B: Board, W: Watcher, S: Source, K: Sink, R: Report<B, 
 
 /// Reports the first of the chosen games, and returns how that ended, or that it is not there. `E` is the type of the
 /// texts that an ending names.
-pub(crate) fn report_first<E, B: Board, W: Watcher, S: Source, K: Sink, R: Report<B, Ending<E>>>(
+pub(crate) fn report_first<E, B: Board, G: Guide<B>, S: Source, K: Sink, R: Report<B, Ending<E>>>(
     command: &R,
-    desk: &mut Desk<B, W>,
+    desk: &mut Desk<B, G>,
     chosen: &mut Chosen<'_, B, S>,
     sink: &mut K,
 ) -> Result<Ending<E>, DeskFault>

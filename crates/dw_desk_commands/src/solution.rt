@@ -22,7 +22,7 @@ use dw_report::{Stop, refusal_text, refused_line};
 use dw_rows::solution_row;
 use dw_solution::movetext::movetext;
 use dw_solution::{FirstLines, Heading, SolutionText, VerdictKind, first_lines};
-use dw_solve::Watcher;
+use dw_solve::Guide;
 use dw_stipulation::MoveCount;
 use dw_verdict::Verdict;
 use dw_verdict::judge::verdict;
@@ -43,9 +43,9 @@ impl<B: Board> MakesText<B, bool> for SolutionArgs {
     }
 
     /// Makes a game, or a row, of a problem, and returns whether it is refused.
-    fn text_of<W: Watcher>(
+    fn text_of<G: Guide<B>>(
         &self,
-        desk: &mut Desk<B, W>,
+        desk: &mut Desk<B, G>,
         game: &Game<B>,
     ) -> Result<(Vec<u8>, bool), Stop> {
         if self.json {
@@ -58,8 +58,8 @@ impl<B: Board> MakesText<B, bool> for SolutionArgs {
 }
 
 /// Makes a game of a problem, with the tags of its section, and returns whether it is refused.
-fn game_of<B: Board, W: Watcher>(
-    desk: &mut Desk<B, W>,
+fn game_of<B: Board, G: Guide<B>>(
+    desk: &mut Desk<B, G>,
     query: &SolutionArgs,
     game: &Game<B>,
 ) -> Result<(Vec<u8>, bool), Stop>
@@ -97,8 +97,8 @@ fn written_game<B: Board>(
 }
 
 /// Makes the row of a problem, and says whether the problem is refused.
-fn row_of<B: Board, W: Watcher>(
-    desk: &mut Desk<B, W>,
+fn row_of<B: Board, G: Guide<B>>(
+    desk: &mut Desk<B, G>,
     query: &SolutionArgs,
     problem: &Problem<B>,
 ) -> Result<(String, bool), Stop>
@@ -136,8 +136,8 @@ fn refused_game(alloc: Global, number: u32, fault: ProblemFault) -> Result<Strin
 }
 
 /// Searches for the solution of a problem.
-fn searched<B: Board, W: Watcher>(
-    desk: &mut Desk<B, W>,
+fn searched<B: Board, G: Guide<B>>(
+    desk: &mut Desk<B, G>,
     query: &SolutionArgs,
     number: u32,
     position: &Position<B>,
@@ -155,8 +155,8 @@ fn searched<B: Board, W: Watcher>(
 }
 
 /// Finds the requested number of moves.
-fn number_for<B: Board, W: Watcher>(
-    desk: &mut Desk<B, W>,
+fn number_for<B: Board, G: Guide<B>>(
+    desk: &mut Desk<B, G>,
     query: &SolutionArgs,
     position: &Position<B>,
 ) -> Result<MoveCount, Stop>
@@ -172,8 +172,8 @@ fn number_for<B: Board, W: Watcher>(
 }
 
 /// Finds the least number of moves within which there is a win; or the most, if there is none within fewer.
-fn least_number<B: Board, W: Watcher>(
-    desk: &mut Desk<B, W>,
+fn least_number<B: Board, G: Guide<B>>(
+    desk: &mut Desk<B, G>,
     position: &Position<B>,
     most: MoveCount,
 ) -> Result<MoveCount, Stop>
@@ -200,8 +200,8 @@ pub(crate) struct Solved<B: Board> {
 
 /// Makes the solution of a position within `moves` moves, with at most `lines` lines. The verdict must be that of the
 /// position.
-pub(crate) fn solved_within<B: Board, W: Watcher>(
-    desk: &mut Desk<B, W>,
+pub(crate) fn solved_within<B: Board, G: Guide<B>>(
+    desk: &mut Desk<B, G>,
     position: &Position<B>,
     moves: MoveCount,
     lines: usize,
@@ -227,8 +227,8 @@ pub(crate) fn solved_within<B: Board, W: Watcher>(
 }
 
 /// Lists the first lines of a position within `moves` moves, at most `most`.
-pub(crate) fn lines_within<B: Board, W: Watcher>(
-    desk: &mut Desk<B, W>,
+pub(crate) fn lines_within<B: Board, G: Guide<B>>(
+    desk: &mut Desk<B, G>,
     position: &Position<B>,
     moves: MoveCount,
     most: usize,

@@ -16,7 +16,7 @@ use dw_list::write_token;
 use dw_moves::Move;
 use dw_notation::{Sink, write_all};
 use dw_report::Stop;
-use dw_solve::Watcher;
+use dw_solve::Guide;
 
 /// The line whose token is requested.
 #[derive(Clone, Copy)]
@@ -37,9 +37,9 @@ impl<B: Board, E> Report<B, Ending<E>> for Line<'_> {
 
     /// Writes the token of the line in a problem, and returns how that ended. If anything is refused, nothing is
     /// written.
-    fn report<W: Watcher, K: Sink>(
+    fn report<G: Guide<B>, K: Sink>(
         &self,
-        desk: &mut Desk<B, W>,
+        desk: &mut Desk<B, G>,
         game: &Game<B>,
         sink: &mut K,
     ) -> Result<Ending<E>, DeskFault> {

@@ -27,9 +27,6 @@ Seeks old new m = (f : Level) (outer : List Level) (moves : List Move) → old.l
     (before : List Move) × (rest : List Move) × (moves ≡ before ++ rest) × (new ≡ ahead_of old f outer rest)
     × (Member m before → ⊥)
 
-pub seeks_init : (s : LineStack) (m : Move) → Seeks s s m
-seeks_init s m f outer moves e = ([], moves, refl, (λ i. record s { levels = e i }), λ h. h)
-
 first_cons : (moves : List Move) (m : Move) → first_ahead (Some moves) ≡ Some m → (rest : List Move)
     × (moves ≡ m ∷ rest)
 first_cons [] m e = cc
@@ -70,45 +67,3 @@ seeks_more g old s new m t seeks candidate apart is f outer moves e =
       ],
     )
 
-pub seeks_passed : (old new : LineStack) (m : Move) → Seeks old new m → SomePassed old new
-seeks_passed old new m seeks f outer moves e = let h = seeks f outer moves e in (h.1, h.3)
-
--- at the end the move is not ahead
-pub seeks_none : (old s : LineStack) (m : Move) → Seeks old s m → ((f : Level) (outer : List Level) (moves : List Move)
-    → s.levels ≡ with_ahead f moves ∷ outer → moves ≡ []) → IsNotAhead old m
-seeks_none old s m seeks over f outer moves e member =
-    let h = seeks f outer moves e in
-    let empty = over f outer h.1 (ap (λ (z : LineStack). z.levels) h.3) in
-    elim (mem_cases m h.0 h.1 (subst (Member m) h.2 member)) [
-      | inl early ↦ h.4 early
-      | inr late ↦ subst (Member m) empty late
-    ]
-
-pub over_none : (levels : List Level) → levels ≡ [] → (f : Level) (outer : List Level) (moves : List Move)
-    → levels ≡ with_ahead f moves ∷ outer → moves ≡ []
-over_none levels e f outer moves is = cc
-
-pub over_unlisted : (levels : List Level) (q : Level) (others : List Level) → levels ≡ q ∷ others → q.ahead ≡ None
-    → (f : Level) (outer : List Level) (moves : List Move) → levels ≡ with_ahead f moves ∷ outer → moves ≡ []
-over_unlisted levels q others e none f outer moves is =
-    let same = levels_last q (with_ahead f moves) others outer (sym e ∙ is) in
-    let ahead : q.ahead ≡ Some moves = ap (λ (z : Level). z.ahead) same in cc
-
-pub over_passed : (levels : List Level) (q : Level) (others : List Level) → levels ≡ q ∷ others → q.ahead ≡ Some []
-    → (f : Level) (outer : List Level) (moves : List Move) → levels ≡ with_ahead f moves ∷ outer → moves ≡ []
-over_passed levels q others e none f outer moves is =
-    let same = levels_last q (with_ahead f moves) others outer (sym e ∙ is) in
-    let ahead : q.ahead ≡ Some moves = ap (λ (z : Level). z.ahead) same in cc
-
-count_less : (o : Option (List Move)) (m : Move) → first_ahead o ≡ Some m → count_of (option_map (drop 1) o)
-    < count_of o
-count_less None m e = cc
-count_less (Some []) m e = cc
-count_less (Some (r ∷ moves)) m e = omega arith
-
-pub count_falls : {B : Type 0} (g : Geometry) (s new : LineStack) (t : Candidate B) → IsCandidate g s.levels t
-    → new ≡ record s { levels = passed_last s.levels } → ahead_count new.levels < ahead_count s.levels
-count_falls g s new t candidate is =
-    let levels : new.levels ≡ passed_last s.levels = ap (λ (z : LineStack). z.levels) is in
-    subst (λ z. ahead_count z < ahead_count s.levels) (sym levels) (subst (λ z. ahead_count (passed_last z)
-    < ahead_count z) (sym candidate.are) (count_less candidate.last.ahead t.mv candidate.first))

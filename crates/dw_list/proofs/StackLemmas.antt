@@ -108,9 +108,6 @@ behind_first g q m (Some (r ∷ ms)) e h =
 
 -- THE LEVELS
 
-pub levels_new : (g : Geometry) (p : Placement) (n : ℕ) → AreLevels g p n (begun p true n ∷ []) []
-levels_new g p n = ((refl, refl, refl), tt)
-
 pub levels_listed : (g : Geometry) (p : Placement) (n : ℕ) (f h : Level) (outer : List Level) (line : List Move)
     → AreLevels g p n (f ∷ outer) line → IsListing g f h → AreLevels g p n (h ∷ outer) line
 levels_listed g p n f h outer line levels listing =

@@ -24,34 +24,11 @@ eight_bytes [] e = absurd (omega arith)
 eight_bytes (a ∷ []) e = absurd (omega arith)
 eight_bytes (a ∷ b ∷ rest) e = refl
 
-pub is_square-off : (g : Geometry) (q : ℕ) → (OnBoard g q → ⊥) → is_square g q ≡ false
-is_square-off g q never = elim (cases_Bool (is_square g q)) [
-  | inl here ↦ let p = and_parts _ _ here in absurd (never (leb-true _ _ p.0, leb-true _ _ p.1))
-  | inr off ↦ off
-]
-
-pub off_from : (g : Geometry) (bytes : List ℕ) → (OnBoard g (slice_index bytes 0) → ⊥) → move_fault g bytes
-    ≡ Some Square
-off_from g bytes never = rw (is_square-off g (slice_index bytes 0) never) refl
-
-pub off_to : (g : Geometry) (bytes : List ℕ) → OnBoard g (slice_index bytes 0) → (OnBoard g (slice_index bytes 1) → ⊥)
-    → move_fault g bytes ≡ Some Square
-off_to g bytes on never = rw (is_square-true g (slice_index bytes 0) on, is_square-off g (slice_index bytes 1) never)
-    refl
-
 pub less_not : (a b : ℕ) → b ≤ a → nat_lt a b ≡ false
 less_not a b h = lt-leb (suc a) b (omega arith)
 
 pub less_is : (a b : ℕ) → a < b → nat_lt a b ≡ true
 less_is a b h = le-leb (suc a) b (omega arith)
-
-pub off_taken : (g : Geometry) (bytes : List ℕ) → OnBoard g (slice_index bytes 0) → OnBoard g (slice_index bytes 1)
-    → 2 ^ squares g ≤ number_in bytes → move_fault g bytes ≡ Some Taken
-off_taken g bytes on to high = rw (
-  is_square-true g (slice_index bytes 0) on,
-  is_square-true g (slice_index bytes 1) to,
-  less_not (number_in bytes) (2 ^ squares g) high,
-) refl
 
 pub no_move_fault : (g : Geometry) (step : Move) (bytes : List ℕ) → IsMove g step bytes → move_fault g bytes ≡ None
 no_move_fault g step bytes is = rw (
@@ -71,18 +48,6 @@ pub record IsReadTo (g : Geometry) (count : ℕ) (bytes : List ℕ) (line : List
   pub number : length line ≡ place
   pub fault : moves_fault g count bytes ≡ moves_fault g left rest
   pub more : (tail : List Move) → AreMoves g tail rest → AreMoves g (line ++ tail) bytes
-
-pub read_begin : (g : Geometry) (count : ℕ) (bytes : List ℕ) → length bytes ≡ 10 * count
-    → IsReadTo g count bytes [] 0 bytes
-read_begin g count bytes e = record {
-  left = count;
-  sum = omega arith;
-  whole = e;
-  number = refl;
-  fault = refl;
-  more =
-      λ tail are. are;
-}
 
 fault_here : (g : Geometry) (left : ℕ) (rest : List ℕ) (fault : Option TokenFault) → move_fault g (take 10 rest) ≡ fault
     → moves_fault g (suc left) rest ≡ first_of fault (moves_fault g left (drop 10 rest))
@@ -125,10 +90,6 @@ pub read_fault : (g : Geometry) (count : ℕ) (bytes : List ℕ) (line : List Mo
 read_fault g count bytes line place rest fault lt h e = fault_of g count h.left place bytes rest fault lt h.sum h.fault
     e
 
-pub read_room : (g : Geometry) (count : ℕ) (bytes : List ℕ) (line : List Move) (place : ℕ) (rest : List ℕ)
-    → place < count → IsReadTo g count bytes line place rest → 10 ≤ length rest
-read_room g count bytes line place rest lt h = let w = h.whole in let s = h.sum in omega arith
-
 pub nothing : (rest : List ℕ) → length rest ≡ 0 → rest ≡ []
 nothing [] e = refl
 nothing (x ∷ rest) e = absurd (omega arith)
@@ -142,13 +103,6 @@ read_end g count bytes line rest odd most h = record {
   most = rw h.number most;
   are = rw append-nil at (h.more [] (nothing rest (let s = h.sum in let w = h.whole in omega arith)));
 }
-
--- ---- counts
-pub parts_of_count : (n bytes : ℕ) → are_moves n bytes ≡ true → (n % 2 ≡ 1) × (n ≤ 39) × (bytes ≡ 10 * n)
-parts_of_count n bytes e =
-    let p = and_parts _ _ e in
-    let q = and_parts _ _ p.0 in
-    (eqb-true _ _ q.0, leb-true _ _ q.1, eqb-true _ _ p.1)
 
 pub counted_moves : (g : Geometry) (n : ℕ) (moves : List ℕ) → are_moves n (length moves) ≡ true
     → counted_fault g (n ∷ moves) ≡ moves_fault g n moves

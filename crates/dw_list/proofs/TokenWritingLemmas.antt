@@ -28,14 +28,6 @@ pub record IsWrittenTo (g : Geometry) (line : List Move) (items : List ℕ) (pla
   pub whole : items ++ moves_bytes g (drop place line) ≡ line_bytes g line
   pub number : length items ≡ 3 + 10 * place
 
-pub written_begin : (g : Geometry) (line : List Move) (one two three : List ℕ) (rows count : ℕ) → one ≡ [] ++ 2 ∷ []
-    → two ≡ one ++ rows ∷ [] → three ≡ two ++ count ∷ [] → rows ≡ g.rows → count ≡ length line
-    → IsWrittenTo g line three 0
-written_begin g line one two three rows count a b c r n =
-    let is : three ≡ 2 ∷ g.rows ∷ length line ∷ [] = c ∙ (ap (λ z. z ++ count ∷ []) (b ∙ ap (λ z. z ++ rows ∷ []) a)
-    ∙ (ap (λ x. 2 ∷ x ∷ count ∷ []) r ∙ ap (λ x. 2 ∷ g.rows ∷ x ∷ []) n)) in
-    record { whole = ap (λ z. z ++ moves_bytes g line) is; number = ap length is }
-
 step_here : (g : Geometry) (line : List Move) (place : ℕ) (step : Move) → place < length line
     → step ≡ get_or line place step → move_bytes g step ++ moves_bytes g (drop (place + 1) line)
     ≡ moves_bytes g (drop place line)

@@ -37,11 +37,6 @@ next_legal g true p zero m h = absurd h
 next_legal g true p (suc n) m h = h.0
 next_legal g false q n m h = h
 
-pub among_cons : (ms : List Move) (l : List Move) → BeginsAmong ms l → (m : Move) × (t : List Move) × Member m ms
-    × (l ≡ m ∷ t)
-among_cons ms [] h = absurd h
-among_cons ms (m ∷ t) h = (m, t, h, refl)
-
 pub no_ways : (g : Geometry) (a : Bool) (p : Placement) (n : ℕ) → AreWaysAmong g a p n [] []
 no_ways g a p n = none_listed (Before g p) (λ l. GoesOn g a p n l × BeginsAmong [] l) none where
   none : (l : List Move) → GoesOn g a p n l × BeginsAmong [] l → ⊥
@@ -148,9 +143,6 @@ keeps_last g true q zero true e z h = (
 keeps_last g true q zero false e z h = ((λ _ m legal. absurd (true≢false (sym (h.1 (m, legal))))), (λ _. refl))
 keeps_last g true q (suc n) b e z h = absurd (omega (arith, z))
 keeps_last g false q n b e z h = absurd (true≢false (sym e))
-
-pub keeps_any : (g : Geometry) (q : Placement) (n : ℕ) → IsTrue true ↔ Keeps g false q n
-keeps_any g q n = ((λ _. tt), (λ _. refl))
 
 -- a legal move that keeps a win is one with which lines go on
 pub next_to : (g : Geometry) (a : Bool) (p : Placement) (n : ℕ) (m : Move) → (IsTrue a → 1 ≤ n) → Legal g p m

@@ -93,22 +93,6 @@ module _ {X : Type 0} (g : Geometry) (entries : X → Content) (count : ℕ) (ol
   pub new_empty : held entries new ≡ []
   new_empty = new_held entries new none_there
 
--- ---- emptying
-pub none_emptied : {X : Type 0} (entries : X → Content) (size : ℕ) (xs : List X) → length xs ≡ size
-    → IsEmptied entries size 0 xs
-none_emptied entries size xs all = record { all = all; empty = λ k x l h. absurd (omega (arith, l)) }
-
-pub one_emptied : {X : Type 0} (entries : X → Content) (size count : ℕ) (xs : List X) (y : X)
-    → IsEmptied entries size count xs → entries y ≡ [] → count < size → IsEmptied entries size (count + 1) (set xs count
-    y)
-one_emptied entries size count xs y e none inside = record {
-  all = length-set xs count y ∙ e.all;
-  empty = λ k x l h. elim (set_read xs count y k x (omega (arith, inside, e.all)) h) [
-    | inl i ↦ subst (λ z. entries z ≡ []) i.1 none
-    | inr i ↦ e.empty k x (omega (arith, l, i.0)) i.1
-  ];
-}
-
 module _ {X : Type 0} (g : Geometry) (entries : X → Content) (size : ℕ) (xs : List X) (some : 1 ≤ size)
     (e : IsEmptied entries size size xs) where
   none_left : (k : ℕ) (x : X) → slice_get xs k ≡ Some x → entries x ≡ []

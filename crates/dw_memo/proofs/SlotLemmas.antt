@@ -81,39 +81,11 @@ module _ (p : Placement) (f : Fact) where
   noted None = none_lost None (λ d q. absurd (cc))
   noted (Some e) = some_lost e (same e.0 p) refl
 
--- ---- a table that doubles
-at_home : (g : Geometry) (n k : ℕ) (x : Place) → ((e : Pair) → x ≡ Some e → bucket_of g e.0 n ≡ k) → (d : Entry)
-    → Member d (standing x) → bucket_of g d.position n ≡ k
-at_home g n k None own d m = absurd m
-at_home g n k (Some e) own d (inl q) = ap (λ (y : Entry). bucket_of g y.position n) q ∙ own e refl
-at_home g n k (Some e) own d (inr m) = absurd m
-
--- what stands in a place belongs into the given bucket, or into another one
-pub all_low : (g : Geometry) (n k : ℕ) (x : Place) → ((e : Pair) → x ≡ Some e → bucket_of g e.0 n ≡ k)
-    → IsSplit g n k (standing x) (standing x) []
-all_low g n k x own = record {
-  low_map = place_map x;
-  high_map = tt;
-  low_are = λ e m. (m, at_home g n k x own e m);
-  high_are = λ e m. absurd m;
-  each = λ e m. inl m;
-}
-
 away : (g : Geometry) (n k : ℕ) (x : Place) → ((e : Pair) → x ≡ Some e → bucket_of g e.0 n ≢ k) → (d : Entry)
     → Member d (standing x) → bucket_of g d.position n ≢ k
 away g n k None own d m = absurd m
 away g n k (Some e) own d (inl q) = λ r. own e refl (ap (λ (y : Entry). bucket_of g y.position n) (sym q) ∙ r)
 away g n k (Some e) own d (inr m) = absurd m
-
-pub all_high : (g : Geometry) (n k : ℕ) (x : Place) → ((e : Pair) → x ≡ Some e → bucket_of g e.0 n ≢ k)
-    → IsSplit g n k (standing x) [] (standing x)
-all_high g n k x own = record {
-  low_map = tt;
-  high_map = place_map x;
-  low_are = λ e m. absurd m;
-  high_are = λ e m. (m, away g n k x own e m);
-  each = λ e m. inr m;
-}
 
 -- a note as the program makes it
 pub noted_as : (old new : Place) (p : Placement) (b : Bounds) (f : Fact) (l : ℕ)

@@ -13,14 +13,6 @@ pub one_more : {X : Type 0} (xs : List X) (i : ℕ) (x : X) → i < length xs �
     → take (i + 1) xs ≡ take i xs ++ x ∷ []
 one_more xs i x low is = take_more xs i x low ∙ ap (λ z. take i xs ++ z ∷ []) (sym is)
 
--- a list that has an item more, with what a function gives of it
-pub mapped_next : {X Y : Type 0} (f : X → Y) (old now new : List Y) (xs : List X) (i : ℕ) (x : X)
-    → i < length xs → x ≡ get_or xs i x → now ≡ old ++ map f (take i xs) → new ≡ now ++ f x ∷ []
-    → new ≡ old ++ map f (take (i + 1) xs)
-mapped_next f old now new xs i x low is so_far pushed =
-    pushed ∙ (ap (λ z. z ++ f x ∷ []) so_far ∙ (append_assoc old (map f (take i xs)) (f x ∷ [])
-    ∙ ap (λ z. old ++ z) (sym (ap (map f) (one_more xs i x low is) ∙ map_push f (take i xs) x))))
-
 -- a list that has some items more, which a function gives of one
 pub flat_next : {X Y : Type 0} (f : X → List Y) (old now new : List Y) (xs : List X) (i : ℕ) (x : X)
     → i < length xs → x ≡ get_or xs i x → now ≡ old ++ flat_map f (take i xs) → new ≡ now ++ f x

@@ -32,10 +32,6 @@ not_true : (b : Bool) → not b ≡ true → b ≡ false
 not_true true e = absurd (true≢false (sym e))
 not_true false e = refl
 
-pub squares_length : (n : ℕ) → length (numbers_to n) ≡ n
-squares_length zero = refl
-squares_length (suc n) = omega (arith, length-append (numbers_to n) (suc n ∷ []), squares_length n)
-
 pub square_in : (n s : ℕ) → s < n → Member (suc s) (numbers_to n)
 square_in zero s h = absurd (omega arith)
 square_in (suc n) s h = elim (cases_lt s n) [

@@ -15,6 +15,7 @@ pub mod JumpStepLemmas
 pub mod ChainLemmas
 pub mod HasMoveLemmas
 pub mod ManJumpLemmas
+pub mod KingStartLemmas
 pub mod GroundLemmas
 pub mod KingMeetLemmas
 pub mod OfferLemmas

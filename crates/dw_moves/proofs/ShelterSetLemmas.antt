@@ -1,5 +1,5 @@
 -- Pieces that are not exposed, and their steps, found on sets of squares.
-use Rattle.std.proofs.Common.{◌≡◌, ℕ, sym, ap, ◌∙◌, subst, ◌⊎◌, inl, inr, ◌↔◌, Bool, true, false, Some}
+use Rattle.std.proofs.Common.{◌≡◌, ℕ, refl, sym, ap, ◌∙◌, subst, ◌⊎◌, inl, inr, ◌↔◌, Bool, true, false, not, Some}
 use Rattle.std.specs.Prelude.{IsTrue}
 use Rattle.std.proofs.lemmas.Bool.{true≢false}
 use Rattle.std.specs.FinSet as fin
@@ -9,14 +9,15 @@ use Rattle.dw_board.specs.declared.piece.Side.{Side}
 use Rattle.dw_board.specs.Geometry.{Geometry, IsBoard, OnBoard, step, back, Squares}
 use Rattle.dw_board.specs.Placement.{Placement, at, is_of, other, same_side}
 use Rattle.dw_moves.specs.Moves.{IsForward, CanCapture, In}
-use Rattle.dw_moves.specs.Replies.{with_turn, passed, OneStep, LeadToTwo, IsOpen, IsExposed, SafeStep, HasSureReply}
+use Rattle.dw_moves.specs.Replies.{with_turn, passed, OneStep, TwoSteps, LeadToTwo, IsOpen, IsExposed, SafeStep}
+use Rattle.dw_moves.specs.Replies.{HasSureReply}
 use Rattle.dw_moves.specs.inner.Glance.{AreSets, StepsFrom, StepsOn, HasTwo}
 use Rattle.dw_moves.specs.inner.Shelter.{OpenIn, ExposedIn}
 use Rattle.dw_moves.proofs.StepLemmas.{some_inj, step_is}
 use Rattle.dw_moves.proofs.StepBackLemmas.{step_back}
 use Rattle.dw_moves.proofs.ExactLemmas.{same_side_refl}
 use Rattle.dw_moves.proofs.SquareSetLemmas.{in_or, in_and, in_minus}
-use Rattle.dw_moves.proofs.StepSetLemmas.{step_of, from_step, loose_is}
+use Rattle.dw_moves.proofs.StepSetLemmas.{step_of, from_step}
 
 -- the next squares outside, and back
 pub open_is : (g : Geometry) → IsBoard g → (pieces shifted next behind : Squares) (d e : Dir)
@@ -151,9 +152,9 @@ safe_steps_are g b p side men kings enemies occupied sets side_is own out men_le
 
 -- A SURE REPLY
 
-two_safe : (g : Geometry) (p : Placement) (steps : Squares) → ((t : ℕ) → In t steps ↔ ((s : ℕ) × SafeStep g p s t))
-    → HasTwo steps ↔ LeadToTwo (SafeStep g p)
-two_safe g p steps are = (
+pub two_lead : {Leads : ℕ → ℕ → Type 0} → (steps : Squares) → ((t : ℕ) → In t steps ↔ ((s : ℕ) × Leads s t))
+    → HasTwo steps ↔ LeadToTwo Leads
+two_lead steps are = (
   (λ h.
       let a = (are h.0).0 h.2 in
       let c = (are h.1).0 h.3 in
@@ -161,35 +162,32 @@ two_safe g p steps are = (
   (λ h. (h.to, h.to_too, (are h.to).1 (h.from, h.one), (are h.to_too).1 (h.from_too, h.two), h.apart)),
 )
 
-pub sure_taking : (g : Geometry) (p : Placement) (steps : Squares) (takes two : Bool) → IsTrue takes ↔ CanCapture g p
-    → takes ≡ true → ((t : ℕ) → In t steps ↔ ((s : ℕ) × SafeStep g p s t)) → IsTrue two ↔ HasTwo steps → IsTrue two
-    ↔ HasSureReply g p
-sure_taking g p steps takes two can takes_is are has = (
-  (λ yes. inr ((two_safe g p steps are).0 (has.0 yes))),
-  (λ h. elim h [ inl loose ↦ absurd (loose.0 (can.0 takes_is)) | inr safe ↦ has.1 ((two_safe g p steps are).1 safe) ]),
-)
+module _ (g : Geometry) (p : Placement) (steps : Squares) (two : Bool)
+    (are : (t : ℕ) → In t steps ↔ ((s : ℕ) × OneStep g (passed p) s t)) (has : IsTrue two ↔ HasTwo steps) where
+  enough : two ≡ false → TwoSteps g (passed p) → ⊥
+  enough few steps_too = true≢false (sym (has.1 ((two_lead steps are).1 steps_too)) ∙ few)
 
-pub sure_quiet : (g : Geometry) (p : Placement) (steps : Squares) (takes two : Bool) → IsTrue takes ↔ CanCapture g p
-    → takes ≡ false → ((t : ℕ) → In t steps ↔ ((s : ℕ) × OneStep g (passed p) s t)) → IsTrue two ↔ HasTwo steps
-    → IsTrue two ↔ HasSureReply g p
-sure_quiet g p steps takes two can not_can are has =
-    let loose = loose_is g p steps takes two can not_can are has in
-    let none : CanCapture g p → ⊥ = λ k. true≢false (sym (can.1 k) ∙ not_can) in (
-      (λ yes. inl (loose.0 yes)),
-      (λ h. elim h [
-        | inl l ↦ loose.1 l
-        | inr s ↦ loose.1 (
-          none,
-          record {
-            from = s.from;
-            to = s.to;
-            one = s.one.0;
-            from_too = s.from_too;
-            to_too =
-                s.to_too;
-            two = s.two.0;
-            apart = s.apart;
-          },
-        )
-      ]),
-    )
+  -- without two steps no reply is sure
+  pub few_steps : two ≡ false → HasSureReply g p → ⊥
+  few_steps few (inl loose) = enough few loose.1
+  few_steps few (inr safe) = enough few (record {
+    from = safe.from;
+    to = safe.to;
+    one = safe.one.0;
+    from_too = safe.from_too;
+    to_too = safe.to_too;
+    two = safe.two.0;
+    apart = safe.apart;
+  })
+
+  -- with two steps, but none by pieces that are not exposed, all depends on whether anything can be taken
+  pub loose_steps : (takes : Bool) → IsTrue takes ↔ CanCapture g p → two ≡ true → (LeadToTwo (SafeStep g p) → ⊥)
+      → IsTrue (not takes) ↔ HasSureReply g p
+  loose_steps true can some none = (
+    (λ yes. absurd (true≢false (sym yes))),
+    (λ h. elim h [ inl loose ↦ absurd (loose.0 (can.0 refl)) | inr safe ↦ absurd (none safe) ]),
+  )
+  loose_steps false can some none = (
+    (λ yes. inl ((λ k. true≢false (sym (can.1 k))), (two_lead steps are).0 (has.0 some))),
+    (λ h. refl),
+  )

@@ -9,9 +9,9 @@ use Rattle.dw_board.specs.declared.piece.Kind.{Kind}
 use Rattle.dw_board.specs.declared.piece.Kind.TheVariants.{Man, King}
 use Rattle.dw_board.specs.Geometry.{Geometry, IsBoard, OnBoard, Squares}
 use Rattle.dw_board.specs.Placement.{Placement, at, other}
-use Rattle.dw_moves.specs.Moves.{IsForward, CanCapture, In}
+use Rattle.dw_moves.specs.Moves.{IsForward, In}
 use Rattle.dw_moves.specs.inner.Glance.{AreSets, StepsFrom, StepsOn, HasTwo}
-use Rattle.dw_moves.specs.Replies.{with_turn, passed, OneStep, TwoSteps, IsLoose}
+use Rattle.dw_moves.specs.Replies.{with_turn, passed, OneStep}
 use Rattle.dw_moves.proofs.StepLemmas.{step_is}
 use Rattle.dw_moves.proofs.SquareSetLemmas.{in_none, in_rest}
 use Rattle.dw_moves.proofs.SlideLemmas.{is_free, is_out}
@@ -75,33 +75,3 @@ two_of v rest s r there rest_is any = (
 
 pub two_of_none : (v : Squares) → v ≡ fin.empty → IsTrue false ↔ HasTwo v
 two_of_none v e = ((λ no. absurd (true≢false (sym no))), (λ h. absurd (in_none v h.0 e h.2)))
-
--- A LOOSE POSITION
-
-pub loose_is : (g : Geometry) (p : Placement) (steps : Squares) (takes two : Bool) → IsTrue takes ↔ CanCapture g p
-    → takes ≡ false → ((t : ℕ) → In t steps ↔ ((s : ℕ) × OneStep g (passed p) s t)) → IsTrue two ↔ HasTwo steps
-    → IsTrue two ↔ IsLoose g p
-loose_is g p steps takes two can not_can are has = (
-  (λ yes.
-      let h = has.0 yes in
-      let a = (are h.0).0 h.2 in
-      let b = (are h.1).0 h.3 in
-      let both : TwoSteps g (passed p) = record {
-        from = a.0;
-        to = h.0;
-        one = a.1;
-        from_too = b.0;
-        to_too = h.1;
-        two =
-            b.1;
-        apart = h.4;
-      } in
-      ((λ k. true≢false (sym (can.1 k) ∙ not_can)), both)),
-  (λ h. let s = h.1 in has.1 (
-    s.to,
-    s.to_too,
-    (are s.to).1 (s.from, s.one),
-    (are s.to_too).1 (s.from_too, s.two),
-    s.apart,
-  )),
-)

@@ -6,7 +6,7 @@ ghost use Rattle.dw_board.specs.Placement.{IsPosition, Placement};
 ghost use Rattle.dw_moves.specs.Moves.{In};
 ghost use Rattle.dw_moves.specs.Replies.{with_turn};
 ghost use Rattle.dw_moves.specs.inner.Glance.{AreSets, CanTakeTowards, IsOccupied, MenMeet};
-ghost use Rattle.dw_moves.specs.inner.Glance.{MenTake, KingsTake, Takes, JumpsTo};
+ghost use Rattle.dw_moves.specs.inner.Glance.{MenTake, KingsTake, Takes};
 ghost use Rattle.dw_moves.specs.inner.Glance.{Steps, StepsOn, HasTwo};
 ghost use Rattle.dw_moves.specs.inner.Plain as plain;
 
@@ -64,30 +64,14 @@ impl<B: Board> Field<B> {
         }
     }
 
-    /// Returns whether a man on this square, which has taken these, can jump over one more enemy.
+    /// Returns these enemies without those behind which, in this direction, a piece stands or the board ends.
     #[inline]
-    pub(crate) fn man_goes_on(&self, from: Square<B>, taken: Squares<B>) -> bool
-        ensures { (d : Dir) (t : ℕ) → JumpsTo B.geometry (set.difference self.now.enemies taken) self.now.occupied from
-            d t → IsTrue result }
+    pub(crate) fn open_behind(&self, enemies: Squares<B>, direction: Dir) -> Squares<B>
+        ensures { (c t : ℕ) → In c enemies → step B.geometry c direction ≡ Some t → OnBoard B.geometry c
+            → (In t self.now.occupied → ⊥) → In c result }
     {
-        let left = self.enemies.minus(taken);
-        let up = self
-            .landing(from, left, Dir::UpLeft)
-            .or(self.landing(from, left, Dir::UpRight));
-        let down = self
-            .landing(from, left, Dir::DownLeft)
-            .or(self.landing(from, left, Dir::DownRight));
-        any(up.or(down))
-    }
-
-    /// Returns the set of the square to which a man can jump in a direction over one of these enemies. It is empty if
-    /// there is none or it is occupied.
-    #[inline]
-    fn landing(&self, from: Square<B>, enemies: Squares<B>, direction: Dir) -> Squares<B>
-        ensures { (t : ℕ) → In t result ↔ JumpsTo B.geometry enemies self.now.occupied from direction t }
-    {
-        let met = Squares::one(from).shifted(direction).and(enemies);
-        met.shifted(direction).minus(self.occupied)
+        let behind = enemies.shifted(direction).minus(self.occupied);
+        behind.shifted(direction.opposite())
     }
 
     /// Returns whether something can be taken.

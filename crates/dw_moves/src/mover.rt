@@ -1,5 +1,5 @@
 //! How men and kings capture: the enemy they meet, where they land, and whether they go on.
-ghost use Rattle.std.specs.Prelude.{◌≡◌, ℕ, None, false, IsTrue, IfSome};
+ghost use Rattle.std.specs.Prelude.{◌≡◌, ℕ, None, false, IfSome};
 ghost use Rattle.std.specs.FinSet as set;
 ghost use Rattle.dw_board.specs.Geometry.{OnBoard};
 ghost use Rattle.dw_board.specs.Placement.{Placement};
@@ -7,7 +7,7 @@ ghost use Rattle.dw_board.specs.declared.piece.Kind.{Kind};
 ghost use Rattle.dw_board.specs.declared.piece.Kind.TheVariants.{Man, King};
 ghost use Rattle.dw_board.specs.declared.piece.Side.{Side};
 ghost use Rattle.dw_moves.specs.Moves.{In, Jump, ray};
-ghost use Rattle.dw_moves.specs.inner.Glance.{IsGround};
+ghost use Rattle.dw_moves.specs.inner.Glance.{IsGround, JumpsTowards};
 ghost use Rattle.dw_moves.specs.inner.Plain.{TakesOver, takes_for, no_jumps};
 
 use crate::field::Field;
@@ -34,13 +34,36 @@ pub(crate) trait Mover<B: Board> {
         ensures enemy { IfSome result (λ c. In c field.now.enemies) }
         ensures on_board { IfSome result (OnBoard B.geometry) };
 
-    /// Returns `false` only if it can take no further piece from a square, given the pieces it took. `true` does not
-    /// say that it can.
-    fn goes_on(field: &Field<B>, from: &Square<B>, taken: &Squares<B>) -> bool
-        requires { OnBoard B.geometry from.now }
-        ensures { (p : Placement) (side : Side) (c t : ℕ)
-            → IsGround B.geometry p side field.now.enemies field.now.occupied → set.contains taken.now c ≡ false
-            → Jump B.geometry p (record { side = side; kind = as_kind }) from.now c t → IsTrue result };
+    /// Returns the squares from which it can jump in a direction over one of these pieces, and maybe others. Only empty
+    /// squares count.
+    fn starts_towards(field: &Field<B>, left: &Squares<B>, direction: Dir) -> Squares<B>
+        ensures { (p : Placement) (side : Side) (s c t : ℕ)
+            → IsGround B.geometry p side field.now.enemies field.now.occupied
+            → OnBoard B.geometry s → (In s field.now.occupied → ⊥) → In c left.now
+            → JumpsTowards B.geometry p (record { side = side; kind = as_kind }) s c t direction → In s result };
+}
+
+/// Returns the empty squares from which a piece of this kind can jump over an enemy that is not among these, and maybe
+/// others.
+#[inline(always)]
+pub(crate) fn jump_starts<B: Board, M: Mover<B>>(field: &Field<B>, taken: Squares<B>) -> Squares<B>
+    ensures { (p : Placement) (side : Side) (s c t : ℕ)
+        → IsGround B.geometry p side field.now.enemies field.now.occupied
+        → OnBoard B.geometry s → (In s field.now.occupied → ⊥) → set.contains taken c ≡ false
+        → Jump B.geometry p (record { side = side; kind = M.as_kind }) s c t → In s result }
+{
+    let left = field.enemies.minus(taken);
+    let up = M::starts_towards(field, &left, Dir::UpLeft).or(M::starts_towards(
+        field,
+        &left,
+        Dir::UpRight,
+    ));
+    let down = M::starts_towards(field, &left, Dir::DownLeft).or(M::starts_towards(
+        field,
+        &left,
+        Dir::DownRight,
+    ));
+    up.or(down)
 }
 
 /// A man: it meets the piece on the next square, and lands on the square after it.
@@ -65,8 +88,10 @@ impl<B: Board> Mover<B> for Stepper {
     }
 
     #[inline(always)]
-    fn goes_on(field: &Field<B>, from: &Square<B>, taken: &Squares<B>) -> bool {
-        field.man_goes_on(*from, *taken)
+    fn starts_towards(field: &Field<B>, left: &Squares<B>, direction: Dir) -> Squares<B> {
+        field
+            .open_behind(*left, direction)
+            .shifted(direction.opposite())
     }
 }
 
@@ -87,9 +112,10 @@ impl<B: Board> Mover<B> for Slider {
         reached.shifted(direction).and(field.enemies).first()
     }
 
-    /// Returns `true`: a king's next jump is searched for without a test.
     #[inline(always)]
-    fn goes_on(field: &Field<B>, from: &Square<B>, taken: &Squares<B>) -> bool {
-        true
+    fn starts_towards(field: &Field<B>, left: &Squares<B>, direction: Dir) -> Squares<B> {
+        let back = direction.opposite();
+        let next = field.open_behind(*left, direction).shifted(back);
+        next.minus(field.occupied).slid(field.occupied, back)
     }
 }

@@ -26,11 +26,13 @@ pub fn has_sure_reply<B: Board>(position: &Position<B>) -> bool
     ensures exact { IsTrue result ↔ HasSureReply B.geometry position.now }
     ensures replies { IsTrue result → AlwaysReply B.geometry position.now }
 {
-    if can_capture(position) {
-        has_two(safe_steps(position))
-    } else {
-        has_two(other_steps(position))
+    if !has_two(other_steps(position)) {
+        return false;
     }
+    if has_two(safe_steps(position)) {
+        return true;
+    }
+    !can_capture(position)
 }
 
 /// Returns a legal move of one square, and the position after it, in which the other side is seen to have no win in one

@@ -1,5 +1,6 @@
 //! The walk through all captures: each chain of jumps of each piece, jump by jump.
-ghost use Rattle.std.specs.Prelude.{◌≡◌, ◌≤◌, ◌+◌, ℕ, List, [], ◌∷◌, ◌++◌, length, OnOk, IfOk};
+ghost use Rattle.std.specs.Prelude.{◌≡◌, ◌≤◌, ◌+◌, ℕ, List, [], ◌∷◌, ◌++◌, length, OnOk, IfOk, false};
+ghost use Rattle.dw_moves.specs.Moves.{Jump};
 ghost use Rattle.std.specs.FinSet as set;
 ghost use Rattle.dw_board.specs.Geometry.{OnBoard};
 ghost use Rattle.dw_board.specs.Placement.{IsPosition, Placement};
@@ -9,7 +10,7 @@ ghost use Rattle.dw_moves.specs.inner.Walks.{Offers, GoesOn, GoesTowards, Captur
 
 use crate::field::{Field, free_step};
 use crate::keeper::Keeper;
-use crate::mover::{Mover, Slider, Stepper};
+use crate::mover::{Mover, Slider, Stepper, jump_starts};
 use crate::moves::Move;
 use dw_board::{Board, Dir, Kind, Position, Square, Squares};
 
@@ -181,9 +182,15 @@ fn walk_towards<B: Board, M: Mover<B>, K: Keeper<B>>(
     if chain.taken.has(over) {
         return Ok(());
     }
+    let starts = jump_starts::<B, M>(field, chain.taken.with(over));
     let mut at = over;
     'landings: while let Some(landing) = free_step(field.occupied, at, direction) {
-        walk_onto::<B, M, K>(field, &chain.onto(over, landing), keeper)?;
+        walk_onto::<B, M, K>(
+            field,
+            &chain.onto(over, landing),
+            starts.has(landing),
+            keeper,
+        )?;
         match M::kind() {
             Kind::Man => break,
             Kind::King => at = landing,
@@ -193,18 +200,22 @@ fn walk_towards<B: Board, M: Mover<B>, K: Keeper<B>>(
 }
 
 /// Enters the square on which the capture stands now, offers the captures that continue it, and leaves the square. Most
-/// captures of men end there; sets of squares show this, so those need no walk of their own.
+/// captures end there, so that `goes_on` is `false`. Those need no walk of their own.
 #[cycle(walk)]
 #[inline(always)]
 fn walk_onto<B: Board, M: Mover<B>, K: Keeper<B>>(
     field: &Field<B>,
     chain: &Chain<B>,
+    goes_on: bool,
     keeper: &mut K,
 ) -> Result<(), K::Fault>
     requires on_board { OnBoard B.geometry chain.now.at }
     requires few { chain.now.count + set.len (set.difference field.now.enemies chain.now.taken) ≤ 20 }
     requires counted { chain.now.count ≡ set.len chain.now.taken }
     requires path { (path : List ℕ) × (K.is_on keeper.old path × (length path ≡ chain.now.count)) }
+    requires ends { goes_on ≡ false → (p : Placement) (side : Side) (c t : ℕ)
+        → IsGround B.geometry p side field.now.enemies field.now.occupied → set.contains chain.now.taken c ≡ false
+        → Jump B.geometry p (record { side = side; kind = M.as_kind }) chain.now.at c t → ⊥ }
     ensures kept { OnOk result ((p : Placement) (side : Side) (path : List ℕ)
         → IsGround B.geometry p side field.now.enemies field.now.occupied → K.is_on keeper.old path
         → Offers K.holds (GoesOn B.geometry p (record { side = side; kind = M.as_kind })
@@ -212,7 +223,7 @@ fn walk_onto<B: Board, M: Mover<B>, K: Keeper<B>>(
     ensures on { OnOk result ((path : List ℕ) → K.is_on keeper.old path → K.is_on keeper.new path) }
 {
     keeper.enter(&chain.at);
-    if M::goes_on(field, &chain.at, &chain.taken) {
+    if goes_on {
         walk::<B, M, K>(field, chain, keeper)?;
     } else {
         keeper.offer(&chain.ended(), chain.count)?;

@@ -14,15 +14,6 @@ use Rattle.dw_notation.specs.inner.Cutting.{Progress}
 use Rattle.dw_notation.specs.declared.problems.reader.Pieces.{Pieces}
 use Rattle.dw_notation.specs.declared.problems.reader.Pieces.TheVariants.{InLines, InSections}
 
-pub CarriesOn-refl : (supply : Supply) (progress : Progress) → CarriesOn supply supply progress progress
-CarriesOn-refl supply progress = record {
-  read = [];
-  took = Reads-nil supply;
-  still = λ met. (refl, met);
-  need = inl refl;
-  same = λ g at_end more. refl;
-}
-
 -- what was read ends no piece
 pub CarriesOn-cut : (before after : Supply) (old mid new : Progress) → CarriesOn before after old mid
     → ((g : Geometry) (at_end : Bool) (more : List ℕ) → found_ahead at_end g mid more ≡ found_ahead at_end g new more)
@@ -100,25 +91,6 @@ CarriesOn-filled {S} supply is_failed pulls first old pieces handed source after
     few =
     let at : Input S → Progress = λ i. record { rest = i.unread; pieces = pieces; handed = handed; met_end = i.met_end }
     in subst (λ i. CarriesOn first (supply i.source) old (at i)) (sym same) so_far
-
--- the end of the text
-pub TakesLast-end : (before after : Supply) (old mid new : Progress) → CarriesOn before after old mid
-    → (mid.rest ≡ []) → (new.rest ≡ mid.rest) → (new.met_end ≡ mid.met_end) → ((g : Geometry)
-    → pieces_ahead true g mid.pieces [] ≡ found_cut g new) → ((g : Geometry) → pieces_behind true g new.pieces [] ≡ [])
-    → TakesLast before after old new
-TakesLast-end before after old mid new so_far none rest end found over = record {
-  read = so_far.read;
-  took = so_far.took;
-  still = λ met. let was = so_far.still met in (was.0, end ∙ was.1);
-  need = so_far.need;
-  same = λ g.
-      ap (found_ahead true g old) (sym (append-nil so_far.read))
-      ∙ so_far.same g true []
-      ∙ ap (λ l. pieces_ahead true g mid.pieces (l ++ [])) none
-      ∙ found g;
-  none = rest ∙ none;
-  over = over;
-}
 
 pub not_err : {X Y : Type 0} {r : Result X Y} {x : X} → r ≡ Ok x → IsErr r → ⊥
 not_err {r} {x} e h = let bad : false ≡ true = sym (ap is_err e) ∙ h in cc

@@ -27,16 +27,6 @@ pub record PieceHanded (g : Geometry) (cut new : Progress) (problems : List Numb
   pub given : (found : List Found) → number_from cut.handed (found_cut g cut ++ found)
       ≡ problems ++ number_from new.handed found
 
-pub HandsOut-refl : (g : Geometry) (supply : Supply) (progress : Progress)
-    → HandsOut g supply supply progress progress []
-HandsOut-refl g supply progress = record {
-  read = [];
-  took = Reads-nil supply;
-  still = λ met. (refl, met);
-  need = inl refl;
-  same = λ at_end more. refl;
-}
-
 -- what is behind the piece is ahead
 found_ahead-behind : (at_end : Bool) (g : Geometry) (cut new : Progress) (problems : List Numbered) (more : List ℕ)
     → PieceHanded g cut new problems

@@ -211,11 +211,6 @@ len_found {B} base plies k i x low within end is = ap (λ (z : WrittenMove B). z
       ]
     ])
 
-pub end_push : {B : Type 0} (p : Placement) (plies : List (WrittenMove B)) (x : WrittenMove B) → end_from p (plies ++ x
-    ∷ []) ≡ x.after
-end_push p [] x = refl
-end_push p (y ∷ plies) x = end_push y.after plies x
-
 -- A LINE SO FAR
 
 pub next_legal : (g : Geometry) (p : Placement) (moves : List Move) (i : ℕ) (m : Move) → ArePlayable g p (drop i moves)

@@ -60,7 +60,3 @@ written_more mark squares rest i s text new h low is small e = record {
       (mark ∷ []) in omega (arith, long, a, b, h.short, small);
 }
 
-pub written_all : (mark : ℕ) (squares rest : List ℕ) (i : ℕ) (text : List ℕ) → WrittenTo mark squares rest i text
-    → length rest ≤ i → text ≡ squares_text mark squares
-written_all mark squares rest i text h all = sym (ap (λ l. text ++ behind mark l) (drop_all i rest all)
-    ∙ append-nil text) ∙ h.whole

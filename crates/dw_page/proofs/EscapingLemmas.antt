@@ -59,22 +59,6 @@ pub escaped_read : (text : List ℕ) → read None (escaped text) ≡ text
 escaped_read [] = refl
 escaped_read (b ∷ text) = shown_read (escaped text) b ∙ ap (λ t. b ∷ t) (escaped_read text)
 
--- one more of some bytes
-pub part_more : (f : ℕ → List ℕ) (xs : List ℕ) (i : ℕ) → i < length xs
-    → flat_map f (take (i + 1) xs) ≡ flat_map f (take i xs) ++ f (get_or xs i 0)
-part_more f xs i lt =
-    ap (flat_map f) (take_more xs i 0 lt)
-    ∙ (flat_map-append f (take i xs) (get_or xs i 0 ∷ [])
-    ∙ ap (λ t. flat_map f (take i xs) ++ t) (append-nil (f (get_or xs i 0))))
-
-pub stands_more : (xs : List ℕ) (i : ℕ) → i < length xs
-    → stands_for (take (i + 1) xs) ≡ stands_for (take i xs) ++ shown (printable (get_or xs i 0))
-stands_more xs i lt =
-    ap stands_for (take_more xs i 0 lt)
-    ∙ (ap escaped (map-append printable (take i xs) (get_or xs i 0 ∷ []))
-    ∙ (flat_map-append shown (map printable (take i xs)) (printable (get_or xs i 0) ∷ [])
-    ∙ ap (λ t. stands_for (take i xs) ++ t) (append-nil (shown (printable (get_or xs i 0))))))
-
 -- bytes that are no text in UTF-8 are told so
 pub not_utf8 : (bytes : List ℕ) → (IsUtf8 bytes → ⊥) → is_utf8 bytes ≡ false
 not_utf8 bytes none =

@@ -99,10 +99,6 @@ pub any-push : (only : Option ℕ) (front : List Numbered) (p : Numbered) → li
     → is_asked only p ≡ false → list_any (is_asked only) (front ++ p ∷ []) ≡ false
 any-push only front p h other = list_any-append (is_asked only) front (p ∷ []) ∙ rw (h, other) refl
 
-pub any-here : (only : Option ℕ) (front back : List Numbered) (p : Numbered) → is_asked only p ≡ true
-    → list_any (is_asked only) (front ++ p ∷ back) ≡ true
-any-here only front back p hit = list_any-append (is_asked only) front (p ∷ back) ∙ or_right _ _ (or_left _ _ hit)
-
 pub chosen-append : (only : Option ℕ) (front back : List Numbered) → chosen only (front ++ back) ≡ chosen only front
     ++ chosen only back
 chosen-append only front back = filter-append (λ q. number_is_chosen only q.number) front back

@@ -183,16 +183,6 @@ pub no_rows : LinesInTurn → (g : Geometry) (p : Placement) (s : LineStack) (ol
     old old
 no_rows turn g p s old = record { texts = []; rows = none_given turn g p s; wrote = Appends-nil old }
 
-pub row_given : LinesInTurn → (g : Geometry) (p : Placement) (start a b : LineStack) (count : ℕ) (texts row : List ℕ)
-    → RowsOf g p start a count texts → GivesFirst g a b → IsRow g p (reverse b.line) row
-    → RowsOf g p start b (count + 1) (texts ++ row)
-row_given turn g p start a b count texts row h first r = record {
-  given = h.given ++ reverse b.line ∷ [];
-  gives = turn.then g start a b h.given (reverse b.line ∷ []) h.gives first;
-  many = length-append h.given (reverse b.line ∷ []) ∙ ap (λ z. z + 1) h.many;
-  are = rows_more g p h.given (reverse b.line) texts row h.are r;
-}
-
 -- a row more, and its line is the last one
 pub row_taken : LinesInTurn → (g : Geometry) (p : Placement) (start a b : LineStack) (count : ℕ)
     (texts row new : List ℕ) (last : List Move) → RowsOf g p start a count texts → GivesFirst g a b

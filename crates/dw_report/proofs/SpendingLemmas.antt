@@ -19,11 +19,3 @@ counted_then a b c h k = record {
   same = k.same ∙ h.same;
 }
 
--- and after what went before
-pub counted_further : {M : Type 0} (a b c : Solving M) → a.expanded ≤ b.expanded → b.limit ≡ a.limit → Counted b c
-    → Counted a c
-counted_further a b c rises same h = record {
-  rises = omega (arith, rises, h.rises);
-  within = subst (λ z. c.expanded ≤ z) same h.within;
-  same = h.same ∙ same;
-}

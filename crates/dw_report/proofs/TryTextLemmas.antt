@@ -111,11 +111,6 @@ pub record TextTo (g : Geometry) (p : Placement) (n : ℕ) (verdict : Verdict) (
   pub are : AreTryLines g p (take i tries) lines
   pub joined : text ≡ line ++ lines
 
-pub text_first : (g : Geometry) (p : Placement) (n : ℕ) (verdict : Verdict) (tries : List (Move × Move))
-    (text : List ℕ) → IsVerdictText g p n verdict text → TextTo g p n verdict tries 0 text
-text_first g p n verdict tries text said =
-    record { line = text; lines = []; said = said; are = refl; joined = sym (append-nil text) }
-
 pub text_next : (g : Geometry) (p : Placement) (n : ℕ) (verdict : Verdict) (tries : List (Move × Move)) (i : ℕ)
     (t : Move × Move) (text one : List ℕ) → TextTo g p n verdict tries i text → i < length tries
     → t ≡ get_or tries i t → IsTryLine g p t one → TextTo g p n verdict tries (i + 1) (text ++ one)

@@ -30,11 +30,6 @@ dual_is g p n l cs k ds e f h = subst (λ (z : List Move). IsVerdict g p n (dual
 pub key_legal : (g : Geometry) (p : Placement) (n : ℕ) (m : Move) → IsVerdict g p n (sound m) → Legal g p m
 key_legal g p n m h = keys_legal g p n (m ∷ []) h.0.0 m (inl refl)
 
-pub unsolvable_made : (g : Geometry) (p : Placement) (n : ℕ) (digits text : List ℕ) → digits ≡ decimal n
-    → text ≡ codes "unsolvable in " ++ (digits ++ (codes "\n" ++ [])) → IsVerdictText g p n unsolvable text
-unsolvable_made g p n digits text d e = e ∙ (joined_3 (codes "unsolvable in ") digits (codes "\n")
-    ∙ ap (λ z. codes "unsolvable in " ++ z ++ codes "\n") d)
-
 pub sound_made : (g : Geometry) (p : Placement) (n : ℕ) (key : Move) (move digits one text : List ℕ)
     → IsMoveText g p key move → digits ≡ decimal n → one ≡ move
     → text ≡ codes "sound in " ++ (digits ++ (codes ": " ++ (one ++ (codes "\n" ++ []))))

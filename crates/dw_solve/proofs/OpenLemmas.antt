@@ -51,13 +51,6 @@ module _ {M G : Type 0} (g : Geometry) (content : M → Content) (lost : M → �
         k.work;
   }
 
-pub counted_looked : (a l b l' : ℕ) → a ≤ l → b ≡ a → l' ≡ l → IsCounted a l b l'
-counted_looked a l b l' low count limit = record {
-  rises = omega (arith, count);
-  within = omega (arith, count, low);
-  same = limit;
-}
-
 -- ---- replies one after another
 -- a search, in which of the replies below i these were put off, and the others answered
 pub record PutOff (g : Geometry) (q : Placement) (n : ℕ) (legal : List Move) (i : ℕ) (replies : List Move)
@@ -210,9 +203,6 @@ module _ (g : Geometry) (q : Placement) (n cut : ℕ) (ranked : List (ℕ × Mov
 -- ---- looks at the last move of the attacker
 abbrev pub AllKnown : Geometry → Content → Placement → List Move → ℕ → Type 0
 AllKnown g c q legal i = (k : ℕ) (r : Move) → k < i → r ≡ get_or legal k r → KnownWin c (play g q r) 1
-
-pub known_none : (g : Geometry) (c : Content) (q : Placement) (legal : List Move) → AllKnown g c q legal 0
-known_none g c q legal k r low e = absurd (omega (arith, low))
 
 pub known_more : (g : Geometry) (c : Content) (q : Placement) (legal : List Move) (i : ℕ) (r : Move)
     → AllKnown g c q legal i → i < length legal → r ≡ get_or legal i r → KnownWin c (play g q r) 1

@@ -150,9 +150,6 @@ some_first None n Q cases some = absurd (omega (arith, cases, some))
 pub none_below_none : (k : ℕ) → k < 0 → ⊥
 none_below_none k low = omega (arith, low)
 
-pub none_or_one : (n : ℕ) → n ≡ 0 → n ≡ 1 → ⊥
-none_or_one n none one = omega (arith, none, one)
-
 pub none_or_some : (n : ℕ) → n ≡ 0 → 1 ≤ n → ⊥
 none_or_some n none some = omega (arith, none, some)
 
@@ -170,9 +167,6 @@ one_spent a b c d e same more rises count = omega (arith, same, more, rises, cou
 
 pub same_within : (a l b l' : ℕ) → a ≤ l → b ≡ a → l' ≡ l → b ≤ l'
 same_within a l b l' low count limit = omega (arith, low, count, limit)
-
-pub room_for_replies : (n p : ℕ) → (0 < n → 2 * n + 1 ≤ p) → (n ≡ 0 → ⊥) → 1 ≤ p
-room_for_replies n p room some = omega (arith, room (omega (arith, some)))
 
 pub room_for_moves : (n p : ℕ) → 2 * n ≤ p → 1 ≤ n → 1 ≤ p
 room_for_moves n p room some = omega (arith, room, some)

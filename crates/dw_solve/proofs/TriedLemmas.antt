@@ -38,11 +38,6 @@ pub tried_none : (g : Geometry) (n : ℕ) (P : Content → Move → Type 0) (ran
     → Tried g n P ranked 0 a a
 tried_none g n P ranked a = (searched_none g n 0 a, λ kept. below_none (P a.content) ranked)
 
--- the same where something was done before
-pub tried_later : (g : Geometry) (n : ℕ) (P : Content → Move → Type 0) (ranked : List (ℕ × Move)) (a b : Moment)
-    → Searched g n 0 a b → Tried g n P ranked 0 a b
-tried_later g n P ranked a b w = (w, λ kept. below_none (P b.content) ranked)
-
 pub searched_after : (g : Geometry) (n cut : ℕ) (a b c : Moment) → Searched g n 0 a b → Searched g n cut b c
     → Searched g n cut a c
 searched_after g n cut a b c v w = let e : 0 + cut ≡ cut = omega arith in subst (λ z. Searched g n z a c) e

@@ -12,7 +12,7 @@ use dw_board::{Board, Eight, Ten};
 use dw_commands::Ending;
 use dw_desk_commands::run_on;
 use dw_notation::Reading;
-use dw_solve::Unwatched;
+use dw_solve::ByTrial;
 use std::alloc::Global;
 
 /// The program's name in its messages.
@@ -75,5 +75,5 @@ fn run_from<'a, B: Board, L: Limit>(
         return Ending::NotOpened(path);
     }
     let mut source = Reading::new(input);
-    run_on::<B, _, _, _>(alloc, Unwatched, args, &mut source, room)
+    run_on::<B, _, _, _>(alloc, ByTrial, args, &mut source, room)
 }

@@ -76,12 +76,6 @@ step_table = at_boards (λ r p. (d : Dir) → all_pass (row_passes (of r p) d) (
       refl
 ]) (elim [ UpLeft ↦ refl | UpRight ↦ refl | DownLeft ↦ refl | DownRight ↦ refl ])
 
-abbrev each_dir : (P : Dir → Type 0) → P UpLeft → P UpRight → P DownLeft → P DownRight → (d : Dir) → P d
-each_dir P a b c e UpLeft = a
-each_dir P a b c e UpRight = b
-each_dir P a b c e DownLeft = c
-each_dir P a b c e DownRight = e
-
 -- the place of each square is that square's
 place_table : (r p : ℕ) → r ≡ 2 * p → 2 ≤ p → p ≤ 5
     → all_pass (λ k. same (square_at (of r p) (bit (of r p) (suc k))) (Some (suc k))) (r * p)

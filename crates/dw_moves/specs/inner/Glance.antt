@@ -9,7 +9,7 @@ use Rattle.dw_board.specs.Geometry.{Geometry, step, OnBoard, Squares}
 use Rattle.dw_board.specs.Slides.{SlidesTo}
 use Rattle.dw_board.specs.Placement.{Placement, at, placed, other}
 use Rattle.dw_board.specs.Lists.{Member}
-use Rattle.dw_moves.specs.Moves.{IsForward, Quiet, Stands, play, In, ray}
+use Rattle.dw_moves.specs.Moves.{IsForward, Quiet, Stands, play, In, ray, Jump}
 use Rattle.dw_moves.specs.inner.Plain.{quiet_to, takes_for}
 use Rattle.dw_moves.specs.Replies.{HasSureReply}
 
@@ -46,10 +46,9 @@ MenMeet g men enemies occupied d c = MeetsBehind g men enemies occupied d 0 c
 abbrev pub KingsMeet : Geometry → Squares → Squares → Squares → Dir → ℕ → Type 0
 KingsMeet g kings enemies occupied d c = (n : ℕ) × MeetsBehind g kings enemies occupied d n c
 
--- a man on s can jump in this direction over one of these enemies, onto t
-abbrev pub JumpsTo : Geometry → Squares → Squares → ℕ → Dir → ℕ → Type 0
-JumpsTo g enemies occupied s d t =
-    (c : ℕ) × (step g s d ≡ Some c) × In c enemies × (step g c d ≡ Some t) × (In t occupied → ⊥)
+-- a jump in this direction
+abbrev pub JumpsTowards : Geometry → Placement → Piece → (from over to : ℕ) → Dir → Type 0
+JumpsTowards g p piece s c t d = (j : Jump g p piece s c t) × (j.dir ≡ d)
 
 -- a man meets an enemy in this direction, and the next square after it, t, is empty
 abbrev pub MenTake : Geometry → Squares → Squares → Squares → Dir → ℕ → Type 0

@@ -6,12 +6,13 @@ use Rattle.std.proofs.lemmas.Result.{on_ok_weaker}
 use Rattle.dw_board.specs.declared.piece.Piece.{Piece}
 use Rattle.dw_moves.specs.Order.{Listed}
 use Rattle.dw_board.specs.Geometry.{OnBoard}
-use Rattle.dw_moves.specs.Moves.{ray}
+use Rattle.dw_moves.specs.Moves.{Jump, ray}
 use Rattle.dw_moves.specs.inner.Plain.{landings_for}
 use Rattle.dw_moves.specs.inner.Walks.{GoesOn, Offers, onward, so_far}
 use Rattle.dw_moves.proofs.OfferLemmas.{offers_one, offers_late, offers_still}
 use Rattle.dw_moves.proofs.WalkLemmas.{walked_all, ends_there, landed_none, landed_more, landed_last, landed_stop}
 use Rattle.dw_moves.proofs.RunLemmas.{freed, ray_shorter}
+use Rattle.dw_moves.proofs.ManJumpLemmas.{not_in}
 use Rattle.dw_moves.proofs.SquareSetLemmas.{difference_less, len_more}
 use Rattle.dw_moves.proofs.StepLemmas.{step_is}
 use Rattle.dw_moves.proofs.WalkLemmas.{Onto, onto_towards, towards_none, towards_taken, same_listed_parts, goes_same}
@@ -56,7 +57,7 @@ walk_onto-returns-clause-kept g t c = λ p side path ground on.
           subst (λ z. Offers holds (λ l. l ≡ z) c.enter.new.self w.offer.new.self)
           (same_listed_parts this b w.ended.ensures refl) (offers_one this (w.in_ok-offer.ensures.kept here on1)) in
           subst (λ z. Offers holds E c.enter.new.self z) (sym w.keeper-is) (ends_there (λ x u fresh jump.
-          true≢false (sym (c.goes_on.ensures p side x u ground fresh jump) ∙ w.if-goes_on.false)) last)
+          c.requires.ends w.if-goes_on.false p side x u ground fresh jump) last)
     ] in
     offers_still (offers_late c.enter.ensures.same done) c.leave.ensures.same
 
@@ -114,7 +115,19 @@ walk_towards-walk_onto-requires g t c κs within =
                   omega (arith, less, left, count, few),
                   (
                     omega (arith, more, count, counted),
-                    (path.0, (c.landings.invariant.path path.0 path.1.0, path.1.1 ∙ sym count)),
+                    (
+                      (path.0, (c.landings.invariant.path path.0 path.1.0, path.1.1 ∙ sym count)),
+                      λ no p side x u ground fresh jump.
+                          let free = (freed geo g.met.B.Board.numbers p c.landings.at c.args.direction
+                          c.in-Some-free_step.landing c.landings.invariant.on
+                          (sym (c.free_step.ensures.free p ground.of_all) ∙ c.in-Some-free_step.is)).free in
+                          let starts = c.jump_starts-starts.ensures p side c.in-Some-free_step.landing x u ground on
+                          (not_in geo p c.args.field.now.occupied c.in-Some-free_step.landing ground.of_all free)
+                          (ap (λ v. fin.contains v x) (c.with.ensures ∙ sym c.onto.ensures.taken) ∙ fresh)
+                          (subst (λ z. Jump geo p (record { side = side; kind = g.M.Mover.as_kind }) z x u)
+                          c.onto.ensures.at jump) in
+                          true≢false (sym starts ∙ (sym c.has-in-Some-free_step.ensures ∙ no)),
+                    ),
                   ),
                 ),
               ),

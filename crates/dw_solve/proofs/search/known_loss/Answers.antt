@@ -4,7 +4,7 @@ use Rattle.dw_moves.specs.inner.MoveLemmas.{listed_is_legal}
 use Rattle.dw_solve.specs.inner.Searching.{IsLookedUp, IsKnown}
 use Rattle.dw_solve.specs.Facts.{KnownWin, IsDecided}
 use Rattle.dw_solve.proofs.MemoLemmas.{same_win}
-use Rattle.dw_solve.proofs.OpenLemmas.{looked_none, looked_then, known_none, known_more, known_all, known_refuted}
+use Rattle.dw_solve.proofs.OpenLemmas.{looked_none, looked_then, known_more, known_all, known_refuted}
 use Rattle.dw_solve.proofs.OpenLemmas.{not_all_known, flip}
 use Rattle.dw_solve.proofs.search.known_loss.Goals as goal
 

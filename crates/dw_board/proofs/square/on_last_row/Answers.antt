@@ -2,7 +2,7 @@ use Rattle.std.proofs.Common.{◌≡◌, ◌*◌, ◌∙◌, sym, ap, arith}
 use Rattle.dw_board.specs.Geometry.{squares}
 use Rattle.dw_board.specs.Placement.{on_last_row}
 use Rattle.dw_board.proofs.StepLemmas.{row_fits, in_last_row}
-use Rattle.dw_board.proofs.position.on_last_row.Goals as goal
+use Rattle.dw_board.proofs.square.on_last_row.Goals as goal
 
 pub behind-requires : goal.behind-requires
 behind-requires g c =
