@@ -66,4 +66,3 @@ seeks_more g old s new m t seeks candidate apart is f outer moves e =
             none
       ],
     )
-

@@ -59,4 +59,3 @@ written_more mark squares rest i s text new h low is small e = record {
   short = let long = ap length e in let a = length-append (text ++ mark ∷ []) (decimal s) in let b = length-append text
       (mark ∷ []) in omega (arith, long, a, b, h.short, small);
 }
-

@@ -18,4 +18,3 @@ counted_then a b c h k = record {
   within = subst (λ z. c.expanded ≤ z) h.same k.within;
   same = k.same ∙ h.same;
 }
-
