@@ -1,3 +1,4 @@
 pub mod EffectLemmas
 pub mod TextLemmas
 pub mod LawLemmas
+pub mod LaterLemmas

@@ -1,5 +1,6 @@
 pub mod FirstMoves
 pub mod FirstMovesText
+pub mod Later
 pub mod Telling
 pub mod Laws
 pub mod inner

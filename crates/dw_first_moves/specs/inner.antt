@@ -1,3 +1,4 @@
 -- What only relates the code to the definitions: no contract of a public call names it.
 pub mod EffectCodes
 pub mod EffectMoves
+pub mod LaterMoves

@@ -8,8 +8,10 @@
 mod effects;
 pub mod first_move;
 pub mod first_moves;
+pub mod later;
 pub mod laws;
 pub mod text;
 
 pub use first_move::{Effect, FirstMove, FirstMoves};
+pub use later::{LaterBounds, later_wins};
 pub use text::first_moves_text;
