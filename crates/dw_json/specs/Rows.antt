@@ -30,6 +30,10 @@ texts all = array (items_of (map string all))
 abbrev pub pairs : List (List ℕ × List ℕ) → Json
 pairs all = array (items_of (map (λ pair. texts (pair.0 ∷ pair.1 ∷ [])) all))
 
+-- an array of pairs of a text and a number
+abbrev pub counts : List (List ℕ × ℕ) → Json
+counts all = array (items_of (map (λ pair. array (items_of (string pair.0 ∷ count pair.1 ∷ []))) all))
+
 -- an array of objects
 abbrev pub objects : List (List Member) → Json
 objects all = array (items_of (map (λ members. object (members_of members)) all))

@@ -1,9 +1,9 @@
 //! Rows, and the members that are numbers, texts, and arrays of texts.
 ghost use Rattle.std.specs.Prelude.{◌≡◌, ◌++◌, ◌∷◌, [], List, map, IfOk, OnOk};
 ghost use Rattle.std.specs.String.{string_bytes};
-ghost use Rattle.json.specs.Json.{boolean, string};
+ghost use Rattle.json.specs.Json.{array, boolean, string};
 ghost use Rattle.json.specs.Print.{print};
-ghost use Rattle.dw_json.specs.Rows.{Member, count, pairs, row as row_of, texts};
+ghost use Rattle.dw_json.specs.Rows.{Member, count, counts, items_of, pairs, row as row_of, texts};
 ghost use Rattle.dw_json.specs.Writing.{IsBegun, Writes, WritesMembers};
 ghost use Rattle.json.specs.Tree.{json_tokens};
 
@@ -96,5 +96,29 @@ fn put_pair(row: &mut Writer, pair: &(String, String)) -> Result<(), AllocError>
     row.begin_array()?;
     row.string(pair.0.as_str())?;
     row.string(pair.1.as_str())?;
+    row.end_array()
+}
+
+/// Writes a member with an array of pairs of a text and a number.
+pub fn put_counts(row: &mut Writer, name: &str, all: &[(String, u8)]) -> Result<(), AllocError>
+    ensures { OnOk result (WritesMembers
+        ((name.now, counts (map (λ pair. (string_bytes pair.0, pair.1)) all.now)) ∷ []) row.old row.new) }
+{
+    row.key(name)?;
+    row.begin_array()?;
+    'pairs: for pair in all {
+        put_count(row, pair)?;
+    }
+    row.end_array()
+}
+
+/// Writes a pair of a text and a number.
+fn put_count(row: &mut Writer, pair: &(String, u8)) -> Result<(), AllocError>
+    ensures { OnOk result (Writes
+        (json_tokens (array (items_of (string (string_bytes pair.now.0) ∷ count pair.now.1 ∷ [])))) row.old row.new) }
+{
+    row.begin_array()?;
+    row.string(pair.0.as_str())?;
+    row.u64(pair.1.into())?;
     row.end_array()
 }
