@@ -9,9 +9,11 @@ mod effects;
 pub mod first_move;
 pub mod first_moves;
 pub mod later;
+pub mod later_text;
 pub mod laws;
 pub mod text;
 
 pub use first_move::{Effect, FirstMove, FirstMoves};
 pub use later::{LaterBounds, later_wins};
+pub use later_text::{later_lines, later_texts};
 pub use text::first_moves_text;

@@ -8,4 +8,6 @@ pub mod objects;
 pub mod row;
 
 pub use objects::{PutObject, put_objects};
-pub use row::{begin_row, end_row, put_counts, put_flag, put_number, put_pairs, put_text, put_texts};
+pub use row::{
+    begin_row, end_row, put_counts, put_flag, put_number, put_pairs, put_text, put_texts,
+};
