@@ -37,6 +37,7 @@ pub record AsksFind (options : List Row) (query : FindArgs) : Type 0 where
   pub each : query.each ≡ each_option options
   pub json : query.json ≡ flag_option options (codes "json")
   pub solution : query.solution ≡ flag_option options (codes "solution")
+  pub later : query.later ≡ number_option 1 19 options (codes "later")
 
 -- the request of `check`
 pub record AsksCheck (options : List Row) (query : CheckArgs) : Type 0 where
