@@ -42,6 +42,12 @@ FINDS = [
      "try 10-5 refuted by 13-18\n"),
     (["-n", "2"], "W:W32:B28", "problem 1: W:W32:B28\ncooked in 2, shortest 1: 32x23\n"),
     (["--most", "2"], "W:W32:B28", "problem 1: W:W32:B28\nsound in 1: 32x23\n"),
+    (["--later", "1"], "W:W28,31,36,39:B33", "problem 1: W:W28,31,36,39:B33\nsound in 2: 31-27\n"
+     "try 28-22 refuted by 33x44\ntry 28-23 refuted by 33x44\ntry 39-34 refuted by 33x22\nlater 39-34 in 3\n"),
+    (["--later", "1", "-n", "3"], "W:W28,31,36,39:B33", "problem 1: W:W28,31,36,39:B33\ncooked in 3, shortest 2: "
+     "31-27, 39-34\ntry 28-22 refuted by 33x44\ntry 28-23 refuted by 33x44\n"),
+    (["--later", "19", "-n", "1"], "W:W27:B16", "problem 1: W:W27:B16\nunsolvable in 1\ntry 27-21 refuted by 16x27\n"
+     "try 27-22 refuted by 16-21\n"),
 ]
 # Options, a problem, and its line of JSON.
 ROWS = [
@@ -69,6 +75,12 @@ ROWS = [
     (["-n", "4", "--each", "3"], "W:W27,45:B16", '{"problem":11,"fen":"W:W27,45:B16","verdict":"undecided",'
      '"no_win_in":1}'),
     (["-n", "3", "--solution"], "W:W3:B20", '{"problem":12,"refused":"1 fen: 7 last row at 4"}'),
+    (["--later", "1"], "W:W28,31,36,39:B33", '{"problem":13,"fen":"W:W28,31,36,39:B33","n":2,"verdict":"sound",'
+     '"keys":["31-27"],"tries":[["28-22","33x44"],["28-23","33x44"],["39-34","33x22"]],"later":[["39-34",3]]}'),
+    (["--later", "2", "--solution"], "W:W32:B28", '{"problem":14,"fen":"W:W32:B28","n":1,"verdict":"sound",'
+     '"keys":["32x23"],"tries":[],"more":false,"moves":[{"depth":1,"move":"32x23","fen":"B:W23:B"}],"later":[]}'),
+    (["--later", "2", "--each", "3"], "W:W27,45:B16", '{"problem":15,"fen":"W:W27,45:B16","verdict":"undecided",'
+     '"no_win_in":1}'),
 ]
 TWO = "W:W27,32:B18"
 # A position, its movetext, options, the status and what is written behind the first line.
@@ -129,7 +141,8 @@ def told(row):
         lines["dual"] = f": {row['at']} {turn}. {' / '.join(row['choices'])}"
         assert row["at"].split()[1:2] == row["keys"], row
     tries = "".join(f"try {move} refuted by {reply}\n" for move, reply in row["tries"])
-    return f"{first}{verdict} in {row['n']}{lines[verdict]}\n{tries}"
+    later = "".join(f"later {move} in {moves}\n" for move, moves in row.get("later", []))
+    return f"{first}{verdict} in {row['n']}{lines[verdict]}\n{tries}{later}"
 
 
 def check_findings(rows, count, source, folder):
@@ -265,7 +278,7 @@ def check_rows(folder):
 def check_errors():
     """Arguments that are none, a file that is not there, and one that can not be written."""
     for words in (["find", "--most", "0"], ["find", "--most", "21"], ["find", "--each", "0"], ["find", "-n", "0"],
-                  ["find", "-n", "2", "--most", "3"], ["find", "--solution"], ["find", "-n", "2", "--solution"],
+                  ["find", "-n", "2", "--most", "3"], ["find", "--later", "0"], ["find", "--later", "20"], ["find", "--solution"], ["find", "-n", "2", "--solution"],
                   ["find", "--problem", "2-1"], ["find", "--problem", "0"], ["find", "--problem", "1-"],
                   ["find", "--problem", "1000001"], ["find", "--problem", "a"], ["find", "a", "b"], ["seek"],
                   ["token"], ["token", "--line", "x", "--problem", "1-2"], ["check", "-n", "21"],

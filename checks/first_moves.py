@@ -6,7 +6,8 @@
 For random small positions (30 on each board by default), within 1, 2 or 3 moves, the recursion of judging.py finds for
 each legal move the least number of moves in which it wins, or all replies that refute it. The output must be the same,
 in the same order, with the same count, with each cache, as text and as JSON. The parts joined must be the whole, and
-the winning moves the keys of `dw judge`. The errors of the command come last.
+the winning moves the keys of `dw judge`. `find --later` must list those moves that win later than the keys, in words and
+in JSON. The errors of the command come last.
 """
 import json
 import pathlib
@@ -19,7 +20,7 @@ from wins import drawn
 
 TOP = pathlib.Path(__file__).resolve().parent.parent
 DW, DESK = TOP / "dw", TOP / "dw-desk"
-SEED, MOST, MOST_PARTS = 61, 3, 4
+SEED, MOST, MOST_PARTS, MOST_LATER = 61, 3, 4, 2
 ROW = "W:W27,32:B18\n"
 MEMOS = [[], ["--memo", "none"], ["--memo", "lru", "--cache", "20"], ["--memo", "slots", "--cache", "50"]]
 
@@ -112,6 +113,30 @@ def check_random(rows, count):
           flush=True)
 
 
+def check_later(rows, count):
+    source, board = random.Random(SEED * rows), Board(rows)
+    asked = told = 0
+    while asked < count:
+        cells, turn = drawn(source, board), source.choice("WB")
+        problems, more = Problems(board), source.randint(1, MOST_LATER)
+        try:
+            n = next((k for k in range(1, MOST) if problems.wins(cells, turn, k)), None)
+            if n is None:
+                continue
+            found = effects(problems, cells, turn, n + more)
+        except TooMany:
+            continue
+        later = [(name, least) for name, _, least, _ in found if least is not None and least > n]
+        words, text = ["find", "--most", str(MOST), "--board", str(rows)], fen(cells, turn) + "\n"
+        lines = "".join(f"later {name} in {least}\n" for name, least in later)
+        written = run(DESK, [*words, "--later", str(more), *MEMOS[asked % len(MEMOS)]], text)
+        assert written == run(DESK, words, text) + lines, (text, more, written, lines)
+        row, alone = (json.loads(run(DESK, [*words, "--json", *own], text)) for own in (["--later", str(more)], []))
+        assert row == {**alone, "later": [list(one) for one in later]} and list(row)[-1] == "later", (text, more, row)
+        asked, told = asked + 1, told + len(later)
+    print(f"{rows} rows: {told} first moves of {count} positions win later", flush=True)
+
+
 def check_rows():
     assert run(DESK, ["moves", "-n", "2"], ROW) == (
         "problem 1: W:W27,32:B18\n27-21 refuted by 18-22, 18-23\n27-22 refuted by 18x38\n32-28 wins in 2\n1 of 3 win\n")
@@ -143,6 +168,7 @@ def main():
     check_rows()
     for rows in (10, 8):
         check_random(rows, count)
+        check_later(rows, count)
 
 
 if __name__ == "__main__":

@@ -22,8 +22,8 @@ _dw_desk() {
     done
     case $command in
         find)
-            options="-n --board --pdn --problem --most --each --json --solution --memo --cache --progress -h"
-            options="$options --help"
+            options="-n --board --pdn --problem --most --each --later --json --solution --memo --cache --progress"
+            options="$options -h --help"
             ;;
         check) options="-n --board --pdn --problem --faults --json --memo --cache --progress -h --help" ;;
         solution) options="-n --board --pdn --problem --most --lines --json --memo --cache --progress -h --help" ;;
@@ -45,7 +45,7 @@ _dw_desk() {
         --lang) COMPREPLY=($(compgen -W "en nl fr ru" -- "$current")) && return ;;
         --solutions) COMPREPLY=($(compgen -W "after end none" -- "$current")) && return ;;
         --tries) COMPREPLY=($(compgen -W "none all" -- "$current")) && return ;;
-        -n | --problem | --most | --each | --part | --lines | --cache | --line | --title) return ;;
+        -n | --problem | --most | --each | --later | --part | --lines | --cache | --line | --title) return ;;
     esac
     case $command:$current in
         *:-*) COMPREPLY=($(compgen -W "$options" -- "$current")) ;;

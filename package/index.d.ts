@@ -47,6 +47,8 @@ export interface Judged extends Shown {
     at?: string;
     choices?: string[];
     tries: [move: string, refutation: string][];
+    /** Where it is asked for, and with a win: the first moves that win later. */
+    later?: [move: string, moves: number][];
 }
 
 export interface Undecided extends Shown {
@@ -142,9 +144,9 @@ export class Desk {
         Promise<{ status: number; reason: number; report: string; message: string }>;
     show(problems: Problems, options?: CallOptions): Promise<(Shown | Refused)[]>;
     legal(problems: Problems, options?: CallOptions): Promise<(LegalMoves | Refused)[]>;
-    find(problems: Problems, options?: CallOptions & Bounded & { most?: number }):
+    find(problems: Problems, options?: CallOptions & Bounded & { most?: number; later?: number }):
         Promise<(Judged | Undecided | Refused)[]>;
-    judge(problems: Problems, options: CallOptions & Bounded & { n: number }):
+    judge(problems: Problems, options: CallOptions & Bounded & { n: number; later?: number }):
         Promise<(Judged | Undecided | Refused)[]>;
     check(pdn: string | Uint8Array, options?: CallOptions & { n?: number; faults?: boolean }):
         Promise<(Checked | SolutionRefused | Refused)[]>;

@@ -1,11 +1,12 @@
 -- The output of `find` for a position.
-use Rattle.std.specs.Prelude.{◌≡◌, ℕ, Bool, true, false, Ok, Err, Option, Some, None, List, MatchBool}
+use Rattle.std.specs.Prelude.{◌≡◌, ℕ, Bool, true, false, Ok, Err, Option, Some, None, List, ◌++◌, MatchBool}
 use Rattle.std.specs.Prelude.{IsSomeAnd}
 use Rattle.dw_arguments.specs.declared.desk_options.TheConstants.{USUAL_LINES}
 use Rattle.dw_arguments.specs.declared.find.FindArgs.{FindArgs}
 use Rattle.dw_board.specs.Geometry.{Geometry}
 use Rattle.dw_board.specs.Placement.{Placement}
 use Rattle.dw_desk_commands.specs.FindJson.{IsFoundRow}
+use Rattle.dw_desk_commands.specs.FindLater.{HasLater, lines_of, won_in}
 use Rattle.dw_report.specs.JsonRows.{refused_row}
 use Rattle.dw_desk_commands.specs.ProblemText.{IsProblemText}
 use Rattle.dw_desk_commands.specs.Solution.{AreFirstLines}
@@ -30,10 +31,11 @@ abbrev pub IsFound : Geometry → FindArgs → (expanded : ℕ) → Placement �
 IsFound g query expanded p finding =
     IsFinding g p query.is_least query.moves.value finding × MayStayOpen query.each expanded finding
 
--- the text of a finding; the problem counts as refused if it stays undecided
+-- the text of a finding, and the lines of later wins; the problem counts as refused if it stays undecided
 abbrev pub SaysFound : Geometry → FindArgs → (expanded : ℕ) → Placement → (refused : Bool) → List ℕ → Type 0
-SaysFound g query expanded p refused text = (finding : Finding) × IsFound g query expanded p finding
-    × (refused ≡ is_open finding) × IsFoundText g p finding text
+SaysFound g query expanded p refused text = (finding : Finding) × (found : List ℕ) × (later : Option (List (List ℕ × ℕ)))
+    × IsFound g query expanded p finding × (refused ≡ is_open finding) × IsFoundText g p finding found
+    × HasLater g p (won_in finding) query.later later × (text ≡ found ++ lines_of later)
 
 -- the first lines of the solution for a finding: those within the number of moves at which the position is judged, or
 -- none if it stays undecided
@@ -49,8 +51,9 @@ HasSolution g query p finding solution =
 -- the row of JSON for a problem; it counts as refused if it is refused, or if it stays undecided
 abbrev pub IsJsonOf : Geometry → FindArgs → (expanded number : ℕ) → Found → (refused : Bool) → List ℕ → Type 0
 IsJsonOf g query expanded number (Ok p) refused text = (finding : Finding) × (solution : Option LinesFrom)
-    × IsFound g query expanded p finding × (refused ≡ is_open finding)
-    × HasSolution g query p finding solution × IsFoundRow g number p finding solution text
+    × (later : Option (List (List ℕ × ℕ))) × IsFound g query expanded p finding × (refused ≡ is_open finding)
+    × HasSolution g query p finding solution × HasLater g p (won_in finding) query.later later
+    × IsFoundRow g number p finding solution later text
 IsJsonOf g query expanded number (Err fault) refused text = (refused ≡ true) × (text ≡ refused_row number fault)
 
 -- the output for a problem after a number of expansions for it: a text, or a row of JSON

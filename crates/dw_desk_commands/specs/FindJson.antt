@@ -5,6 +5,7 @@ use Rattle.dw_arguments.specs.declared.desk_options.TheConstants.{USUAL_LINES}
 use Rattle.dw_board.specs.FenText.{written}
 use Rattle.dw_board.specs.Geometry.{Geometry}
 use Rattle.dw_board.specs.Placement.{Placement}
+use Rattle.dw_desk_commands.specs.FindLater.{member_of}
 use Rattle.dw_json.specs.Rows.{Member, count, pairs, row, texts}
 use Rattle.dw_report.specs.MoveTexts.{AreChoices, AreKeyTexts, AreTryTexts}
 use Rattle.dw_rows.specs.SolutionRow.{AreLineMembers}
@@ -50,8 +51,10 @@ abbrev pub AreSolutionMembers : Geometry → Option LinesFrom → List Member �
 AreSolutionMembers g None members = members ≡ []
 AreSolutionMembers g (Some first) members = AreLineMembers g first USUAL_LINES members
 
--- the row of a position and its finding, and after that the first lines of its solution if they are there
-abbrev pub IsFoundRow : Geometry → (problem : ℕ) → Placement → Finding → Option LinesFrom → List ℕ → Type 0
-IsFoundRow g problem p finding solution text = (members : List Member) × (more : List Member)
+-- the row of a position and its finding; after that the first lines of its solution and later wins, if they are there
+abbrev pub IsFoundRow : Geometry → (problem : ℕ) → Placement → Finding → Option LinesFrom
+    → Option (List (List ℕ × ℕ)) → List ℕ → Type 0
+IsFoundRow g problem p finding solution later text = (members : List Member) × (more : List Member)
     × AreFound g p finding members × AreSolutionMembers g solution more
-    × (text ≡ row ((codes "problem", count problem) ∷ (codes "fen", string (written g p)) ∷ members ++ more))
+    × (text ≡ row ((codes "problem", count problem) ∷ (codes "fen", string (written g p)) ∷ members ++ more
+    ++ member_of later))

@@ -5,6 +5,7 @@ pub mod Commands
 pub mod Ending
 pub mod Find
 pub mod FindJson
+pub mod FindLater
 pub mod Mend
 pub mod Moves
 pub mod Page

@@ -2,6 +2,7 @@
 pub mod Choosing
 pub mod Comparing
 pub mod Faults
+pub mod LaterTold
 pub mod NextGame
 pub mod Searching
 pub mod Standing

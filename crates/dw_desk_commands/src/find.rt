@@ -1,9 +1,11 @@
 //! The command `find`: the verdict on each problem, at the least number of moves within which it is won or at a given
 //! number.
-ghost use Rattle.std.specs.Prelude.{◌≡◌, ◌≤◌, ◌-◌, ◌++◌, ⊤, not, true, IfOk, IsErrOf};
+ghost use Rattle.std.specs.Prelude.{◌≡◌, ◌≤◌, ◌-◌, ◌++◌, ⊤, not, option_map, true, IfOk, IsErrOf};
 ghost use Rattle.std.specs.String.{string_bytes};
 ghost use Rattle.dw_desk_commands.specs.Find.{HasSolution, IsFindOf, IsFound, IsJsonOf, SaysFound, is_open};
+ghost use Rattle.dw_desk_commands.specs.FindLater.{HasLater, lines_of, won_in};
 ghost use Rattle.dw_desk_commands.specs.ProblemText.{IsProblemText};
+ghost use Rattle.dw_desk_commands.specs.inner.LaterTold.{later_told};
 ghost use Rattle.dw_desk_commands.specs.inner.Searching.{IsBounded};
 ghost use Rattle.dw_games.specs.Games.{problem_of};
 ghost use Rattle.dw_notation.specs.Problems.{numbered};
@@ -17,13 +19,17 @@ use crate::reporting::MakesText;
 use crate::solution::lines_within;
 use dw_arguments::{FindArgs, USUAL_LINES};
 use dw_board::{Board, Position};
+use dw_first_moves::{LaterBounds, later_lines, later_texts, later_wins};
 use dw_games::Game;
 use dw_notation::Problem;
 use dw_report::{Stop, refused_line};
 use dw_solution::FirstLines;
 use dw_solve::Guide;
+use dw_stipulation::MoveCount;
 use dw_study::find::find;
 use dw_study::{FindBounds, Finding, found_text};
+use dw_verdict::Verdict;
+use std::alloc::{AllocError, Global};
 
 impl<B: Board> MakesText<B, bool> for FindArgs {
     ghost says = { λ query expanded game. IsFindOf B.geometry query expanded (problem_of game) };
@@ -69,8 +75,12 @@ fn words_of<B: Board, G: Guide<B>>(
         return Ok((String::new(desk.alloc), true));
     };
     let finding = search(desk, query, problem.number, position)?;
+    let later = later_of(desk, query, position, &finding)?;
     let text = found_text(desk.alloc, position, &finding)?;
-    Ok((text, is_undecided(&finding)))
+    Ok((
+        with_later(desk.alloc, text, &later)?,
+        is_undecided(&finding),
+    ))
 }
 
 /// Makes the line of JSON of one problem, and returns whether it was refused or stayed undecided.
@@ -90,7 +100,8 @@ fn json_of<B: Board, G: Guide<B>>(
         Ok(position) => {
             let finding = search(desk, query, number, position)?;
             let solution = solution_lines(desk, query, position, &finding)?;
-            let line = found_line(desk.alloc, number, position, &finding, &solution)?;
+            let later = later_of(desk, query, position, &finding)?;
+            let line = found_line(desk.alloc, number, position, &finding, &solution, &later)?;
             Ok((line, is_undecided(&finding)))
         }
         Err(fault) => Ok((refused_line(desk.alloc, number, *fault)?, true)),
@@ -120,6 +131,56 @@ fn solution_lines<B: Board, G: Guide<B>>(
         }
         Finding::Undecided { .. } => Ok(None),
     }
+}
+
+/// Makes the texts of the first moves that win later, if they are asked for and there is a win.
+fn later_of<B: Board, G: Guide<B>>(
+    desk: &mut Desk<B, G>,
+    query: &FindArgs,
+    position: &Position<B>,
+    finding: &Finding<B>,
+) -> Result<Option<Vec<(String, u8)>>, Stop>
+    ensures later { IfOk result (λ later. HasLater B.geometry position.now (won_in (told_by finding.now))
+        query.now.later (later_told later)) }
+    ensures same { is_open (told_by finding.now) ≡ true → desk.new.solver.expanded ≡ desk.old.solver.expanded }
+    ensures counts { desk.old.solver.expanded ≤ desk.new.solver.expanded }
+    ensures stop { IsErrOf result Limit → desk.new.solver.expanded ≡ u64.MAX }
+{
+    let (Some(moves), Some(more)) = (won_in(finding), query.later) else {
+        return Ok(None);
+    };
+    let bounds = LaterBounds::new(moves, more);
+    let later = later_wins(desk.alloc, &mut desk.solver, position, bounds)?;
+    let texts = later_texts(desk.alloc, position, later.as_slice())?;
+    Ok(Some(texts))
+}
+
+/// Returns the number of moves at which a position was judged, if there is a win.
+fn won_in<B: Board>(finding: &Finding<B>) -> Option<MoveCount>
+    ensures { option_map (λ moves. moves.value) result ≡ won_in (told_by finding.now) }
+{
+    match finding {
+        Finding::Judged { moves, judged } => match &judged.verdict {
+            Verdict::Unsolvable => None,
+            Verdict::Cooked { .. } | Verdict::Dual { .. } | Verdict::Sound { .. } => Some(*moves),
+        },
+        Finding::Undecided { .. } => None,
+    }
+}
+
+/// Adds the lines of later wins to a text, if they are there.
+fn with_later(
+    alloc: Global,
+    mut text: String,
+    later: &Option<Vec<(String, u8)>>,
+) -> Result<String, AllocError>
+    ensures { IfOk result (λ whole. string_bytes whole ≡ string_bytes text ++ lines_of (later_told later.now)) }
+{
+    if let Some(texts) = later {
+        let lines = later_lines(alloc, texts.as_slice())?;
+        text.push_str(lines.as_str())?;
+    }
+    Ok(text)
 }
 
 /// Returns whether it stays open whether there is a win.

@@ -4,6 +4,8 @@ ghost use Rattle.std.specs.String.{string_bytes};
 ghost use Rattle.json.specs.Json.{string};
 ghost use Rattle.dw_desk_commands.specs.FindJson.{AreAfterKeys, AreFound, AreSolutionMembers, IsFoundRow};
 ghost use Rattle.dw_desk_commands.specs.FindJson.{before_keys, verdict_word};
+ghost use Rattle.dw_desk_commands.specs.FindLater.{member_of};
+ghost use Rattle.dw_desk_commands.specs.inner.LaterTold.{later_told};
 ghost use Rattle.dw_json.specs.Rows.{Member, count};
 ghost use Rattle.dw_json.specs.Writing.{WritesMembers};
 ghost use Rattle.dw_verdict.specs.Judging.{said_by};
@@ -13,7 +15,7 @@ ghost use Rattle.dw_study.specs.Telling.{told_by};
 
 use dw_arguments::USUAL_LINES;
 use dw_board::{Board, Position, fen_text};
-use dw_json::{begin_row, end_row, put_number, put_pairs, put_text, put_texts};
+use dw_json::{begin_row, end_row, put_counts, put_number, put_pairs, put_text, put_texts};
 use dw_report::{dual_texts, key_texts, try_texts};
 use dw_rows::put_lines;
 use dw_solution::FirstLines;
@@ -22,25 +24,39 @@ use dw_verdict::{Judged, Verdict};
 use json::Writer;
 use std::alloc::{AllocError, Global};
 
-/// Makes the row of a position and of the result of the search, with the first lines of the solution if they are there.
+/// Makes the row of a position and of the result of the search, with the first lines of the solution and the texts of
+/// later wins if they are there.
 pub(crate) fn found_line<B: Board>(
     alloc: Global,
     number: u32,
     position: &Position<B>,
     finding: &Finding<B>,
     solution: &Option<FirstLines<B>>,
+    later: &Option<Vec<(String, u8)>>,
 ) -> Result<String, AllocError>
     requires { (is_least : Bool) × (moves : ℕ)
         × IsFinding B.geometry position.now is_least moves (told_by finding.now) }
     ensures { IfOk result (λ line.
-        IsFoundRow B.geometry number position.now (told_by finding.now) solution.now (string_bytes line)) }
+        IsFoundRow B.geometry number position.now (told_by finding.now) solution.now (later_told later.now)
+        (string_bytes line)) }
 {
     let mut row = begin_row(alloc)?;
     put_number(&mut row, "problem", number.into())?;
     put_text(&mut row, "fen", fen_text(position).as_str())?;
     put_found(alloc, &mut row, position, finding)?;
     put_solution(alloc, &mut row, solution)?;
+    put_later(&mut row, later)?;
     end_row(row)
+}
+
+/// Writes the member for later wins, if they are there.
+fn put_later(row: &mut Writer, later: &Option<Vec<(String, u8)>>) -> Result<(), AllocError>
+    ensures { OnOk result (WritesMembers (member_of (later_told later.now)) row.old row.new) }
+{
+    match later {
+        Some(texts) => put_counts(row, "later", texts.as_slice()),
+        None => Ok(()),
+    }
 }
 
 /// Writes the members for the first lines of the solution, if they are there.
