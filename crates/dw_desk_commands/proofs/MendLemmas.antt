@@ -1,7 +1,7 @@
 -- What stands written of neighbours after a fault.
-use Rattle.std.proofs.Common.{◌≡◌, ◌⊎◌, ◌∙◌, ◌-◌, ◌++◌, ◌==◌, ℕ, cond, not, Option, List, [], Ok, inl, inr, refl}
-use Rattle.std.proofs.Common.{sym, ap}
-use Rattle.std.proofs.Common.{append-nil, subst}
+use Rattle.std.proofs.Common.{◌≡◌, ◌⊎◌, ◌-◌, ◌++◌, ◌==◌, ℕ, cond, not, List, [], Ok, inl, inr, refl}
+use Rattle.std.proofs.Common.{sym}
+use Rattle.std.proofs.Common.{subst}
 use Rattle.dw_arguments.specs.declared.mend.MendArgs.{MendArgs}
 use Rattle.dw_board.specs.Geometry.{Geometry}
 use Rattle.dw_board.specs.Placement.{Placement}

@@ -1,5 +1,5 @@
 -- The effect of `mend` on a problem.
-use Rattle.std.specs.Prelude.{◌≡◌, ℕ, ◌++◌, Bool, true, if◌then◌else◌, not, ◌==◌, Ok, Err, List, []}
+use Rattle.std.specs.Prelude.{◌≡◌, ℕ, ◌++◌, Bool, true, if◌then◌else◌, not, ◌==◌, Ok, Err, List}
 use Rattle.dw_arguments.specs.declared.mend.MendArgs.{MendArgs}
 use Rattle.dw_board.specs.Geometry.{Geometry}
 use Rattle.dw_board.specs.Placement.{Placement}

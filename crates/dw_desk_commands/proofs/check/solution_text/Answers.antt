@@ -1,4 +1,4 @@
-use Rattle.std.proofs.Common.{◌≡◌, ◌∙◌, ℕ, List, [], map, not, refl, sym, ap, subst}
+use Rattle.std.proofs.Common.{◌≡◌, ◌∙◌, [], map, not, sym, ap, subst}
 use Rattle.std.specs.Prelude.{MatchBool}
 use Rattle.dw_notation.specs.Problems.{numbered}
 use Rattle.dw_study.specs.Telling.{remark_in}

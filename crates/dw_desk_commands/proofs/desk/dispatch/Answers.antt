@@ -1,7 +1,6 @@
 use Rattle.std.proofs.Common.{◌≡◌, ◌-◌, ℕ, List, [], Option, ap, false, sym, subst}
 use Rattle.std.proofs.lemmas.Result.{IfErr-weaker, err_from_is_err_and}
 use Rattle.std.specs.Borrow.{Bor}
-use Rattle.dw_commands.specs.declared.ending.Ending.{Ending}
 use Rattle.dw_desk_commands.specs.Certify.{IsCertifyOf}
 use Rattle.dw_desk_commands.specs.Check.{IsCheckOf}
 use Rattle.dw_desk_commands.specs.Commands.{Leaves, RunsCommand, Tells}

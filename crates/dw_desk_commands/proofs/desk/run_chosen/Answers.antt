@@ -2,7 +2,6 @@ use Rattle.std.proofs.Common.{ℕ, List, inl, refl, subst, sym}
 use Rattle.std.specs.Borrow.{Bor}
 use Rattle.dw_desk_commands.specs.Commands.{FailsAt}
 use Rattle.dw_desk_commands.specs.inner.Choosing.{source_of}
-use Rattle.dw_desk_commands.specs.inner.Faults.{run_fault}
 use Rattle.dw_desk_commands.proofs.CommandLemmas.{fails_at, fails_at_once}
 use Rattle.dw_report.specs.declared.settings.RunFault.TheVariants.{Stopped}
 use Rattle.dw_solve.specs.declared.stop.Stop.TheVariants.{Memory}

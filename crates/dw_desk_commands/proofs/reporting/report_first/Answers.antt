@@ -1,4 +1,4 @@
-use Rattle.std.proofs.Common.{◌≡◌, ◌⊎◌, ◌∙◌, ◌-◌, ◌∷◌, inl, inr, Option, Some, None, List, [], ap, refl, subst}
+use Rattle.std.proofs.Common.{◌∙◌, ◌-◌, ◌∷◌, inl, inr, Option, Some, None, List, [], ap, refl, subst}
 use Rattle.std.proofs.lemmas.Result.{err_from_is_err_and}
 use Rattle.std.specs.Prelude.{ℕ, IfSome, option_map}
 use Rattle.dw_notation.specs.Streams.{Appends}

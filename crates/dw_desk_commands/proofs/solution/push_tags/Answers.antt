@@ -1,10 +1,9 @@
 use Rattle.std.proofs.Common.{◌∙◌, ◌++◌, map, refl, subst, ap}
 use Rattle.std.specs.List.{flat_map}
-use Rattle.std.specs.Prelude.{OnOk}
 use Rattle.dw_notation.specs.Streams.{Appends}
 use Rattle.dw_notation.specs.inner.StreamLemmas.{Appends-trans}
 use Rattle.dw_games.specs.TagRows.{tag_text}
-use Rattle.dw_desk_commands.specs.Solution.{AreWrittenTags, new_lines, own_line}
+use Rattle.dw_desk_commands.specs.Solution.{new_lines, own_line}
 use Rattle.dw_desk_commands.proofs.ProblemLemmas.{done_so}
 use Rattle.dw_desk_commands.proofs.solution.push_tags.Goals as goal
 

@@ -1,4 +1,4 @@
-use Rattle.std.proofs.Common.{◌≡◌, ◌∙◌, ◌-◌, ◌==◌, ◌++◌, ℕ, List, [], Err, append-nil, ap, inl, inr, not, refl}
+use Rattle.std.proofs.Common.{◌∙◌, ◌-◌, ◌==◌, ◌++◌, ℕ, List, [], Err, append-nil, ap, inl, inr, not, refl}
 use Rattle.std.proofs.Common.{subst, sym}
 use Rattle.std.proofs.Common.{true}
 use Rattle.std.proofs.lemmas.Result.{err_from_is_err_and}
