@@ -20,14 +20,6 @@ use Rattle.dw_verdict.specs.inner.GatheredLemmas.{GatheredTo, to_all}
 use Rattle.dw_parts.specs.Parts.{part_from}
 use Rattle.dw_first_moves.specs.FirstMoves.{Effect, HasEffect, AreEffects}
 
--- ---- counting
-pub counted_then : (a l b m c k : ℕ) → IsCounted a l b m → IsCounted b m c k → IsCounted a l c k
-counted_then a l b m c k one two = record {
-  rises = let x = one.rises in let y = two.rises in omega (arith, x, y);
-  within = let x = two.within in let y = one.same in omega (arith, x, y);
-  same = two.same ∙ one.same;
-}
-
 -- ---- a win within one move more than is left after it
 pub wins_with : (g : Geometry) (p : Placement) (n : ℕ) (m : Move) → Legal g p m → Lost g (play g p m) n
     → IsWinning g p (n + 1) m

@@ -1,7 +1,7 @@
 -- Replies of which some are put off, and the others were answered.
 use Rattle.std.proofs.Common.{◌≡◌, ℕ, ◌+◌, ◌≤◌, ◌<◌, ◌⊎◌, ◌↔◌, Bool, true, false, List, [], ◌∷◌, ◌++◌, length, get_or}
 use Rattle.std.proofs.Common.{refl, sym, ap, ◌∙◌, subst, inl, inr, arith, IsTrue}
-use Rattle.std.specs.Prelude.{Option, Some, None}
+use Rattle.std.specs.Prelude.{Option, None}
 use Rattle.std.proofs.lemmas.List.{map-append}
 use Rattle.std.specs.List.Sorted.{IsPermutation}
 use Rattle.std.proofs.lemmas.Bool.{true≢false}
@@ -13,10 +13,9 @@ use Rattle.dw_memo.specs.Content.{Content, SameEntries}
 use Rattle.dw_moves.specs.Moves.{Move, Legal, AreLegal, play}
 use Rattle.dw_moves.specs.inner.MemberLemmas.{mem_left, mem_right, mem_cases}
 use Rattle.dw_solve.specs.Wins.{Win, Lost}
-use Rattle.dw_solve.specs.Facts.{KnownWin, KnownFail, AreTrue, IsDecided, RepliesAreDecided}
+use Rattle.dw_solve.specs.Facts.{KnownWin, AreTrue, IsDecided, RepliesAreDecided}
 use Rattle.dw_solve.specs.Ranking.{AreRanked, moves_of}
 use Rattle.dw_solve.specs.Certificates.{SaysWin, SaysLost}
-use Rattle.dw_solve.specs.Searching.{IsCounted}
 use Rattle.dw_solve.specs.Work.{Moment, NothingLost, Searched}
 use Rattle.dw_solve.specs.declared.search.Search.{Search}
 use Rattle.dw_solve.specs.inner.Ranking.{AreAllLegal, AreLinedUpLast, AreOpen, IsAnswered, AllWin, SaysAll}

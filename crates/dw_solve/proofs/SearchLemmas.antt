@@ -17,17 +17,6 @@ use Rattle.dw_solve.specs.Searching.{IsCounted}
 use Rattle.dw_solve.specs.inner.Searching.{IsUndecided, IsLookedUp}
 use Rattle.dw_solve.proofs.MemoLemmas.{same_win, same_fail, decided_right, decided_known, decided_says, undecided_open}
 
-pub counted_none : (a l : ℕ) → a ≤ l → IsCounted a l a l
-counted_none a l h = record { rises = omega arith; within = h; same = refl }
-
-pub counted_then : (a l b l' c l'' : ℕ) → IsCounted a l b l' → IsCounted b l' c l'' → IsCounted a l c l''
-counted_then a l b l' c l'' h k = record {
-  rises = omega (arith, h.rises, k.rises);
-  within =
-      omega (arith, k.within, h.same);
-  same = k.same ∙ h.same;
-}
-
 pub is_so : (b : Bool) (P : Type 0) → (IsTrue b ↔ P) → b ≡ true → P
 is_so b P h e = h.0 e
 

@@ -3,6 +3,7 @@ use Rattle.std.proofs.Common.{◌≡◌, ℕ, ◌≤◌, sym, ap, subst, ◌∙�
 use Rattle.std.specs.Result.{IsErrAnd}
 use Rattle.dw_board.specs.Geometry.{Geometry}
 use Rattle.dw_memo.specs.Content.{Content}
+use Rattle.dw_solve.specs.inner.CountLemmas.{counted_none, counted_then}
 use Rattle.dw_solve.specs.declared.search.Search.{Search}
 use Rattle.dw_solve.specs.declared.stop.Stop.{Stop}
 use Rattle.dw_solve.specs.declared.stop.Stop.TheVariants.{Limit, Memory}
@@ -10,7 +11,6 @@ use Rattle.dw_solve.specs.Facts.{AreTrue}
 use Rattle.dw_solve.specs.Searching.{IsCounted}
 use Rattle.dw_solve.specs.Work.{Searched, cut_off}
 use Rattle.dw_solve.specs.inner.Searching.{at_time, CanSearch, HasSearched}
-use Rattle.dw_solve.proofs.SearchLemmas.{counted_none, counted_then}
 use Rattle.dw_solve.proofs.WorkLemmas.{err_is, searched_none, searched_then, searched_wider, searched_looser}
 
 -- an answer, whatever it is

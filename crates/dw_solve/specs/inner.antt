@@ -5,3 +5,4 @@ pub mod LineLemmas
 pub mod LineOrderLemmas
 pub mod ListLemmas
 pub mod QuestionLemmas
+pub mod CountLemmas

@@ -19,4 +19,4 @@ pub use guide::{AnyOrder, ByTrial, Guide};
 pub use lineup::Lineup;
 pub use solver::Solver;
 pub use stop::Stop;
-pub use watcher::{Unwatched, Watched, Watcher};
+pub use watcher::{Watched, Watcher};

@@ -260,16 +260,6 @@ impl<B: Board, M: Memo<B>, G: Guide<B>> Solver<B, M, G> {
     {
         replace(&mut self.search.memo, memo)
     }
-
-    /// Returns the memo. All its bounds are right.
-    pub fn into_memo(self) -> M
-    where
-        G: Drop,
-        ensures memo { result ≡ self.memo }
-        ensures right { AreTrue B.geometry (M.content result) }
-    {
-        self.search.memo
-    }
 }
 
 /// Answers `Solver::wins`. Lists are made only for a search.

@@ -18,12 +18,6 @@ pub trait Watcher {
     fn make_way(&mut self) {}
 }
 
-/// A watcher that does nothing.
-#[derive(Clone, Copy, Debug, Default)]
-pub struct Unwatched;
-
-impl Watcher for Unwatched {}
-
 /// The order of a guide, with a watcher.
 #[derive(Clone, Copy, Debug, Default, Drop)]
 pub struct Watched<G, W> {

@@ -14,7 +14,7 @@ use Rattle.dw_solve.specs.Questions.{Asked, moment_of}
 abbrev pub answered : Result ℕ Stop
 answered = Ok 0
 
-searched_looser : (g : Geometry) (n cut more : ℕ) (a c : Moment) → cut ≤ more → Searched g n cut a c
+pub searched_looser : (g : Geometry) (n cut more : ℕ) (a c : Moment) → cut ≤ more → Searched g n cut a c
     → Searched g n more a c
 searched_looser g n cut more a c less s = record {
   few = s.few;
@@ -26,7 +26,7 @@ searched_looser g n cut more a c less s = record {
   };
 }
 
-err_is : {B : Type 0} (d : Stop) → IsErrOf {T = B} (Err d) Limit → d ≡ Limit
+pub err_is : {B : Type 0} (d : Stop) → IsErrOf {T = B} (Err d) Limit → d ≡ Limit
 err_is d same = cc
 
 memory_apart : Memory ≡ Limit → ⊥

@@ -4,7 +4,8 @@ use Rattle.dw_moves.specs.Moves.{play}
 use Rattle.dw_moves.specs.Order.{Precedes, IsListOf}
 use Rattle.dw_solve.specs.Wins.{Lost}
 use Rattle.dw_verdict.specs.Verdict.{IsWinning, Refutes}
-use Rattle.dw_first_moves.proofs.EffectLemmas.{counted_then, lost_of, none_refutes, none_there, some_refutes}
+use Rattle.dw_solve.specs.inner.CountLemmas.{counted_then}
+use Rattle.dw_first_moves.proofs.EffectLemmas.{lost_of, none_refutes, none_there, some_refutes}
 use Rattle.dw_first_moves.proofs.EffectLemmas.{some_there, wins_with}
 use Rattle.dw_first_moves.proofs.effects.effect_of.Goals as goal
 

@@ -3,7 +3,8 @@ use Rattle.dw_moves.specs.Moves.{Legal, play}
 use Rattle.dw_moves.specs.Order.{Precedes, IsListOf}
 use Rattle.dw_solve.specs.Wins.{Win}
 use Rattle.dw_verdict.specs.inner.GatheredLemmas.{GatheredTo, item_among, to_more, to_same}
-use Rattle.dw_first_moves.proofs.EffectLemmas.{counted_then, a_win, no_win, refuting}
+use Rattle.dw_solve.specs.inner.CountLemmas.{counted_then}
+use Rattle.dw_first_moves.proofs.EffectLemmas.{a_win, no_win, refuting}
 use Rattle.dw_first_moves.proofs.effects.refutations.Goals.{then-not-branch+in_ok-push, else-not-branch}
 use Rattle.dw_first_moves.proofs.effects.refutations.Goals as goal
 

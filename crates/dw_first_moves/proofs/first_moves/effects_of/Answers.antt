@@ -1,6 +1,7 @@
 use Rattle.std.proofs.Common.{refl}
+use Rattle.dw_solve.specs.inner.CountLemmas.{counted_then}
 use Rattle.dw_first_moves.specs.Telling.{told_by}
-use Rattle.dw_first_moves.proofs.EffectLemmas.{counted_then, effects_next}
+use Rattle.dw_first_moves.proofs.EffectLemmas.{effects_next}
 use Rattle.dw_first_moves.proofs.TextLemmas.{item_member}
 use Rattle.dw_first_moves.proofs.first_moves.effects_of.Goals as goal
 

@@ -2,7 +2,8 @@ use Rattle.std.proofs.Common.{ℕ, ◌+◌, ◌-◌, ◌<◌, ◌≡◌, sym, re
 use Rattle.std.proofs.lemmas.Bool.{true≢false}
 use Rattle.dw_solve.specs.Wins.{Lost}
 use Rattle.dw_verdict.specs.Verdict.{IsWinning}
-use Rattle.dw_first_moves.proofs.EffectLemmas.{counted_then, lost_of, wins_with}
+use Rattle.dw_solve.specs.inner.CountLemmas.{counted_then}
+use Rattle.dw_first_moves.proofs.EffectLemmas.{lost_of, wins_with}
 use Rattle.dw_first_moves.proofs.LaterLemmas.{wider}
 use Rattle.dw_first_moves.proofs.later.later_win.Goals as goal
 

@@ -2,9 +2,9 @@ use Rattle.std.proofs.Common.{◌+◌, map, refl, sym, ap, ◌∙◌, subst, ari
 use Rattle.dw_moves.specs.Moves.{Legal}
 use Rattle.dw_moves.specs.Order.{Precedes, IsListOf}
 use Rattle.dw_verdict.specs.inner.GatheredLemmas.{item_among, to_none, to_more, to_same}
+use Rattle.dw_solve.specs.inner.CountLemmas.{counted_then}
 use Rattle.dw_first_moves.specs.Later.{WinsLater}
 use Rattle.dw_first_moves.specs.inner.LaterMoves.{FindsLater}
-use Rattle.dw_first_moves.proofs.EffectLemmas.{counted_then}
 use Rattle.dw_first_moves.proofs.LaterLemmas.{LaterTo, later_whole, one_number}
 use Rattle.dw_first_moves.proofs.later.later_wins.Goals.{in-Some+in_ok-push, in_default}
 use Rattle.dw_first_moves.proofs.later.later_wins.Goals as goal

@@ -1,10 +1,11 @@
-use Rattle.std.proofs.Common.{◌≡◌, ◌∙◌, ◌+◌, ◌-◌, ◌*◌, ◌≤◌, true, false, Ok, length, refl, sym, ap, subst, arith, inl}
+use Rattle.std.proofs.Common.{◌≡◌, ◌∙◌, ◌+◌, ◌-◌, ◌*◌, ◌≤◌, true, Ok, length, refl, sym, ap, subst, arith, inl}
 use Rattle.std.proofs.Common.{inr, ◌↔◌, ◌⊎◌}
 use Rattle.std.specs.Prelude.{IsTrue, IfOk}
 use Rattle.std.proofs.lemmas.Result.{IfOk-weaker, IfOk-from_err}
 use Rattle.std.proofs.lemmas.Bool.{true≢false}
 use Rattle.std.specs.List.{IsFirstAndRest}
 use Rattle.std.proofs.lemmas.Option.{MatchOption-at_some}
+use Rattle.dw_solve.specs.inner.CountLemmas.{counted_none, counted_then}
 use Rattle.dw_solve.specs.Wins.{Win, Lost}
 use Rattle.dw_solve.specs.Facts.{AreTrue, IsDecided}
 use Rattle.dw_solve.specs.Ranking.{AreRanked, moves_of}
@@ -20,16 +21,15 @@ use Rattle.dw_solve.proofs.OpenLemmas.{says_all_lose}
 use Rattle.dw_solve.proofs.RankLemmas.{ranked_legal, below_more, win_by, never_won}
 use Rattle.dw_solve.proofs.WorkLemmas.{searched_none, searched_wider, searched_looser, searched_stop, stop_passed}
 use Rattle.dw_solve.proofs.WorkLemmas.{moment_is, begun_is, wins_stopped, wins_ended, second_kept}
-use Rattle.dw_solve.proofs.StepLemmas.{searched_nothing, searched_on, searched_for_fewer, searched_ok, searched_err}
+use Rattle.dw_solve.proofs.StepLemmas.{searched_nothing, searched_on, searched_ok, searched_err}
 use Rattle.dw_solve.proofs.StepLemmas.{searched_memory, searched_looked, memory_is_no_limit, counted_one}
 use Rattle.dw_solve.proofs.TriedLemmas.{Refuted, Answered, tried_none, refuted_more, answered_more}
 use Rattle.dw_solve.proofs.TriedLemmas.{says_winning, says_none, says_refuted}
-use Rattle.dw_solve.proofs.WinLemmas.{hopeless_is}
 use Rattle.dw_solve.proofs.SearchLemmas.{ok_is_no_err, not_known, spent_in, unchanged_none, unchanged_then}
-use Rattle.dw_solve.proofs.SearchLemmas.{reply_decided, replies_same, lost_at_none, says_at_none, decided_same}
-use Rattle.dw_solve.proofs.SearchLemmas.{counted_none, counted_then, is_so, is_not, answer_no, answer_yes, some_first}
+use Rattle.dw_solve.proofs.SearchLemmas.{reply_decided, replies_same, lost_at_none, says_at_none}
+use Rattle.dw_solve.proofs.SearchLemmas.{is_so, is_not, answer_no, answer_yes, some_first}
 use Rattle.dw_solve.proofs.SearchLemmas.{counted_within, same_within, one_spent, none_below_none}
-use Rattle.dw_solve.proofs.SearchLemmas.{none_or_some, one_at_most, one_less, room_for_moves}
+use Rattle.dw_solve.proofs.SearchLemmas.{none_or_some, one_less, room_for_moves}
 use Rattle.dw_solve.proofs.SearchLemmas.{room_left, room_after, none_at_most, same_at_most}
 use Rattle.dw_solve.proofs.search.+search.Goals as goal
 use Rattle.dw_solve.proofs.search.+search.Goals.{good_reply_refutes-in-Answered-true}

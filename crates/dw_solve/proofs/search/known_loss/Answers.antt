@@ -1,11 +1,11 @@
 use Rattle.std.proofs.Common.{sym, subst}
-use Rattle.dw_moves.specs.Moves.{AreLegal, play}
+use Rattle.dw_moves.specs.Moves.{AreLegal}
 use Rattle.dw_moves.specs.inner.MoveLemmas.{listed_is_legal}
 use Rattle.dw_solve.specs.inner.Searching.{IsLookedUp, IsKnown}
 use Rattle.dw_solve.specs.Facts.{KnownWin, IsDecided}
 use Rattle.dw_solve.proofs.MemoLemmas.{same_win}
-use Rattle.dw_solve.proofs.OpenLemmas.{looked_none, looked_then, known_more, known_all, known_refuted}
-use Rattle.dw_solve.proofs.OpenLemmas.{not_all_known, flip}
+use Rattle.dw_solve.proofs.OpenLemmas.{looked_then, known_more, known_all, known_refuted}
+use Rattle.dw_solve.proofs.OpenLemmas.{not_all_known}
 use Rattle.dw_solve.proofs.search.known_loss.Goals as goal
 
 pub play-requires : goal.play-requires

@@ -1,9 +1,10 @@
-use Rattle.std.proofs.Common.{refl, sym, subst, arith}
+use Rattle.std.proofs.Common.{refl, sym, subst}
 use Rattle.dw_memo.specs.Content.{SameEntries}
 use Rattle.dw_memo.specs.Noting.{IsOneLost}
+use Rattle.dw_solve.specs.inner.CountLemmas.{counted_none}
 use Rattle.dw_solve.specs.Facts.{AreTrue}
 use Rattle.dw_solve.proofs.MemoLemmas.{same_true}
-use Rattle.dw_solve.proofs.SearchLemmas.{counted_none, ok_is_no_err}
+use Rattle.dw_solve.proofs.SearchLemmas.{ok_is_no_err}
 use Rattle.dw_solve.proofs.StepLemmas.{counted_one}
 use Rattle.dw_solve.proofs.WorkLemmas.{searched_same, searched_left_out, searched_stop, stop_passed}
 use Rattle.dw_solve.proofs.search.leave_out.Goals as goal

@@ -1,8 +1,6 @@
 use Rattle.std.proofs.Common.{◌↔◌, sym, subst, IfOk, inl, inr}
 use Rattle.std.specs.Prelude.{IsTrue}
-use Rattle.dw_solve.specs.Facts.{RepliesAreDecided}
 use Rattle.dw_solve.specs.Wins.{Lost}
-use Rattle.dw_solve.specs.Certificates.{SaysLost}
 use Rattle.dw_solve.specs.inner.Ranking.{IsLossLookedUp}
 use Rattle.dw_solve.proofs.StepLemmas.{searched_looked, searched_on, searched_for_fewer}
 use Rattle.dw_solve.proofs.SearchLemmas.{one_at_most}

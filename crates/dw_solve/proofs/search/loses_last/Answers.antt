@@ -1,5 +1,6 @@
 use Rattle.std.proofs.Common.{refl, sym, subst, false}
 use Rattle.dw_moves.specs.Moves.{play}
+use Rattle.dw_solve.specs.inner.CountLemmas.{counted_then}
 use Rattle.dw_solve.specs.Wins.{Win, Lost}
 use Rattle.dw_solve.specs.inner.Ranking.{AreLinedUpLast}
 use Rattle.dw_solve.specs.inner.Searching.{at_time}
@@ -7,7 +8,7 @@ use Rattle.dw_solve.proofs.OpenLemmas.{last_ranked}
 use Rattle.dw_solve.proofs.RankLemmas.{ranked_legal, below_more, below_all}
 use Rattle.dw_solve.proofs.StepLemmas.{searched_on, searched_ok, searched_err}
 use Rattle.dw_solve.proofs.TriedLemmas.{Answered, answered_more, says_refuted}
-use Rattle.dw_solve.proofs.SearchLemmas.{answer_no, answer_yes, counted_then, is_so, is_not, ok_is_no_err}
+use Rattle.dw_solve.proofs.SearchLemmas.{answer_no, answer_yes, is_so, is_not, ok_is_no_err}
 use Rattle.dw_solve.proofs.WinLemmas.{hopeless_is}
 use Rattle.dw_solve.proofs.WorkLemmas.{searched_none}
 use Rattle.dw_solve.proofs.search.loses_last.Goals as goal

@@ -1,10 +1,11 @@
 use Rattle.std.proofs.Common.{◌∙◌, refl, sym, ap, subst, arith, false}
 use Rattle.dw_memo.specs.Content.{SameEntries}
+use Rattle.dw_solve.specs.inner.CountLemmas.{counted_none}
 use Rattle.dw_solve.specs.Facts.{AreTrue}
 use Rattle.dw_solve.specs.Wins.{Win}
 use Rattle.dw_solve.specs.Work.{moment}
 use Rattle.dw_solve.proofs.MemoLemmas.{bounds_decide, bounds_open, says_no, same_true, same_map, noted_true}
-use Rattle.dw_solve.proofs.SearchLemmas.{decided_same, answer_no, counted_none}
+use Rattle.dw_solve.proofs.SearchLemmas.{decided_same, answer_no}
 use Rattle.dw_solve.proofs.WinLemmas.{hopeless_is, says_hopeless}
 use Rattle.dw_solve.proofs.WorkLemmas.{searched_none, searched_same, stop_passed, begun_is, wins_ended, noted_by}
 use Rattle.dw_solve.proofs.StepLemmas.{counted_one}

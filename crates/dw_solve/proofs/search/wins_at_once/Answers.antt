@@ -1,13 +1,13 @@
 use Rattle.std.proofs.Common.{◌∙◌, refl, sym, ap, subst, arith, is_some}
 use Rattle.dw_memo.specs.Content.{SameEntries}
+use Rattle.dw_solve.specs.inner.CountLemmas.{counted_none}
 use Rattle.dw_solve.specs.Facts.{AreTrue}
 use Rattle.dw_solve.specs.Work.{moment}
-use Rattle.dw_solve.proofs.MemoLemmas.{bounds_decide, bounds_open, bounds_right, bounds_say, same_true, same_map}
+use Rattle.dw_solve.proofs.MemoLemmas.{bounds_open, bounds_right, bounds_say, same_true, same_map}
 use Rattle.dw_solve.proofs.MemoLemmas.{noted_true}
 use Rattle.dw_solve.proofs.LastMoveLemmas.{last_answer, says_last}
 use Rattle.dw_solve.proofs.WorkLemmas.{searched_none, searched_same, searched_stop, begun_is, wins_stopped, wins_ended}
 use Rattle.dw_solve.proofs.WorkLemmas.{noted_by, stop_passed}
-use Rattle.dw_solve.proofs.SearchLemmas.{counted_none}
 use Rattle.dw_solve.proofs.StepLemmas.{counted_one, memory_is_no_limit}
 use Rattle.dw_solve.proofs.search.wins_at_once.Goals as goal
 

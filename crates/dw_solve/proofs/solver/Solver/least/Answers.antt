@@ -1,8 +1,9 @@
 use Rattle.std.proofs.Common.{◌≤◌, arith, refl, sym, inr}
 use Rattle.std.proofs.lemmas.Bool.{true≢false}
+use Rattle.dw_solve.specs.inner.CountLemmas.{counted_none, counted_then}
 use Rattle.dw_solve.proofs.WorkLemmas.{stop_passed, searched_stop, searched_wider, searched_looser}
 use Rattle.dw_solve.proofs.TriedLemmas.{decided_none, decided_more, decided_by_win, decided_all, searched_after}
-use Rattle.dw_solve.proofs.SearchLemmas.{unchanged_none, unchanged_then, decided_same, counted_none, counted_then}
+use Rattle.dw_solve.proofs.SearchLemmas.{unchanged_none, unchanged_then, decided_same}
 use Rattle.dw_solve.proofs.SearchLemmas.{none_below_one, none_below_more, is_so, is_not}
 use Rattle.dw_solve.proofs.solver.Solver.least.Goals as goal
 
