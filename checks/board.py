@@ -42,6 +42,8 @@ FINDS = [
     ("W:W27:B16", 3, "unsolvable in 3", [("27-21", "16x27"), ("27-22", "16-21")]),
     ("B:W43:B24,29", 20, "sound in 2: 29-33", None),
 ]
+# Sound in 2 moves; a second first move wins in 3.
+LATER = "W:W28,31,36,39:B33"
 # Positions with the moves of their solutions, and their movetexts.
 SOLUTIONS = [
     ("W:W27,32:B18", ["32-28", "18-22", "27x18", "28x17", "18-23", "28x19"],
@@ -153,6 +155,13 @@ def check_rows(browser):
     browser.run("t.at('#exact').click()")
     assert browser.run(call("solve", 3)).startswith("cooked in 3, shortest 2")
     browser.run("t.at('#exact').click()")
+    browser.run(call("place", 10, "W", of_fen(LATER)))
+    browser.run("t.set('#later', '1')")
+    assert browser.run(call("solve", 3)) == "sound in 2: 31-27"
+    assert browser.run("t.all('#later-wins li').map((e) => e.textContent)") == ["39-34 wins in 3"]
+    browser.run("t.set('#later', '0')")
+    browser.run(call("solve", 3))
+    assert browser.run("t.at('#later-part').hidden")
     print(f"{browser.name}: {len(FINDS)} verdicts with their tries, {len(SOLUTIONS)} solutions, as worked")
 
 

@@ -1,6 +1,7 @@
 /** The answer to what was asked of a problem, as it stands in the book. */
 import { byId, control, fill, make, reveal, unbroken } from './dom.js';
 import { REASON } from '../../package/engine.js';
+import { MOST_MOVES } from './number.js';
 import { SolutionView } from './solution.js';
 import { numbered } from './tree.js';
 
@@ -40,6 +41,15 @@ export function namePosition(app, id, entry, elsewhere = 'answerElsewhere') {
     const says = app.say(isElsewhere ? elsewhere : 'answerOf', '').trim();
     fill(id, [entry, says], () => (entry ? [make('span', {}, says), ' ', make('code', {}, entry.fen)] : []));
 }
+
+/**
+ * Within how many moves no first move wins but the key, as far as it is known.
+ * @param {number} n The number of moves of the key.
+ * @param {Found['later']} later
+ * @param {number} more How many moves more were asked for.
+ */
+const aloneWithin = (n, later, more) => (later === null ? n
+    : Math.min(MOST_MOVES, n + more, ...later.map(([, moves]) => moves - 1)));
 
 /** Draws the panel of answers. It keeps no answer: what it draws depends on the board and on the book alone. */
 export class AnswerView {
@@ -88,6 +98,7 @@ export class AnswerView {
         this.drawVerdict(entry, found);
         this.drawDual(entry, found);
         this.drawTries(entry, found);
+        this.drawLater(entry, found);
         reveal('solution-part', Boolean(tree));
         byId('solution-more').textContent = app.say('moreLines');
         reveal('solution-more', entry.solve?.result?.isMore ?? false);
@@ -149,10 +160,13 @@ export class AnswerView {
      * @param {Entry} entry
      * @param {Found} found
      */
-    sentence({ position }, { verdict, n, keys, shortest }) {
+    sentence({ position, solve }, { verdict, n, keys, shortest, later }) {
         const { app } = this, moves = keys.join(', ');
         const side = app.say(position.turn === 'W' ? 'whiteWithin' : 'blackWithin');
-        if (verdict === 'sound') return app.say('saySound', side, n, moves);
+        if (verdict === 'sound') {
+            const alone = aloneWithin(n, later, solve?.question.later ?? 0);
+            return app.say('saySound', side, n, moves) + (alone > n ? ` ${app.say('sayAlone', alone)}` : '');
+        }
         if (verdict === 'dual') return app.say('sayDual', side, n, moves);
         if (verdict === 'unsolvable') return app.say('sayUnsolvable', side, n);
         return shortest < n ? app.say('sayShorter', side, n, shortest, moves) : app.say('sayCooked', side, n, moves);
@@ -194,6 +208,18 @@ export class AnswerView {
         reveal('tries-part', found.tries.length > 0);
         fill('tries', [entry, found, this.app.language], () => found.tries.map(([move, reply]) =>
             make('li', {}, this.jump(entry, [move]), word, this.jump(entry, [move, reply]))));
+    }
+
+    /**
+     * The first moves that win later than the keys.
+     * @param {Entry} entry
+     * @param {Found} found
+     */
+    drawLater(entry, found) {
+        const later = found.later ?? [];
+        reveal('later-part', later.length > 0);
+        fill('later-wins', [entry, found, this.app.language], () => later.map(([move, n]) =>
+            make('li', {}, this.jump(entry, [move]), ` ${this.app.say('winsIn', n)}`)));
     }
 
     /**

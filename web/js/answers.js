@@ -6,8 +6,8 @@ import { textOf } from '../../package/engine.js';
  * @typedef {{problem: number, fen?: string, refused?: string}} Row What every row says: the position, or why it is
  *     refused.
  * @typedef {Row & {verdict: Verdict, n?: number, no_win_in?: number, shortest?: number, keys?: string[], at?: string,
- *   choices?: string[], tries?: [string, string][], more?: boolean, moves?: import('./tree.js').Step[]}} FoundRow What
- *     `find` says.
+ *   choices?: string[], tries?: [string, string][], more?: boolean, moves?: import('./tree.js').Step[],
+ *   later?: [string, number][]}} FoundRow What `find` says.
  * @typedef {{
  *   line: string,
  *   verdict: Verdict,
@@ -17,8 +17,9 @@ import { textOf } from '../../package/engine.js';
  *   at: string[],
  *   choices: string[],
  *   tries: [string, string][],
- * }} Found `line` is what `dw judge` writes; `n` is the number of moves, of an undecided problem the greatest for which
- *     there is no win.
+ *   later: [string, number][] | null,
+ * }} Found `line` is what `dw judge` writes; `later` are the first moves that win later, if they were asked for; `n` is
+ *     the number of moves, of an undecided problem the greatest for which there is no win.
  * @typedef {{move: string, fen: string, wins_in?: number, refuted_by?: string[]}} First
  * @typedef {{kind: 'fails' | 'also' | 'open' | 'ends', line: string, moves: string[], refutation?: string}} Remark
  * @typedef {{fen?: string, refused?: string, solution_refused?: string, n: number, win: boolean, holds: boolean,
@@ -90,6 +91,7 @@ export const foundOf = (row) => ({
     at: movesOf(row.at ?? ''),
     choices: row.choices ?? [],
     tries: row.tries ?? [],
+    later: row.later ?? null,
 });
 
 /**

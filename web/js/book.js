@@ -12,7 +12,7 @@ import { Stopped } from '../../package/workers.js';
  * @typedef {import('./answers.js').Legal} Legal
  * @typedef {import('./answers.js').Neighbour} Neighbour
  * @typedef {import('./tree.js').Node} Node
- * @typedef {{most: number, isExact: boolean}} SolveQuestion
+ * @typedef {{most: number, isExact: boolean, later: number}} SolveQuestion
  * @typedef {{noWinIn: number, expanded: number}} SolveProgress
  * @typedef {{n: number}} MovesQuestion
  * @typedef {{text: string, isOwn: boolean, count: number}} CompareQuestion `isOwn` says that the game is that of a

@@ -1,8 +1,11 @@
 /** Fields for a number of moves. */
 import { byId, control, reveal } from './dom.js';
 
-/** The fewest and the most moves that a field takes. */
-const FEWEST_MOVES = 1, MOST_MOVES = 20;
+/** The fewest moves that a field takes. */
+const FEWEST_MOVES = 1;
+
+/** The most moves that a field takes. */
+export const MOST_MOVES = 20;
 
 /**
  * The number of moves that a text says, or 0 if it says none.

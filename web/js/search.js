@@ -10,7 +10,8 @@ import { treeOf } from './tree.js';
  * @typedef {(words: string[], input: string | Uint8Array, signal?: AbortSignal) =>
  *     Promise<import('../../package/engine.js').Answer>} Ask
  * @typedef {{noWinIn: number, expanded: number}} Progress
- * @typedef {{fen: string, rows: Rows, most: number, isExact: boolean}} Question
+ * @typedef {{fen: string, rows: Rows, most: number, isExact: boolean, later: number}} Question `later` is how many
+ *     moves more a later win may take, or 0 if none is asked for.
  */
 
 /** How many positions the first slice expands, and how much larger each next one is. */
@@ -25,9 +26,11 @@ const FIRST = 200_000, LARGER = 4, MOST = 1_000_000_000_000;
  * @param {AbortSignal} signal
  * @param {Progress} before What is known already, if the search goes on after a stop: smaller slices are left out.
  */
-export async function find(ask, { fen, rows, most, isExact }, show, signal, before = { noWinIn: 0, expanded: 0 }) {
+export async function find(ask, question, show, signal, before = { noWinIn: 0, expanded: 0 }) {
+    const { fen, rows, most, isExact, later } = question;
     const number = [isExact ? '-n' : '--most', String(most)];
-    const words = ['dw-desk', 'find', '--json', '--solution', ...boardOf(rows), ...number];
+    const further = later ? ['--later', String(later)] : [];
+    const words = ['dw-desk', 'find', '--json', '--solution', ...boardOf(rows), ...number, ...further];
     for (let each = before.expanded * LARGER || FIRST; ; each *= LARGER) {
         const bound = Math.min(each, MOST), more = bound < MOST ? ['--each', String(bound)] : [];
         const [row] = /** @type {FoundRow[]} */ (rowsOf(reportOf(await ask([...words, ...more], `${fen}\n`, signal))));

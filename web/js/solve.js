@@ -75,6 +75,7 @@ export class Solving {
     /** Asks for the position on the board. */
     async solve() {
         const { app } = this, most = this.most.ask(), isExact = control('exact', HTMLInputElement).checked;
+        const later = Number(control('later', HTMLSelectElement).value);
         if (!most) return;
         app.take();
         this.isAsking = true;
@@ -87,7 +88,7 @@ export class Solving {
         }
         const entry = app.book.of(app.subject);
         this.forget(entry);
-        await this.search(entry, { most, isExact }, { noWinIn: 0, expanded: 0 }, 0);
+        await this.search(entry, { most, isExact, later }, { noWinIn: 0, expanded: 0 }, 0);
     }
 
     /** Goes on with the search that was stopped, from what it has found. */
@@ -106,14 +107,14 @@ export class Solving {
      * @param {import('./book.js').SolveProgress} before What is known already.
      * @param {number} took How long it has taken to find that, in milliseconds.
      */
-    async search(entry, { most, isExact }, before, took) {
+    async search(entry, asked, before, took) {
         const { app } = this;
         /** @type {NonNullable<Entry['solve']>} */
-        const task = new Task({ most, isExact }, before);
+        const task = new Task(asked, before);
         task.begun -= took;
         entry.solve = task;
         this.tick();
-        const question = { fen: entry.fen, rows: entry.position.rows, most, isExact };
+        const question = { fen: entry.fen, rows: entry.position.rows, ...asked };
         const show = (/** @type {import('./book.js').SolveProgress} */ progress) => {
             if (task.isRunning) task.progress = progress;
         };

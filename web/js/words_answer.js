@@ -28,6 +28,8 @@ export const ANSWER_WORDS = {
     most: ['Up to', 'Tot', 'Jusqu’à', 'До'],
     moves: ['moves', 'zetten', 'temps', 'ходов'],
     exact: ['exactly', 'precies', 'exactement', 'ровно'],
+    later: ['Later wins', 'Latere winst', 'Gains plus tardifs', 'Поздние выигрыши'],
+    laterNone: ['not asked', 'niet gevraagd', 'non demandés', 'не искать'],
     solve: ['Solve', 'Los op', 'Résoudre', 'Решить'],
     stop: ['Stop', 'Stop', 'Arrêter', 'Стоп'],
     searching: ['Searching', 'Zoekt', 'Recherche', 'Поиск'],
@@ -64,6 +66,12 @@ export const ANSWER_WORDS = {
         'Correct: # begint en wint in # {zet|zetten}. De enige sleutelzet is #.',
         'Correct : # jouent et gagnent en # temps. Le seul coup-clé est #.',
         'Корректно: # начинают и выигрывают в # {ход|хода|ходов}. Единственный первый ход — #.',
+    ],
+    sayAlone: [
+        'No other first move wins within # moves.',
+        'Geen andere eerste zet wint binnen # {zet|zetten}.',
+        'Aucun autre premier coup ne gagne en # temps.',
+        'Никакой другой первый ход не выигрывает за # {ход|хода|ходов}.',
     ],
     sayDual: [
         'Dual: # to play and win in # by #, but later there is a choice.',

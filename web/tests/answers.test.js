@@ -12,8 +12,10 @@ test('verdicts', () => {
     }), {
         line: 'dual in 3: 1. 10-5 13-18 2. 5-28 18-22 3. 28x6 / 28x11 / 28x17', verdict: 'dual', n: 3, shortest: 3,
         keys: ['10-5'], at: ['10-5', '13-18', '5-28', '18-22'], choices: ['28x6', '28x11', '28x17'],
-        tries: [['10-4', '13-19']],
+        tries: [['10-4', '13-19']], later: null,
     });
+    assert.deepEqual(found({ n: 2, verdict: 'sound', keys: ['31-27'], tries: [], later: [['39-34', 3]] }).later,
+        [['39-34', 3]]);
     const cooked = found({ n: 2, verdict: 'cooked', shortest: 1, keys: ['41-37', '45-40'], tries: [] });
     assert.deepEqual([cooked.line, cooked.shortest], ['cooked in 2, shortest 1: 41-37, 45-40', 1]);
     assert.equal(found({ n: 2, verdict: 'sound', keys: ['45-40'], tries: [] }).line, 'sound in 2: 45-40');

@@ -32,6 +32,9 @@ export function foundOf(fen, most, isExact) {
     return { n, verdict: 'sound', keys, tries };
 }
 
+/** The first moves that win later. */
+export const laterOf = (fen) => [[moveOf(`later ${fen}`), leastOf(fen) + 1]];
+
 /** What is said of a solution. */
 export const checkedOf = (fen, text) => ({
     n: 1 + (sumOf(text) % 9), win: true, holds: true, fail: 0, end: 0, open: sumOf(`${fen} ${text}`) % 1000, also: 0,
@@ -72,7 +75,8 @@ export function rowsFor(words, input) {
         }
         const found = foundOf(fen, option(isExact ? '-n' : '--most'), isExact);
         const moves = found.keys.length ? [{ depth: 1, move: found.keys[0], fen: `B:W1${sumOf(fen) % 9}:B6` }] : [];
-        return [{ problem: 1, fen, ...found, more: false, moves }];
+        const later = words.includes('--later') && found.keys.length ? { later: laterOf(fen) } : {};
+        return [{ problem: 1, fen, ...found, more: false, moves, ...later }];
     }
     const firsts = isFirst ? firstsOf(fen) : [];
     if (command === 'moves') return [{ problem: 1, fen, n: option('-n'), winning: 0, moves: firsts }];

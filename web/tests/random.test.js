@@ -5,7 +5,7 @@ import test from 'node:test';
 import { deflateSync } from 'node:zlib';
 import { lineOf } from '../js/answers.js';
 import { openPage, Storage } from './dom.mjs';
-import { answerOf, checkedOf, firstsOf, foundOf, leastOf, legalOf, neighbourOf } from './fakes.mjs';
+import { answerOf, checkedOf, firstsOf, foundOf, laterOf, leastOf, legalOf, neighbourOf } from './fakes.mjs';
 
 const NO_WIN = /(?:no win in|geen winst in|pas de gain en|нет выигрыша в) (\d+)/;
 const NO_MOVES = /no move left|geen zet meer|plus de coup|не имеют ходов/;
@@ -82,6 +82,7 @@ function checkAnswer() {
     assert.ok(found, `${line} of ${fen}, not ${expected.map(lineOf)}`);
     for (const key of found.keys) assert.ok(at('verdict').textContent.includes(key));
     assert.deepEqual(movesIn('tries'), found.tries.flat());
+    if (!at('later-part').hidden) assert.deepEqual(movesIn('later-wins'), laterOf(fen).map(([move]) => move));
     if (!at('solution-part').hidden) assert.deepEqual(movesIn('solution'), found.keys);
     if (!at('firsts-part').hidden) {
         assert.deepEqual(movesIn('firsts'), firstsOf(fen).flatMap((first) => [first.move, ...first.refuted_by]));
@@ -152,6 +153,7 @@ const ACTS = {
     move: () => clickOne('.move'), step: () => click('to-start', 'previous-move', 'next-move'),
     moves: () => set('most', oneOf(['2', '4', '7', '', '0', '2.5']), 'change'),
     exact: () => { at('exact').checked = !at('exact').checked; },
+    later: () => set('later', oneOf(['0', '1', '5']), 'change'),
     movetext: () => set('movetext', oneOf(['1. 32-28', '1. 27-21 *', '[FEN "B:W43:B24,29"] 1. 24-30']), 'input'),
     compare: () => click('compare'), stopCompare: () => click('stop-compare'),
     mendMoves: () => set('mend-n', oneOf(['1', '2', '']), 'input'), mend: () => click('mend-go'),

@@ -18,7 +18,7 @@ const answer = (text, status = 0, message = '', reason = REASON.ended) =>
 const STEPS = [[1, '32-28'], [2, '18-22'], [3, '27x18'], [3, '28x17'], [2, '18-23'], [3, '28x19']];
 const MOVES = STEPS.map(([depth, move]) => ({ depth: Number(depth), move: String(move), fen: 'x' }));
 const FEN = 'W:W27:B18';
-const QUESTION = /** @type {const} */ ({ fen: FEN, rows: 10, most: 8, isExact: false });
+const QUESTION = /** @type {const} */ ({ fen: FEN, rows: 10, most: 8, isExact: false, later: 0 });
 
 test('a search goes on in slices until it is decided, and has the solution', async () => {
     /** @type {string[][]} */
@@ -48,6 +48,15 @@ test('a search within just so many moves names them', async () => {
             + '"moves":[]}\n');
     }, { ...QUESTION, isExact: true }, () => {}, new AbortController().signal);
     assert.deepEqual([found.line, tree], ['unsolvable in 8', null]);
+});
+
+test('a search for later wins asks for them', async () => {
+    const { found } = await find(async (words) => {
+        assert.equal(words[words.indexOf('--later') + 1], '2');
+        return answer('{"problem":1,"fen":"W:W27:B18","n":2,"verdict":"sound","keys":["32-28"],"tries":[],"more":false,'
+            + '"moves":[],"later":[["27-21",4]]}\n');
+    }, { ...QUESTION, later: 2 }, () => {}, new AbortController().signal);
+    assert.deepEqual(found.later, [['27-21', 4]]);
 });
 
 test('what the program refuses or cannot do is told', async () => {
