@@ -182,7 +182,7 @@ module _ (decided : WinsAreDecided) (order : MovesInOrder) (g : Geometry) (board
   attacker_right : (n : ℕ) (p : Placement) (b : List Move) {here : List Remark} {moves : List Move}
       → p ≡ after g start b → (b ≡ []) ⊎ Member b tree → Lined (suc n) p b
       → AtAttacker g p (suc n) tree b here moves → (r : Remark) → Member r here → IsFault r → ⊥
-  attacker_right n p b at root lined (without_move never) r there fault =
+  attacker_right n p b at root lined (without_move never least) r there fault =
       no_ends n p b root lined (λ m on. never m (goes_on_by decided order g board start tree played p b m at on))
   attacker_right n p b at root lined (with_moves {failing = failing} {others = others} x goes f o k) r there fault =
       elim (mem_cases r (map (λ t. fails b t.0 t.1) failing) (if_any (also b) others) there) [
@@ -197,14 +197,14 @@ module _ (decided : WinsAreDecided) (order : MovesInOrder) (g : Geometry) (board
 
   attacker_moves : (n : ℕ) (p : Placement) (b : List Move) {here : List Remark} {moves : List Move}
       → AtAttacker g p n tree b here moves → (m : Move) → Member m moves → GoesOnBy g p tree b m × IsWinning g p n m
-  attacker_moves n p b (without_move never) m there = absurd there
+  attacker_moves n p b (without_move never least) m there = absurd there
   attacker_moves n p b (with_moves x goes f o k) m there = (k.exactly m).0 there
 
   defender_right : (n : ℕ) (p : Placement) (b : List Move) (m : Move) {here : List Remark} {moves : List Move}
       → play g p m ≡ after g start (b ++ m ∷ []) → Lined (suc n) p b → Member (b ++ m ∷ []) tree
       → AtDefender g (play g p m) tree (b ++ m ∷ []) here moves → (r : Remark) → Member r here → IsFault r → ⊥
   defender_right n p b m to lined on (over never) r there fault = there
-  defender_right n p b m to lined on (without_reply x legal never) r there fault =
+  defender_right n p b m to lined on (without_reply x legal never least) r there fault =
       let line = lined (m ∷ []) (
         on,
         λ y further. never y (goes_on_by decided order g board start tree played
@@ -217,7 +217,7 @@ module _ (decided : WinsAreDecided) (order : MovesInOrder) (g : Geometry) (board
   defender_moves : (q : Placement) (b : List Move) {here : List Remark} {moves : List Move}
       → AtDefender g q tree b here moves → (r : Move) → Member r moves → GoesOnBy g q tree b r
   defender_moves q b (over never) r there = absurd there
-  defender_moves q b (without_reply x legal never) r there = absurd there
+  defender_moves q b (without_reply x legal never least) r there = absurd there
   defender_moves q b (with_replies x goes o k) r there = (k.exactly r).0 there
 
   faultless : (n : ℕ) (p : Placement) (b : List Move) (rs : List Remark) → p ≡ after g start b
@@ -250,8 +250,8 @@ module _ (decided : WinsAreDecided) (order : MovesInOrder) (g : Geometry) (board
   -- ---- only faults, if all lines stand in the tree
   attacker_speaks : (n : ℕ) (p : Placement) (b : List Move) {here : List Remark} {moves : List Move}
       → Full (suc n) p b → AtAttacker g p (suc n) tree b here moves → (r : Remark) → Member r here → IsFault r
-  attacker_speaks n p b full (without_move never) r (inl e) = subst IsFault (sym e) tt
-  attacker_speaks n p b full (without_move never) r (inr gone) = absurd gone
+  attacker_speaks n p b full (without_move never least) r (inl e) = subst IsFault (sym e) tt
+  attacker_speaks n p b full (without_move never least) r (inr gone) = absurd gone
   attacker_speaks n p b full (with_moves {failing = failing} {others = others} x goes f o k) r there =
       elim (mem_cases r (map (λ t. fails b t.0 t.1) failing) (if_any (also b) others) there) [
         | inl said ↦
@@ -269,8 +269,8 @@ module _ (decided : WinsAreDecided) (order : MovesInOrder) (g : Geometry) (board
       → IsWinning g p (suc n) m → Full (suc n) p b → AtDefender g (play g p m) tree (b ++ m ∷ []) here moves
       → (r : Remark) → Member r here → IsFault r
   defender_speaks n p b m wins full (over never) r there = absurd there
-  defender_speaks n p b m wins full (without_reply x legal never) r (inl e) = subst IsFault (sym e) tt
-  defender_speaks n p b m wins full (without_reply x legal never) r (inr gone) = absurd gone
+  defender_speaks n p b m wins full (without_reply x legal never least) r (inl e) = subst IsFault (sym e) tt
+  defender_speaks n p b m wins full (without_reply x legal never least) r (inr gone) = absurd gone
   defender_speaks n p b m wins full (with_replies {others = others} x goes o k) r there =
       let a = if_any_is (leaves_open (b ++ m ∷ [])) others r there in
       let reply = (o.exactly a.1.0).0 a.1.1 in

@@ -38,7 +38,7 @@ abbrev pub IsFault : Remark → Type 0
 IsFault (fails b m r) = Unit {0}
 IsFault (also b keys) = ⊥
 IsFault (leaves_open b replies) = ⊥
-IsFault (ends b) = Unit {0}
+IsFault (ends b wins_in) = Unit {0}
 
 -- a complete path of a tree: the tree has no path with one move more
 abbrev pub IsWholePath : List (List Move) → List Move → Type 0

@@ -16,6 +16,7 @@ pub fn one_list_of_remarks()
     ensures { OneListOfRemarks }
 {
     dw_moves::laws::moves_have_keys();
+    dw_solve::laws::wins_stay();
 }
 
 /// Each remark has a text: its moves are legal after the beginning that it is on.
