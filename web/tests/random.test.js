@@ -154,6 +154,7 @@ const ACTS = {
     exact: () => { at('exact').checked = !at('exact').checked; },
     movetext: () => set('movetext', oneOf(['1. 32-28', '1. 27-21 *', '[FEN "B:W43:B24,29"] 1. 24-30']), 'input'),
     compare: () => click('compare'), stopCompare: () => click('stop-compare'),
+    compareMost: () => set('compare-most', oneOf(['', '3', '0']), 'input'),
     mendMoves: () => set('mend-n', oneOf(['1', '2', '']), 'input'), mend: () => click('mend-go'),
     stopMend: () => click('mend-stop'), card: () => clickOne('.card'), add: () => click('add-go'),
     language: () => set('language', oneOf(['en', 'nl', 'fr', 'ru']), 'change'),

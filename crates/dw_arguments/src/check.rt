@@ -22,7 +22,7 @@ pub struct CheckArgs {
 const WITHIN_HELP: &str =
     "Look for a win in N moves of the side to move, 1 to 20 [default: as in the solution]";
 
-const MOST_HELP: &str = "Look for a win in the least number of moves with one, up to N, 1 to 20";
+const MOST_HELP: &str = "Check within the least number of moves with a win, up to N, 1 to 20";
 
 const FAULTS_HELP: &str = "Leave out problems without remarks and refusals";
 
@@ -35,7 +35,7 @@ line:
   fails  a move of the attacker that does not win, with the reply that refutes it
   also   winning moves that the solution lacks
   open   replies that the solution lacks
-  ends   the solution ends here, but the game is not over: the attacker still wins in so many moves
+  ends   the solution ends here, but the game is not over: the attacker wins in K more moves
 The last line says whether the solution holds in N moves, and counts the remarks of each kind. A
 solution holds if nothing fails and nothing ends. A try in parentheses counts as a move that fails.
 With --most, N is the least number of moves with a win, or that of --most if there is none. Without
