@@ -152,7 +152,8 @@ module _ (keys : MovesHaveKeys) (stay : WinsStay) (g : Geometry) (tree : List (L
       (at_defender_one (play g p m) (b ++ m ∷ []))
       (λ r. remarks_one n (play g (play g p m) r) ((b ++ m ∷ []) ++ r ∷ [])) us vs) rs ss h k
 
-pub tree_has_one : MovesHaveKeys → WinsStay → (g : Geometry) (p : Placement) (text : List ℕ) (beginnings : List (List Move))
+pub tree_has_one : MovesHaveKeys → WinsStay → (g : Geometry) (p : Placement) (text : List ℕ)
+    (beginnings : List (List Move))
     → IsTree g p text beginnings → (n : ℕ) (rs ss : List Remark) → AreRemarks g beginnings n p [] rs
     → AreRemarks g beginnings n p [] ss → rs ≡ ss
 tree_has_one keys stay g p text beginnings is n rs ss h k =

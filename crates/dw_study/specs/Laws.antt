@@ -1,5 +1,5 @@
 -- Laws of findings and of remarks, for every board.
-use Rattle.std.specs.Prelude.{◌≡◌, ◌↔◌, ℕ, ◌<◌, Bool, List, [], ◌∷◌, ◌++◌}
+use Rattle.std.specs.Prelude.{◌≡◌, ◌↔◌, ℕ, ◌<◌, Bool, Option, IsSome, List, [], ◌∷◌, ◌++◌}
 use Rattle.dw_board.specs.Geometry.{Geometry, IsBoard}
 use Rattle.dw_board.specs.Placement.{Placement}
 use Rattle.dw_board.specs.Lists.{Member}
@@ -32,6 +32,12 @@ OneListOfRemarks = (g : Geometry) (p : Placement) (text : List ℕ) (tree : List
 abbrev pub RemarksHaveTexts : Type 0
 RemarksHaveTexts = (g : Geometry) (p : Placement) (tree : List (List Move)) (n : ℕ) (remarks : List Remark)
     → AreRemarks g tree n p [] remarks → (r : Remark) → Member r remarks → HasTexts g p r
+
+-- each end on the tree of a movetext has a number of moves within which the attacker wins
+abbrev pub EndsHaveNumbers : Type 0
+EndsHaveNumbers = (g : Geometry) → IsBoard g → (p : Placement) (text : List ℕ) (tree : List (List Move))
+    → IsTree g p text tree → (n : ℕ) (remarks : List Remark) → AreRemarks g tree n p [] remarks
+    → (b : List Move) (wins_in : Option ℕ) → Member (ends b wins_in) remarks → IsSome wins_in
 
 -- a remark is about a fault: a move fails, or a path ends too soon
 abbrev pub IsFault : Remark → Type 0
