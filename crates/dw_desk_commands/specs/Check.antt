@@ -118,8 +118,8 @@ IsChecked g query problem p n remarks refused text = (refused ≡ not (holds (co
     × MatchBool (query.faults && is_none remarks) (text ≡ [])
     (MatchBool query.json (IsCheckedLine g problem.number p n remarks text) (IsCheckedText g problem p n remarks text))
 
--- the number of moves within which a tree is checked: the number that is asked for, or the least up to it with a win; or
--- else as many as the tree has, but at least 1
+-- the number of moves within which a tree is checked: the number that is asked for, or the least up to it with a win;
+-- or else as many as the tree has, but at least 1
 abbrev pub IsCheckedAt : Geometry → Placement → (asked : Option MoveCount) → (is_least : Bool) → List (List Move) → ℕ
     → Type 0
 IsCheckedAt g p (Some moves) is_least tree n = IsNumberFor g p is_least moves.value n

@@ -56,7 +56,8 @@ all_told told (x ∷ xs) each h = h.4 ∙ (λ i. h.2 i ∷ all_told told xs h.1 
 
 -- the members of a remark: its kind, its line and its moves, and then the others
 pub two_parts : (kind : List ℕ) (words : Words) (one line : List ℕ) (moves : List (List ℕ)) (more : List Member)
-    (a b c d e : Written) → line ≡ words.line → moves ≡ words.moves → more ≡ refutation_members words.refutation ++ wins_in_members words.wins_in
+    (a b c d e : Written) → line ≡ words.line → moves ≡ words.moves
+    → more ≡ refutation_members words.refutation ++ wins_in_members words.wins_in
     → WritesMembers ((codes "kind", string kind) ∷ []) a b → WritesMembers ((codes "line", string line) ∷ []) b c
     → WritesMembers ((codes "moves", texts moves) ∷ []) c d → WritesMembers more d e
     → WritesMembers (word_members kind words) a e

@@ -199,7 +199,8 @@ fn put_fields(row: &mut Writer, kind: &str, words: &RemarkFields) -> Result<(), 
 
 /// Writes the reply that refutes, if there is one.
 fn put_refutation(row: &mut Writer, refutation: &Option<String>) -> Result<(), AllocError>
-    ensures { OnOk result (WritesMembers (refutation_members (option_map string_bytes refutation.now)) row.old row.new) }
+    ensures { OnOk result (WritesMembers (refutation_members (option_map string_bytes refutation.now)) row.old
+        row.new) }
 {
     match refutation {
         Some(reply) => put_text(row, "refutation", reply.as_str()),
