@@ -507,8 +507,15 @@ def check_compare(browser):
     becomes(browser, "[t.at('#compared').dataset.line, t.at('#compared-first').hidden, "
             "t.at('#compared-first').textContent.slice(0, 43)]",
             ["fails in 1: 1 fail, 0 end, 0 open, 0 also", False, "Only the first of 2 games was compared. For"])
+    browser.run(call("read", "W:W27,32:B11"))
+    browser.run("t.set('#movetext', '1. 27-21 11-17')")
+    browser.run("t.set('#compare-most', '6')")
+    browser.run("t.at('#compare').click()")
+    becomes(browser, "t.at('#compared').dataset.line", "fails in 2: 0 fail, 1 end, 1 open, 0 also")
+    browser.run("t.set('#compare-most', '')")
+    becomes(browser, "t.at('#compared').dataset.line", "")
     browser.run("t.at('#tab-solve').click()")
-    print(f"{browser.name}: {len(CHECKS) + 2} printed solutions compared")
+    print(f"{browser.name}: {len(CHECKS) + 3} printed solutions compared")
 
 
 def check_mend(browser):

@@ -92,7 +92,7 @@ SOLUTIONS = [
      ["fails 1. 27-22 refuted by 18x38", "also 1. 32-28", "fails in 2: 1 fail, 0 end, 0 open, 1 also"]),
     (TWO, " 1. 27-22! {why not} 18x38 *", [], 1,
      ["no win in 1", "fails 1. 27-22 refuted by 18x38", "fails in 1: 1 fail, 0 end, 0 open, 0 also"]),
-    (TWO, " 1. 32-28 *", ["-n", "2"], 1, ["ends 1. 32-28", "fails in 2: 0 fail, 1 end, 0 open, 0 also"]),
+    (TWO, " 1. 32-28 *", ["-n", "2"], 1, ["ends 1. 32-28: wins in 1", "fails in 2: 0 fail, 1 end, 0 open, 0 also"]),
     (TWO, " 1. 32-28 (1. 27-22 18x38) 1... 18-22 (1... 18-23 2. 28x19) 2. 27x18 (2. 28x17) 2-0", [], 1,
      ["fails 1. 27-22 refuted by 18x38", "fails in 2: 1 fail, 0 end, 0 open, 0 also"]),
     (TWO, " 1. 32-27", [], 1, ["solution refused: 2 no such move at 5"]),
@@ -284,11 +284,13 @@ def check_errors():
                   ["token"], ["token", "--line", "x", "--problem", "1-2"], ["check", "-n", "21"],
                   ["certify", "-n", "2", "--json"], ["page", "-n", "2", "--json"], ["token", "--line", "x", "--json"],
                   ["solution"], ["solution", "-n", "2", "--most", "3"], ["solution", "--most", "0"],
+                  ["check", "-n", "2", "--most", "3"], ["check", "--most", "0"], ["check", "--most", "21"],
                   ["page", "-n", "2", "--tries", "some"], ["find", "--faults"]):
         ran = subprocess.run([DESK, *words], capture_output=True, text=True, input="", timeout=60, check=False)
         assert (ran.returncode, ran.stdout) == (2, "") and ran.stderr.startswith("error: "), (words, ran)
     for words in (["find"], ["check"], ["solution", "-n", "2"], ["page", "-n", "2"], ["certify", "-n", "2"],
                   ["mend", "-n", "2"], ["moves", "-n", "2"], ["solution", "--most", "2"], ["check", "--faults"],
+                  ["check", "--most", "2"],
                   ["solution", "-n", "2", "--json"], ["token", "--line", "x"]):
         assert run(DESK, *words, "--problem", "2", text="W:W32:B28\n", status=1,
                    complaint="dw-desk: no problem 2\n") == "", words

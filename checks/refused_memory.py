@@ -36,7 +36,7 @@ DESK_COMMANDS = (["find", "--pdn"], ["find", "--pdn", "--json"], ["find", "--pdn
                  ["page", "--pdn", "-n", "2"], ["certify", "--pdn", "-n", "2"], ["mend", "--pdn", "-n", "1"],
                  ["moves", "--pdn", "-n", "2"], ["moves", "--pdn", "-n", "2", "--json"], ["check", "--json"],
                  ["mend", "--pdn", "-n", "1", "--json"], ["solution", "--pdn", "--most", "2"],
-                 ["solution", "--pdn", "-n", "2", "--json"], ["check", "--faults"],
+                 ["solution", "--pdn", "-n", "2", "--json"], ["check", "--faults"], ["check", "--most", "3"],
                  ["page", "--pdn", "-n", "2", "--tries", "none"], ["moves", "--pdn", "-n", "2", "--part", "2/2"],
                  ["token", "--pdn", "--line", "45-40 16-21 27x16"])
 GAME = b'[Event "a"]\n[FEN "W:W27,45:B16"]\n\n1. 45-40 (1. 27-21 16x27) 16-21 2. 27x16 *\n'

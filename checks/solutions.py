@@ -7,11 +7,12 @@ second reader.
 For random small positions (150 on each board by default) it makes a tree of all lines of a win and spoils it: it cuts a
 path, changes a move, removes a variation or a reply. It writes the tree as a movetext with comments, marks and numbers
 of all kinds. `dw-desk check` must give the remarks of the recursion in judging.py, byte for byte, for the right number
-of moves, for one less, and for that of the tree, as text, as JSON, and with --faults. Then bytes of the movetexts are
-dropped, doubled and changed: a reader made from the list of parts in docs/DESK.md must find the same error at the
-same place, or the same tree. With --count 4500 there are up to 108,000 such movetexts, which takes a quarter of an
-hour.
+of moves, for one less, for the least up to these, and for that of the tree, as text, as JSON, and with --faults. Then
+bytes of the movetexts are dropped, doubled and changed: a reader made from the list of parts in docs/DESK.md must find
+the same error at the same place, or the same tree. With --count 4500 there are up to 108,000 such movetexts, which
+takes a quarter of an hour.
 """
+import itertools
 import json
 import pathlib
 import random
@@ -42,7 +43,7 @@ WORKED_ROWS = """\
 {"problem":3,"fen":"W:W27,32:B18","n":2,"win":true,"holds":false,"fail":1,"end":0,"open":0,"also":1,"remarks":[\
 {"kind":"fails","line":"","moves":["27-22"],"refutation":"18x38"},{"kind":"also","line":"","moves":["32-28"]}]}
 {"problem":4,"fen":"W:W27,32:B18","n":2,"win":true,"holds":false,"fail":0,"end":1,"open":0,"also":0,"remarks":[\
-{"kind":"ends","line":"1. 32-28","moves":[]}]}
+{"kind":"ends","line":"1. 32-28","moves":[],"wins_in":1}]}
 {"problem":5,"fen":"W:W27,32:B18","solution_refused":"2 no such move at 5"}
 {"problem":6,"refused":"1 fen: 7 last row at 4"}
 """
@@ -121,7 +122,8 @@ class Remarks:
         keys = problems.keys(cells, self.turn, n)
         number = len(line) // 2 + 1
         if not tree:
-            yield self.told("end", f"ends{self.behind(line)}")
+            missing = next(k for k in itertools.count(1) if problems.wins(cells, self.turn, k))
+            yield self.told("end", f"ends{self.behind(line)}: wins in {missing}")
             return
         for move in tree:
             if move not in keys:
@@ -141,7 +143,8 @@ class Remarks:
         problems, side = self.problems, other(self.turn)
         replies = [move for move, _ in problems.moves(cells, side)]
         if replies and not tree:
-            yield self.told("end", f"ends{self.behind(line)}")
+            missing = next(k for k in itertools.count(1) if problems.loses(cells, side, k))
+            yield self.told("end", f"ends{self.behind(line)}: wins in {missing}")
             return
         left = ", ".join(problems.text(cells, side, reply) for reply in replies if reply not in tree)
         if left:
@@ -338,14 +341,24 @@ def is_one_section(text):
     return bool(text.strip(b" \t\r\n")) and not set(b"[{") & set(outside)
 
 
-def expected(problems, text, cells, turn, n):
-    """What is said of a movetext within n moves, and whether it is refused or fails."""
+def number_of(problems, cells, turn, tree, asked):
+    """The number of moves of -n, the least with a win up to that of --most, or that of a tree."""
+    if not asked:
+        return max(1, turns(tree))
+    option, n = asked
+    if option == "-n":
+        return n
+    return next((k for k in range(1, n) if problems.wins(cells, turn, k)), n)
+
+
+def expected(problems, text, cells, turn, asked):
+    """What is said of a movetext within as many moves as are asked for, and whether it is refused or fails."""
     try:
         tree = read(problems, text, cells, turn)
     except Refused as fault:
         number, place = fault.args
         return [f"solution refused: {number} {NAMES[number]} at {place}"], True
-    return checked(problems, cells, turn, tree, n or max(1, turns(tree)))
+    return checked(problems, cells, turn, tree, number_of(problems, cells, turn, tree, asked))
 
 
 def row_of(number, first, lines):
@@ -360,10 +373,13 @@ def row_of(number, first, lines):
     remarks = []
     for line in said[not wins:]:
         kind, rest = line.split(" ", 1) if " " in line else (line, "")
-        refutation = {}
+        more = {}
         if kind == "fails":
             rest, reply = rest.split(" refuted by ")
-            refutation = {"refutation": reply}
+            more = {"refutation": reply}
+        elif kind == "ends":
+            rest, missing = rest.split(": wins in ")
+            more = {"wins_in": int(missing)}
         beginning, moves = rest, []
         if kind == "open":
             beginning, replies = rest.split(": ")
@@ -371,7 +387,7 @@ def row_of(number, first, lines):
         elif kind in ("fails", "also"):
             beginning, keys = re.fullmatch(r"(?:(.*) )?\d+\. (.*)", rest).groups()
             beginning, moves = beginning or "", keys.split(" / ")
-        remarks.append({"kind": kind, "line": beginning, "moves": moves, **refutation})
+        remarks.append({"kind": kind, "line": beginning, "moves": moves, **more})
     return {**row, "n": int(n), "win": wins, "holds": verdict == "holds", "fail": int(fail), "end": int(end),
             "open": int(left), "also": int(also), "remarks": remarks}
 
@@ -389,21 +405,21 @@ def compare_forms(words, told, status, file):
         assert (ran.returncode, ran.stdout.splitlines(), ran.stderr) == (status, lines, ""), (more, differ[:1])
 
 
-def compare(words, games, n, file):
+def compare(words, games, asked, file):
     """Has the program check a file of games, and compares what it says."""
     file.write_bytes(b"".join(f'[Event "x"]\n[FEN "{first}"]'.encode() + text for _, first, _, _, text in games))
     wanted, bad, told = "", 0, []
     for number, (problems, first, cells, turn, text) in enumerate(games, 1):
-        lines, fails = expected(problems, text, cells, turn, n)
+        lines, fails = expected(problems, text, cells, turn, asked)
         told.append((number, first, lines))
         wanted += "".join(f"{line}\n" for line in [f"problem {number}: {first}", *lines])
         bad += fails
-    ran = subprocess.run([DESK, "check", *words, *(["-n", str(n)] if n else []), file], capture_output=True, text=True,
-                         timeout=3600, check=False)
+    words = [*words, *map(str, asked)]
+    ran = subprocess.run([DESK, "check", *words, file], capture_output=True, text=True, timeout=3600, check=False)
     if (ran.returncode, ran.stdout, ran.stderr) != (int(bad > 0), wanted, ""):
         rows = zip(ran.stdout.splitlines(), wanted.splitlines())
         raise AssertionError((ran.returncode, ran.stderr, next((pair for pair in rows if pair[0] != pair[1]), None)))
-    compare_forms([*words, *(["-n", str(n)] if n else [])], told, int(bad > 0), file)
+    compare_forms(words, told, int(bad > 0), file)
     return wanted
 
 
@@ -443,11 +459,11 @@ def check(rows, count, source, folder):
             games.setdefault(n, []).append(found[-1])
     kinds = {}
     for n, of_number in sorted(games.items()):
-        for within in {n, n - 1} - {0}:
-            said = compare(words, of_number, within, file)
+        for asked in itertools.product(("-n", "--most"), {n, n - 1} - {0}):
+            said = compare(words, of_number, asked, file)
             for kind in ("holds", "fails in", "no win", "fails 1.", "also", "open", "ends"):
                 kinds[kind] = kinds.get(kind, 0) + len(re.findall(rf"^{kind}", said, re.MULTILINE))
-    compare(words, found, None, file)
+    compare(words, found, (), file)
     print(f"{rows} rows: {len(found)} trees, {kinds}: the same remarks", flush=True)
     spoilt = []
     for problems, first, cells, turn, text in found:
@@ -455,7 +471,7 @@ def check(rows, count, source, folder):
             other_text = mutated(source, text)
             if is_one_section(other_text):
                 spoilt.append((problems, first, cells, turn, other_text + source.choice([b"", b"\n"])))
-    said = compare(words, [g for g in spoilt if usable(g)], 2, file)
+    said = compare(words, [g for g in spoilt if usable(g)], ("-n", 2), file)
     faults = {name: len(re.findall(rf"refused: \d+ {name} at", said)) for name in NAMES.values()}
     print(f"{rows} rows: {said.count('problem ')} mutated movetexts, {faults}: the same faults and remarks", flush=True)
 
@@ -464,7 +480,7 @@ def usable(entry):
     """Whether the recursion has room for a mutated movetext, and it does not go on in the next section's tags."""
     problems, _, cells, turn, text = entry
     try:
-        expected(problems, text, cells, turn, 2)
+        expected(problems, text, cells, turn, ("-n", 2))
     except TooMany:
         return False
     return True

@@ -25,7 +25,7 @@ _dw_desk() {
             options="-n --board --pdn --problem --most --each --later --json --solution --memo --cache --progress"
             options="$options -h --help"
             ;;
-        check) options="-n --board --pdn --problem --faults --json --memo --cache --progress -h --help" ;;
+        check) options="-n --board --pdn --problem --most --faults --json --memo --cache --progress -h --help" ;;
         solution) options="-n --board --pdn --problem --most --lines --json --memo --cache --progress -h --help" ;;
         page)
             options="-n --board --pdn --problem --most --lines --title --lang --solutions --tries --numbers --memo"

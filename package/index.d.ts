@@ -88,6 +88,7 @@ export interface Remark {
     line: string;
     moves: string[];
     refutation?: string;
+    wins_in?: number;
 }
 
 export interface Checked extends Shown {
@@ -148,7 +149,7 @@ export class Desk {
         Promise<(Judged | Undecided | Refused)[]>;
     judge(problems: Problems, options: CallOptions & Bounded & { n: number; later?: number }):
         Promise<(Judged | Undecided | Refused)[]>;
-    check(pdn: string | Uint8Array, options?: CallOptions & { n?: number; faults?: boolean }):
+    check(pdn: string | Uint8Array, options?: CallOptions & { n?: number; most?: number; faults?: boolean }):
         Promise<(Checked | SolutionRefused | Refused)[]>;
     solution(problems: Problems, options: CallOptions & { lines?: number } & ({ n: number } | { most: number })):
         Promise<(Solution | Refused)[]>;

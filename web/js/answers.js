@@ -21,7 +21,8 @@ import { textOf } from '../../package/engine.js';
  * }} Found `line` is what `dw judge` writes; `later` are the first moves that win later, if they were asked for; `n` is
  *     the number of moves, of an undecided problem the greatest for which there is no win.
  * @typedef {{move: string, fen: string, wins_in?: number, refuted_by?: string[]}} First
- * @typedef {{kind: 'fails' | 'also' | 'open' | 'ends', line: string, moves: string[], refutation?: string}} Remark
+ * @typedef {{kind: 'fails' | 'also' | 'open' | 'ends', line: string, moves: string[], refutation?: string,
+ *   wins_in?: number}} Remark
  * @typedef {{fen?: string, refused?: string, solution_refused?: string, n: number, win: boolean, holds: boolean,
  *   fail: number, end: number, open: number, also: number, remarks?: Remark[]}} Checked What `check` says.
  * @typedef {{move: string, fen: string}} Legal

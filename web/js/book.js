@@ -15,8 +15,9 @@ import { Stopped } from '../../package/workers.js';
  * @typedef {{most: number, isExact: boolean, later: number}} SolveQuestion
  * @typedef {{noWinIn: number, expanded: number}} SolveProgress
  * @typedef {{n: number}} MovesQuestion
- * @typedef {{text: string, isOwn: boolean, count: number}} CompareQuestion `isOwn` says that the game is that of a
- *     file; `count` is the number of games in the text.
+ * @typedef {{text: string, isOwn: boolean, count: number, most: number}} CompareQuestion `isOwn` says that the game is
+ *     that of a file; `count` is the number of games in the text; `most` is the greatest number of moves, 0 for that of
+ *     the solution.
  * @typedef {{neighbours: Neighbour[], tried: number, parts: number}} MendProgress
  * @typedef {{first: string, played: Legal[], undone: Legal[]}} Line Moves that are played, and those taken back.
  * @typedef {{key: Key, values: (string | number)[]}} Note

@@ -26,9 +26,13 @@ const isGame = (/** @type {string} */ text) => /^\s*\[/.test(text);
 
 /** The comparison. */
 export class Comparing {
-    /** @param {App} app */
-    constructor(app) {
+    /**
+     * @param {App} app
+     * @param {import('./number.js').OptionalMovesField} most
+     */
+    constructor(app, most) {
         this.app = app;
+        this.most = most;
         this.field = control('movetext', HTMLTextAreaElement);
         /** @type {import('./languages.js').Key | null} Why nothing was compared. */
         this.blocked = null;
@@ -39,7 +43,7 @@ export class Comparing {
             this.draw();
         });
         byId('movetext-file').addEventListener('change', () => void this.open());
-        this.field.addEventListener('input', () => this.unblock());
+        for (const field of [this.field, most.field]) field.addEventListener('input', () => this.unblock());
         app.on(['edited', 'looked', 'read'], () => { this.blocked = null; });
         app.on(['edited', 'looked', 'spoken', 'answered', 'read'], () => this.draw());
         this.draw();
@@ -55,13 +59,15 @@ export class Comparing {
      * @param {Entry} entry
      */
     isOfText({ compare }) {
-        return compare !== null && (compare.question.isOwn || compare.question.text === this.field.value);
+        if (compare === null) return false;
+        const { text, isOwn, most } = compare.question;
+        return (isOwn || text === this.field.value) && !this.most.isWrong && most === this.most.value;
     }
 
-    /** The text is another: what is searched of the one before has no use. */
+    /** The text or the number is another: what is searched of the one before has no use. */
     unblock() {
-        const { compare } = this.app.book.of(this.app.subject);
-        if (compare && !compare.question.isOwn && compare.question.text !== this.field.value) compare.stop();
+        const entry = this.app.book.of(this.app.subject);
+        if (!this.isOfText(entry)) entry.compare?.stop();
         this.blocked = null;
         this.draw();
     }
@@ -74,7 +80,8 @@ export class Comparing {
 
     /** Compares what stands in the field; a whole game brings its own position, and is the first of its text. */
     async compareField() {
-        const { app } = this, text = this.field.value, { rows } = app.position;
+        const { app } = this, text = this.field.value, most = this.most.ask(), { rows } = app.position;
+        if (this.most.isWrong) return;
         app.returnToSubject();
         if (!isGame(text)) {
             if (await app.fault()) {
@@ -82,7 +89,7 @@ export class Comparing {
                 return;
             }
             const entry = app.book.of(app.subject);
-            await this.compare(entry, `[FEN "${entry.fen}"]${text}`, { text, isOwn: false, count: 1 });
+            await this.compare(entry, `[FEN "${entry.fen}"]${text}`, { text, isOwn: false, count: 1, most });
             return;
         }
         const problems = await app.rules.problems(text, rows);
@@ -90,15 +97,15 @@ export class Comparing {
         const fen = problems[0]?.fen, naming = namingOf(pasted(text).tags);
         if (fen) app.edit(positionOf(fen, rows));
         if (fen && lineOfName(naming)) app.name(app.history.now, naming);
-        await this.compare(app.book.of(app.subject), text, { text, isOwn: false, count: problems.length });
+        await this.compare(app.book.of(app.subject), text, { text, isOwn: false, count: problems.length, most });
     }
 
     /** Compares the solution of the file with which the problem came. */
     compareOwn() {
-        const { app } = this, text = app.gameOf(app.history.now);
-        if (text === null) return;
+        const { app } = this, text = app.gameOf(app.history.now), most = this.most.ask();
+        if (text === null || this.most.isWrong) return;
         app.returnToSubject();
-        void this.compare(app.book.of(app.history.now), text, { text, isOwn: true, count: 1 });
+        void this.compare(app.book.of(app.history.now), text, { text, isOwn: true, count: 1, most });
     }
 
     /**
@@ -115,7 +122,8 @@ export class Comparing {
         entry.compare = task;
         app.tell('answered');
         await task.work(async (signal) => {
-            const asking = [...words, ...boardOf(entry.position.rows)];
+            const most = question.most ? ['--most', String(question.most)] : [];
+            const asking = [...words, ...most, ...boardOf(entry.position.rows)];
             return /** @type {Checked} */ (rowsOf(reportOf(await app.solver.ask(asking, games, signal)))[0]);
         }).finally(() => app.tell('answered'));
     }
@@ -161,9 +169,10 @@ export class Comparing {
      * What is said of the whole solution, and of which kind that is.
      * @param {Checked} checked
      */
-    verdict({ refused, solution_refused: unread, holds, win, n, remarks = [] }) {
+    verdict({ refused, solution_refused: unread, holds, win, fail, n, remarks = [] }) {
         const { app } = this;
         if (refused || unread) return ['refused', app.say('sayRefused')];
+        if (!holds && win && !fail) return ['but', app.say('sayStops', n)];
         if (!holds) return ['fails', app.say(win ? 'sayFails' : 'sayNoWin', n)];
         return remarks.length ? ['but', app.say('sayHoldsBut', n)] : ['holds', app.say('sayHolds', n)];
     }
@@ -184,12 +193,13 @@ export class Comparing {
     }
 
     /** A remark as a sentence. */
-    sentence(/** @type {Entry} */ { fen }, /** @type {Remark} */ { kind, line, moves, refutation = '' }) {
+    sentence(/** @type {Entry} */ { fen }, /** @type {Remark} */ remark) {
+        const { kind, line, moves, refutation = '', wins_in: winsIn = 0 } = remark;
         const { app } = this, played = movesOf(line), where = numbered(fen, played) || app.say('start');
         if (kind === 'fails') return app.say('remarkFails', numbered(fen, [...played, ...moves]), refutation);
         if (kind === 'also') return app.say('remarkAlso', where, moves.join(', '));
         if (kind === 'open') return app.say('remarkOpen', where, moves.join(', '));
-        return app.say('remarkEnds', where);
+        return app.say('remarkEnds', where, winsIn);
     }
 
     /** A remark; its button shows the position that it speaks of. */

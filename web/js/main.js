@@ -12,7 +12,7 @@ import { followWindow } from './layout.js';
 import { Link } from './link.js';
 import { ListView } from './list.js';
 import { NamingView } from './naming_view.js';
-import { MovesField, movesIn } from './number.js';
+import { MovesField, OptionalMovesField, movesIn } from './number.js';
 import { Paper } from './paper.js';
 import { PictureView } from './picture_view.js';
 import { Play } from './play.js';
@@ -144,7 +144,7 @@ export async function start() {
     keepDepth(store);
     listenToKeys(app, new AnswerView(app, solving), play);
     new Paper(app, solving, store);
-    new Comparing(app);
+    new Comparing(app, new OptionalMovesField(app, 'compare-most'));
     new Improving(app, new MovesField(app, 'mend-n'));
     new ListView(app, new Problems(() => localStorage), movesOfList(app, store));
     chooseTab();

@@ -40,6 +40,11 @@ export class MovesField {
         return movesIn(this.field.value);
     }
 
+    /** Whether what stands in the field is a fault. */
+    get isWrong() {
+        return !this.value;
+    }
+
     /** @param {number | string} moves */
     set(moves) {
         this.field.value = String(moves);
@@ -51,14 +56,22 @@ export class MovesField {
     ask() {
         this.isTold = true;
         this.show();
-        if (!this.value) this.field.focus();
+        if (this.isWrong) this.field.focus();
         return this.value;
     }
 
     show() {
-        const isWrong = this.isTold && !this.value;
+        const isWrong = this.isTold && this.isWrong;
         this.field.setAttribute('aria-invalid', String(isWrong));
         byId(`${this.id}-fault`).textContent = isWrong ? this.app.say('numberFault') : '';
         reveal(`${this.id}-fault`, isWrong);
+    }
+}
+
+/** A field for a number of moves that may stay empty. */
+export class OptionalMovesField extends MovesField {
+    /** @override */
+    get isWrong() {
+        return !this.value && this.field.value.trim() !== '';
     }
 }

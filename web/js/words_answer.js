@@ -136,6 +136,12 @@ export const ANSWER_WORDS = {
         'Collez la solution d’auteur de la position du damier.',
         'Вставьте авторское решение позиции на доске.',
     ],
+    compareMostHint: [
+        'Without a number: as many moves as the solution has.',
+        'Zonder getal: zoveel zetten als de oplossing heeft.',
+        'Sans nombre : autant de temps que la solution en compte.',
+        'Без числа: столько ходов, сколько в решении.',
+    ],
     authorsSolution: ['The author’s solution', 'De auteursoplossing', 'La solution d’auteur', 'Авторское решение'],
     compare: ['Compare', 'Vergelijk', 'Comparer', 'Сравнить'],
     compareOwn: [
@@ -162,6 +168,12 @@ export const ANSWER_WORDS = {
         'De oplossing klopt, maar laat iets weg: winst in # {zet|zetten}.',
         'La solution est juste, mais incomplète : gain en # temps.',
         'Решение верно, но неполно: выигрыш в # {ход|хода|ходов}.',
+    ],
+    sayStops: [
+        'The solution is right as far as it goes, but ends too soon for the win in #.',
+        'De oplossing klopt zover zij gaat, maar eindigt te vroeg voor de winst in # {zet|zetten}.',
+        'La solution est juste jusqu’où elle va, mais s’arrête avant le gain en # temps.',
+        'Решение верно, насколько доведено, но обрывается раньше выигрыша в # {ход|хода|ходов}.',
     ],
     sayFails: [
         'The solution does not hold: no win in # by it.',
@@ -195,10 +207,10 @@ export const ANSWER_WORDS = {
         'После # нет ответа на #',
     ],
     remarkEnds: [
-        'The solution ends too soon after #',
-        'De oplossing eindigt te vroeg na #',
-        'La solution s’arrête trop tôt après #',
-        'Решение обрывается после #',
+        'The solution ends after #: a win in # {move|moves} is left to show',
+        'De oplossing eindigt na #: er ontbreekt een winst in # {zet|zetten}',
+        'La solution s’arrête après # : il reste à montrer un gain en # temps',
+        'Решение обрывается после #: осталось показать выигрыш в # {ход|хода|ходов}',
     ],
     start: ['the start', 'het begin', 'le début', 'начала'],
     improveLead: [

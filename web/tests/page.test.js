@@ -184,6 +184,25 @@ test('a printed solution is compared', async () => {
     assert.match(at('compared-fault').textContent, /This move is not legal here\.$/);
 });
 
+test('of a solution that stops it is said how much is missing', async () => {
+    set('movetext', '1. 32-28 18-22 *', 'input');
+    set('compare-most', '40', 'change');
+    at('compare').click();
+    assert.ok(!at('compare-most-fault').hidden);
+    assert.equal(at('compared').textContent, '');
+    set('compare-most', '6', 'input');
+    at('compare').click();
+    await until(() => at('remarks').children.length === 1);
+    assert.equal(at('compared').dataset.line, 'fails in 2: 0 fail, 1 end, 0 open, 0 also');
+    assert.match(at('compared').textContent, /^The solution is right as far as it goes, but ends too soon/);
+    assert.equal(at('remarks').textContent,
+        '✗ The solution ends after 1. 32-28 18-22: a win in 1 move is left to show');
+    set('compare-most', '', 'input');
+    assert.equal(at('compared').textContent, '');
+    at('compare').click();
+    await until(() => at('compared').dataset.line.startsWith('fails in 1: '));
+});
+
 test('a problem is improved', async () => {
     set('mend-n', '2', 'input');
     at('mend-go').click();

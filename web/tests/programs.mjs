@@ -54,6 +54,11 @@ function report(words, input) {
     }
     if (command === 'check') {
         const open = { kind: 'open', line: '1. 32-28', moves: ['18-23'] };
+        const ends = { kind: 'ends', line: '1. 32-28 18-22', moves: [], wins_in: 1 };
+        if (String(input).includes('32-28 18-22 *')) {
+            const n = words.includes('--most') ? 2 : 1, stops = { holds: false, fail: 0, end: 1, open: 0, also: 0 };
+            return rows(input, () => ({ n, win: true, ...stops, remarks: [ends] }));
+        }
         return rows(input, () => (String(input).includes('27-18') ? { solution_refused: '2 no such move at 4' }
             : { n: 2, win: true, holds: true, fail: 0, end: 0, open: 1, also: 0, remarks: [open] }));
     }

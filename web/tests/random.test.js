@@ -156,6 +156,7 @@ const ACTS = {
     later: () => set('later', oneOf(['0', '1', '5']), 'change'),
     movetext: () => set('movetext', oneOf(['1. 32-28', '1. 27-21 *', '[FEN "B:W43:B24,29"] 1. 24-30']), 'input'),
     compare: () => click('compare'), stopCompare: () => click('stop-compare'),
+    compareMost: () => set('compare-most', oneOf(['', '3', '0']), 'input'),
     mendMoves: () => set('mend-n', oneOf(['1', '2', '']), 'input'), mend: () => click('mend-go'),
     stopMend: () => click('mend-stop'), card: () => clickOne('.card'), add: () => click('add-go'),
     language: () => set('language', oneOf(['en', 'nl', 'fr', 'ru']), 'change'),

@@ -39,9 +39,11 @@ pub record AsksFind (options : List Row) (query : FindArgs) : Type 0 where
   pub solution : query.solution ≡ flag_option options (codes "solution")
   pub later : query.later ≡ number_option 1 19 options (codes "later")
 
--- the request of `check`
+-- the request of `check`; the parser refuses -n beside --most
 pub record AsksCheck (options : List Row) (query : CheckArgs) : Type 0 where
-  pub n : option_map (λ n. n.value) query.n ≡ number_option 1 20 options (codes "n")
+  pub moves : option_map (λ n. n.value) query.moves
+      ≡ option_or (number_option 1 20 options (codes "n")) (number_option 1 20 options (codes "most"))
+  pub is_least : query.is_least ≡ is_some (number_option 1 20 options (codes "most"))
   pub faults : query.faults ≡ flag_option options (codes "faults")
   pub json : query.json ≡ flag_option options (codes "json")
 

@@ -19,7 +19,7 @@ use Rattle.dw_arguments.specs.declared.check.CheckArgs.{CheckArgs}
 use Rattle.dw_study.specs.Remarks.{Remark, fails, also, leaves_open, ends, AreRemarks}
 use Rattle.dw_games.specs.declared.fault.MovetextFaultKind.{MovetextFaultKind}
 use Rattle.dw_desk_commands.specs.Check.{Counted, counted, is_fail, is_end, is_open, is_also, refused_line}
-use Rattle.dw_desk_commands.specs.Check.{IsChecked, IsCheckFor, IsNumberFor}
+use Rattle.dw_desk_commands.specs.Check.{IsChecked, IsCheckedAt, IsCheckFor}
 use Rattle.dw_desk_commands.specs.inner.Tallies.{one_more}
 
 -- a value that is there
@@ -50,7 +50,7 @@ no p remarks r is = sum_by_push (λ x. cond (p x) 1 0) remarks r
 pub counted_next : (remarks : List Remark) (r : Remark) → counted (remarks ++ r ∷ []) ≡ one_more r (counted remarks)
 counted_next remarks (fails b m reply) = let r = fails b m reply in same_numbers _ _ _ _ _ _ _ _
     (yes is_fail remarks r refl) (no is_end remarks r refl) (no is_open remarks r refl) (no is_also remarks r refl)
-counted_next remarks (ends b) = let r = ends b in same_numbers _ _ _ _ _ _ _ _
+counted_next remarks (ends b wins_in) = let r = ends b wins_in in same_numbers _ _ _ _ _ _ _ _
     (no is_fail remarks r refl) (yes is_end remarks r refl) (no is_open remarks r refl) (no is_also remarks r refl)
 counted_next remarks (leaves_open b replies) = let r = leaves_open b replies in same_numbers _ _ _ _ _ _ _ _
     (no is_fail remarks r refl) (no is_end remarks r refl) (yes is_open remarks r refl) (no is_also remarks r refl)
@@ -103,7 +103,7 @@ none_is f v (r ∷ said) b same is = is ∙ ne_eqb _ _ (λ none. (let ok = v.ok.
 -- a solution that was checked is that of its problem
 pub check_for : (g : Geometry) (query : CheckArgs) (problem : Numbered) (movetext : List ℕ) (found : Found)
     (p : Placement) (tree : PlayedTree) (n : ℕ) (remarks : List Remark) (refused : Bool) (text : List ℕ) → found ≡ Ok p
-    → IsAnswer g p movetext (Ok tree) → IsNumberFor query.n tree.paths n
+    → IsAnswer g p movetext (Ok tree) → IsCheckedAt g tree.start query.moves query.is_least tree.paths n
     → AreRemarks g tree.paths n tree.start [] remarks → IsChecked g query problem tree.start n remarks refused text
     → IsCheckFor g query problem movetext found refused text
 check_for g query problem movetext found p tree n remarks refused text is answer number are checked =
@@ -112,7 +112,7 @@ check_for g query problem movetext found p tree n remarks refused text is answer
       n,
       remarks,
       answer.1,
-      number,
+      subst (λ z. IsCheckedAt g z query.moves query.is_least tree.paths n) answer.0 number,
       subst (λ z. AreRemarks g tree.paths n z [] remarks) answer.0 are,
       subst (λ z. IsChecked g query problem z n remarks refused text) answer.0 checked,
     ))

@@ -10,6 +10,7 @@ use Rattle.dw_games.specs.Faults.{IsFirstFault, name_of, number_of}
 use Rattle.dw_games.specs.Games.{NumberedGame, problem_of}
 use Rattle.dw_games.specs.Movetext.{IsTree}
 use Rattle.dw_games.specs.declared.fault.MovetextFaultKind.{MovetextFaultKind}
+use Rattle.dw_study.specs.Finding.{IsNumberFor}
 use Rattle.dw_study.specs.RemarkText.{IsRemarkText}
 use Rattle.dw_study.specs.Remarks.{Remark, fails, also, leaves_open, ends, AreRemarks}
 use Rattle.dw_study.specs.Turns.{HasTurns}
@@ -37,7 +38,7 @@ is_fail other = false
 
 -- whether a remark is on an end that comes too soon
 abbrev pub is_end : Remark → Bool
-is_end (ends beginning) = true
+is_end (ends beginning wins_in) = true
 is_end other = false
 
 -- whether a remark is on replies that are left open
@@ -117,10 +118,12 @@ IsChecked g query problem p n remarks refused text = (refused ≡ not (holds (co
     × MatchBool (query.faults && is_none remarks) (text ≡ [])
     (MatchBool query.json (IsCheckedLine g problem.number p n remarks text) (IsCheckedText g problem p n remarks text))
 
--- the number of moves within which a tree is checked: as many as are asked for, or else as it has, but at least 1
-abbrev pub IsNumberFor : Option MoveCount → List (List Move) → ℕ → Type 0
-IsNumberFor (Some moves) tree n = n ≡ moves.value
-IsNumberFor None tree n = (turns : ℕ) × HasTurns tree turns × (n ≡ max turns 1)
+-- the number of moves within which a tree is checked: the number that is asked for, or the least up to it with a win;
+-- or else as many as the tree has, but at least 1
+abbrev pub IsCheckedAt : Geometry → Placement → (asked : Option MoveCount) → (is_least : Bool) → List (List Move) → ℕ
+    → Type 0
+IsCheckedAt g p (Some moves) is_least tree n = IsNumberFor g p is_least moves.value n
+IsCheckedAt g p None is_least tree n = (turns : ℕ) × HasTurns tree turns × (n ≡ max turns 1)
 
 -- the line that names the fault of a movetext, and its place
 abbrev pub refused_line : MovetextFaultKind → (place : ℕ) → List ℕ
@@ -140,7 +143,7 @@ abbrev pub IsCheckFor : Geometry → CheckArgs → Numbered → (movetext : List
     → Type 0
 IsCheckFor g query problem movetext (Ok p) refused text =
     ((tree : List (List Move)) × (n : ℕ) × (remarks : List Remark) × IsTree g p movetext tree
-    × IsNumberFor query.n tree n × AreRemarks g tree n p [] remarks
+    × IsCheckedAt g p query.moves query.is_least tree n × AreRemarks g tree n p [] remarks
     × IsChecked g query problem p n remarks refused text)
     ⊎ ((what : MovetextFaultKind) × (place : ℕ) × IsFirstFault g p movetext what place
     × (text ≡ fault_text g query.json problem p what place) × (refused ≡ true))

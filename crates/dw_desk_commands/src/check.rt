@@ -4,7 +4,7 @@ ghost use Rattle.std.specs.Prelude.{codes, if◌then◌else◌, IsErrOf, ⊤};
 ghost use Rattle.dw_notation.specs.Streams.{Appends};
 ghost use Rattle.std.specs.String.{string_bytes};
 ghost use Rattle.dw_board.specs.Lists.{Member};
-ghost use Rattle.dw_desk_commands.specs.Check.{IsCheckOf, IsChecked, IsCheckedLine, IsCheckedText, IsNumberFor};
+ghost use Rattle.dw_desk_commands.specs.Check.{IsCheckOf, IsChecked, IsCheckedAt, IsCheckedLine, IsCheckedText};
 ghost use Rattle.dw_desk_commands.specs.Check.{counted, fault_text, is_none, no_win_line};
 ghost use Rattle.dw_desk_commands.specs.inner.Comparing.{IsCompared};
 ghost use Rattle.dw_notation.specs.Problems.{numbered};
@@ -21,6 +21,7 @@ ghost use Rattle.dw_study.specs.Telling.{Say, remark_in};
 
 use crate::desk::Desk;
 use crate::reporting::{MakesText, push, refused_output};
+use crate::solution::number_for;
 use dw_arguments::CheckArgs;
 use dw_board::{Board, Position};
 use dw_games::{Game, MovetextFault, MovetextFaultKind, Tree, read_movetext};
@@ -63,8 +64,9 @@ impl<B: Board> MakesText<B, bool> for CheckArgs {
         };
         match read_movetext(desk.alloc, position, game.movetext.as_slice()) {
             Ok(tree) => {
-                let n = moves_for(self.n, &tree);
-                let checked = checked(desk, problem.number, &tree, n)?;
+                desk.begin(problem.number);
+                let n = moves_for(desk, self, &tree)?;
+                let checked = checked(desk, &tree, n)?;
                 let solution = Solution {
                     problem,
                     tree: &tree,
@@ -115,23 +117,29 @@ struct Solution<'a, B: Board> {
     checked: &'a Checked<B>,
 }
 
-/// Returns the number of moves within which a solution is checked: that of `-n`, or else that of the solution, but at
-/// least 1.
-fn moves_for<B: Board>(query: Option<MoveCount>, tree: &Tree<B>) -> MoveCount
-    ensures { IsNumberFor query tree.now.paths result.value }
+/// Finds the number of moves within which a solution is checked: that of `-n`, or the least with a win up to that of
+/// `--most`, or else that of the solution, but at least 1.
+fn moves_for<B: Board, G: Guide<B>>(
+    desk: &mut Desk<B, G>,
+    query: &CheckArgs,
+    tree: &Tree<B>,
+) -> Result<MoveCount, Stop>
+    ensures number { IfOk result (λ n. IsCheckedAt B.geometry tree.now.start query.now.moves query.now.is_least
+        tree.now.paths n.value) }
+    ensures counts { desk.old.solver.expanded ≤ desk.new.solver.expanded }
+    ensures stop { IsErrOf result Limit → desk.new.solver.expanded ≡ u64.MAX }
 {
-    match query {
-        Some(moves) => moves,
-        None => MoveCount {
+    match query.moves {
+        Some(moves) => number_for(desk, &tree.start(), moves, query.is_least),
+        None => Ok(MoveCount {
             value: turns_of(tree).max(MoveCount::FEWEST.value),
-        },
+        }),
     }
 }
 
 /// Compares a solution with all wins.
 fn checked<B: Board, G: Guide<B>>(
     desk: &mut Desk<B, G>,
-    number: u32,
     tree: &Tree<B>,
     n: MoveCount,
 ) -> Result<Checked<B>, Stop>
@@ -141,7 +149,6 @@ fn checked<B: Board, G: Guide<B>>(
     ensures counts { desk.old.solver.expanded ≤ desk.new.solver.expanded }
     ensures stop { IsErrOf result Limit → desk.new.solver.expanded ≡ u64.MAX }
 {
-    desk.begin(number);
     check(desk.alloc, &mut desk.solver, tree, n)
 }
 

@@ -5,7 +5,7 @@ ghost use Rattle.std.specs.List.{flat_map};
 ghost use Rattle.std.specs.String.{string_bytes};
 ghost use Rattle.dw_desk_commands.specs.Solution.{AreFirstLines, AreWrittenTags, IsGameFor, IsMovetextOf};
 ghost use Rattle.dw_desk_commands.specs.Solution.{IsSolutionLine, IsNumberOf, IsSolutionOf, new_lines, own_line};
-ghost use Rattle.dw_study.specs.Finding.{IsJudgedAt};
+ghost use Rattle.dw_study.specs.Finding.{IsJudgedAt, IsNumberFor};
 ghost use Rattle.dw_desk_commands.specs.Solution as of;
 ghost use Rattle.dw_games.specs.TagRows.{tag_text};
 ghost use Rattle.dw_solve.specs.declared.stop.Stop.TheVariants.{Limit};
@@ -149,25 +149,26 @@ fn searched<B: Board, G: Guide<B>>(
     ensures stop { IsErrOf result Limit → desk.new.solver.expanded ≡ u64.MAX }
 {
     desk.begin(number);
-    let moves = number_for(desk, query, position)?;
+    let moves = number_for(desk, position, query.moves, query.is_least)?;
     let verdict = verdict(desk.alloc, &mut desk.solver, position, moves.value)?;
     solved_within(desk, position, moves, query.lines, &verdict)
 }
 
-/// Finds the requested number of moves.
-fn number_for<B: Board, G: Guide<B>>(
+/// Finds the requested number of moves: `moves`, or the least up to it within which there is a win.
+pub(crate) fn number_for<B: Board, G: Guide<B>>(
     desk: &mut Desk<B, G>,
-    query: &SolutionArgs,
     position: &Position<B>,
+    moves: MoveCount,
+    is_least: bool,
 ) -> Result<MoveCount, Stop>
-    ensures number { IfOk result (λ moves. IsNumberOf B.geometry query.now position.now moves.value) }
+    ensures number { IfOk result (λ n. IsNumberFor B.geometry position.now is_least moves.value n.value) }
     ensures counts { desk.old.solver.expanded ≤ desk.new.solver.expanded }
     ensures stop { IsErrOf result Limit → desk.new.solver.expanded ≡ u64.MAX }
 {
-    if query.is_least {
-        least_number(desk, position, query.moves)
+    if is_least {
+        least_number(desk, position, moves)
     } else {
-        Ok(query.moves)
+        Ok(moves)
     }
 }
 

@@ -14,7 +14,7 @@ use Rattle.dw_json.specs.Writing.{WritesMembers}
 use Rattle.dw_json.specs.inner.Composing.{both}
 use Rattle.dw_moves.specs.Moves.{Move}
 use Rattle.dw_moves.specs.inner.MemberLemmas.{mem_map}
-use Rattle.dw_rows.specs.CheckRow.{refutation_members, word_members}
+use Rattle.dw_rows.specs.CheckRow.{refutation_members, wins_in_members, word_members}
 use Rattle.dw_study.specs.RemarkFields.{Words}
 
 pub effect_of_one : {V : Type 0} (told : V → Move × Effect) (g : Geometry) (p start : Placement)
@@ -54,9 +54,10 @@ pub all_told : {X : Type 0} (told : X → List Member) (xs : List X) (each : Lis
 all_told told [] each none = none
 all_told told (x ∷ xs) each h = h.4 ∙ (λ i. h.2 i ∷ all_told told xs h.1 h.3 i)
 
--- the members of a remark: its kind, its line and its moves, and then the reply that refutes, if there is one
+-- the members of a remark: its kind, its line and its moves, and then the others
 pub two_parts : (kind : List ℕ) (words : Words) (one line : List ℕ) (moves : List (List ℕ)) (more : List Member)
-    (a b c d e : Written) → line ≡ words.line → moves ≡ words.moves → more ≡ refutation_members words.refutation
+    (a b c d e : Written) → line ≡ words.line → moves ≡ words.moves
+    → more ≡ refutation_members words.refutation ++ wins_in_members words.wins_in
     → WritesMembers ((codes "kind", string kind) ∷ []) a b → WritesMembers ((codes "line", string line) ∷ []) b c
     → WritesMembers ((codes "moves", texts moves) ∷ []) c d → WritesMembers more d e
     → WritesMembers (word_members kind words) a e

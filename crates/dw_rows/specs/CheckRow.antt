@@ -16,17 +16,22 @@ abbrev pub kind_word : Remark → List ℕ
 kind_word (fails b m r) = codes "fails"
 kind_word (also b keys) = codes "also"
 kind_word (leaves_open b replies) = codes "open"
-kind_word (ends b) = codes "ends"
+kind_word (ends b wins_in) = codes "ends"
 
 -- the member for the reply that refutes, if there is one
 abbrev pub refutation_members : Option (List ℕ) → List Member
 refutation_members None = []
 refutation_members (Some reply) = (codes "refutation", string reply) ∷ []
 
--- the members of a remark of some kind: the beginning, the moves, and the reply that refutes
+-- the member for the number of moves within which the attacker wins after an end, if there is one
+abbrev pub wins_in_members : Option ℕ → List Member
+wins_in_members None = []
+wins_in_members (Some k) = (codes "wins_in", count k) ∷ []
+
+-- the members of a remark of some kind: the beginning, the moves, the reply that refutes, and how much is missing
 abbrev pub word_members : (kind : List ℕ) → Words → List Member
 word_members kind words = (codes "kind", string kind) ∷ (codes "line", string words.line)
-    ∷ (codes "moves", texts words.moves) ∷ refutation_members words.refutation
+    ∷ (codes "moves", texts words.moves) ∷ (refutation_members words.refutation ++ wins_in_members words.wins_in)
 
 -- the members of a remark
 abbrev pub IsRemarkObject : Geometry → Placement → Remark → List Member → Type 0

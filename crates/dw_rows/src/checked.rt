@@ -1,10 +1,11 @@
 //! The row of the remarks on an author's solution.
-ghost use Rattle.std.specs.Prelude.{◌≡◌, ◌∷◌, [], ℕ, List, Some, codes, map, IfOk, IfSome, IsSome, OnOk};
+ghost use Rattle.std.specs.Prelude.{◌≡◌, ◌∷◌, [], ℕ, List, Some, codes, map, IfOk, IfSome, IsSome, OnOk, option_map};
 ghost use Rattle.std.specs.String.{string_bytes};
 ghost use Rattle.dw_board.specs.Lists.{Member as Has};
 ghost use Rattle.dw_json.specs.Rows.{AreObjects, Member};
 ghost use Rattle.dw_json.specs.Writing.{WritesMembers};
 ghost use Rattle.dw_rows.specs.CheckRow.{IsCheckedRow, IsRemarkObject, kind_word, refused_solution_row, word_members};
+ghost use Rattle.dw_rows.specs.CheckRow.{refutation_members, wins_in_members};
 ghost use Rattle.dw_rows.specs.inner.Remarking.{members_told};
 ghost use Rattle.dw_study.specs.RemarkText.{HasTexts};
 ghost use Rattle.dw_study.specs.Remarks.{Remark as AnyRemark};
@@ -192,8 +193,27 @@ fn put_fields(row: &mut Writer, kind: &str, words: &RemarkFields) -> Result<(), 
     put_text(row, "kind", kind)?;
     put_text(row, "line", words.line.as_str())?;
     put_texts(row, "moves", words.moves.as_slice())?;
-    match &words.refutation {
+    put_refutation(row, &words.refutation)?;
+    put_wins_in(row, words.wins_in)
+}
+
+/// Writes the reply that refutes, if there is one.
+fn put_refutation(row: &mut Writer, refutation: &Option<String>) -> Result<(), AllocError>
+    ensures { OnOk result (WritesMembers (refutation_members (option_map string_bytes refutation.now)) row.old
+        row.new) }
+{
+    match refutation {
         Some(reply) => put_text(row, "refutation", reply.as_str()),
+        None => Ok(()),
+    }
+}
+
+/// Writes the number of moves within which the attacker wins after an end, if there is one.
+fn put_wins_in(row: &mut Writer, wins_in: Option<u8>) -> Result<(), AllocError>
+    ensures { OnOk result (WritesMembers (wins_in_members wins_in) row.old row.new) }
+{
+    match wins_in {
+        Some(moves) => put_number(row, "wins_in", moves.into()),
         None => Ok(()),
     }
 }

@@ -1,6 +1,10 @@
 -- If each path of a tree that goes on nowhere is a line, no remark is a fault; if these are all lines, there is none.
+-- And each end has a number.
 use Rattle.std.proofs.Common.{◌≡◌, ◌⊎◌, ℕ, zero, suc, ◌+◌, ◌<◌, ◌≤◌, List, [], ◌∷◌, ◌++◌, length, map, max, refl, sym}
-use Rattle.std.proofs.Common.{ap, subst, ◌∙◌, inl, inr, arith, append-nil, append_assoc, length-append}
+use Rattle.std.proofs.Common.{ap, subst, ◌∙◌, inl, inr, arith, append-nil, append_assoc, length-append, Option, Some}
+use Rattle.std.proofs.Common.{None}
+use Rattle.std.specs.Prelude.{IsSome}
+use Rattle.dw_solve.specs.Solving.{IsLeast}
 use Rattle.dw_board.specs.Geometry.{Geometry, IsBoard}
 use Rattle.dw_board.specs.Placement.{Placement}
 use Rattle.dw_board.specs.Lists.{Member}
@@ -14,7 +18,7 @@ use Rattle.dw_solve.specs.Wins.{Win, Lost}
 use Rattle.dw_games.specs.Play.{after}
 use Rattle.dw_games.specs.Laws.{IsPlayed}
 use Rattle.dw_verdict.specs.Verdict.{IsWinning}
-use Rattle.dw_study.specs.Remarks.{Remark, fails, also, leaves_open, GoesOnBy, if_any, AtAttacker, without_move}
+use Rattle.dw_study.specs.Remarks.{Remark, fails, also, leaves_open, ends, GoesOnBy, if_any, AtAttacker, without_move}
 use Rattle.dw_study.specs.Remarks.{with_moves, AtDefender, over, without_reply, with_replies, InTurn, nothing, one_more}
 use Rattle.dw_study.specs.Remarks.{AreRemarks}
 use Rattle.dw_study.specs.Laws.{IsFault, IsWholePath}
@@ -74,6 +78,18 @@ extends tree (suc k) c there few = elim (goes_decided c tree) [
       let e = extends tree k (c ++ h.0 ∷ []) h.1 (omega (arith, few, one)) in
       (h.0 ∷ e.0, subst (IsWholePath tree) (append_assoc c (h.0 ∷ []) e.0) e.1)
 ]
+
+-- ---- a number of moves
+-- a remark on an end has a number
+abbrev IsNumbered : Remark → Type 0
+IsNumbered (fails b m r) = Unit {0}
+IsNumbered (also b keys) = Unit {0}
+IsNumbered (leaves_open b replies) = Unit {0}
+IsNumbered (ends b wins_in) = IsSome wins_in
+
+least_some : (g : Geometry) (p : Placement) (n : ℕ) (k : Option ℕ) → IsLeast g p n k → Win g p n → IsSome k
+least_some g p n None none win = absurd (none win)
+least_some g p n (Some k) found win = refl
 
 -- ---- lists of remarks
 if_any_is : (remark : List Move → Remark) (moves : List Move) (r : Remark) → Member r (if_any remark moves)
@@ -182,7 +198,7 @@ module _ (decided : WinsAreDecided) (order : MovesInOrder) (g : Geometry) (board
   attacker_right : (n : ℕ) (p : Placement) (b : List Move) {here : List Remark} {moves : List Move}
       → p ≡ after g start b → (b ≡ []) ⊎ Member b tree → Lined (suc n) p b
       → AtAttacker g p (suc n) tree b here moves → (r : Remark) → Member r here → IsFault r → ⊥
-  attacker_right n p b at root lined (without_move never) r there fault =
+  attacker_right n p b at root lined (without_move never least) r there fault =
       no_ends n p b root lined (λ m on. never m (goes_on_by decided order g board start tree played p b m at on))
   attacker_right n p b at root lined (with_moves {failing = failing} {others = others} x goes f o k) r there fault =
       elim (mem_cases r (map (λ t. fails b t.0 t.1) failing) (if_any (also b) others) there) [
@@ -197,14 +213,14 @@ module _ (decided : WinsAreDecided) (order : MovesInOrder) (g : Geometry) (board
 
   attacker_moves : (n : ℕ) (p : Placement) (b : List Move) {here : List Remark} {moves : List Move}
       → AtAttacker g p n tree b here moves → (m : Move) → Member m moves → GoesOnBy g p tree b m × IsWinning g p n m
-  attacker_moves n p b (without_move never) m there = absurd there
+  attacker_moves n p b (without_move never least) m there = absurd there
   attacker_moves n p b (with_moves x goes f o k) m there = (k.exactly m).0 there
 
   defender_right : (n : ℕ) (p : Placement) (b : List Move) (m : Move) {here : List Remark} {moves : List Move}
       → play g p m ≡ after g start (b ++ m ∷ []) → Lined (suc n) p b → Member (b ++ m ∷ []) tree
       → AtDefender g (play g p m) tree (b ++ m ∷ []) here moves → (r : Remark) → Member r here → IsFault r → ⊥
   defender_right n p b m to lined on (over never) r there fault = there
-  defender_right n p b m to lined on (without_reply x legal never) r there fault =
+  defender_right n p b m to lined on (without_reply x legal never least) r there fault =
       let line = lined (m ∷ []) (
         on,
         λ y further. never y (goes_on_by decided order g board start tree played
@@ -217,7 +233,7 @@ module _ (decided : WinsAreDecided) (order : MovesInOrder) (g : Geometry) (board
   defender_moves : (q : Placement) (b : List Move) {here : List Remark} {moves : List Move}
       → AtDefender g q tree b here moves → (r : Move) → Member r moves → GoesOnBy g q tree b r
   defender_moves q b (over never) r there = absurd there
-  defender_moves q b (without_reply x legal never) r there = absurd there
+  defender_moves q b (without_reply x legal never least) r there = absurd there
   defender_moves q b (with_replies x goes o k) r there = (k.exactly r).0 there
 
   faultless : (n : ℕ) (p : Placement) (b : List Move) (rs : List Remark) → p ≡ after g start b
@@ -250,8 +266,8 @@ module _ (decided : WinsAreDecided) (order : MovesInOrder) (g : Geometry) (board
   -- ---- only faults, if all lines stand in the tree
   attacker_speaks : (n : ℕ) (p : Placement) (b : List Move) {here : List Remark} {moves : List Move}
       → Full (suc n) p b → AtAttacker g p (suc n) tree b here moves → (r : Remark) → Member r here → IsFault r
-  attacker_speaks n p b full (without_move never) r (inl e) = subst IsFault (sym e) tt
-  attacker_speaks n p b full (without_move never) r (inr gone) = absurd gone
+  attacker_speaks n p b full (without_move never least) r (inl e) = subst IsFault (sym e) tt
+  attacker_speaks n p b full (without_move never least) r (inr gone) = absurd gone
   attacker_speaks n p b full (with_moves {failing = failing} {others = others} x goes f o k) r there =
       elim (mem_cases r (map (λ t. fails b t.0 t.1) failing) (if_any (also b) others) there) [
         | inl said ↦
@@ -269,8 +285,8 @@ module _ (decided : WinsAreDecided) (order : MovesInOrder) (g : Geometry) (board
       → IsWinning g p (suc n) m → Full (suc n) p b → AtDefender g (play g p m) tree (b ++ m ∷ []) here moves
       → (r : Remark) → Member r here → IsFault r
   defender_speaks n p b m wins full (over never) r there = absurd there
-  defender_speaks n p b m wins full (without_reply x legal never) r (inl e) = subst IsFault (sym e) tt
-  defender_speaks n p b m wins full (without_reply x legal never) r (inr gone) = absurd gone
+  defender_speaks n p b m wins full (without_reply x legal never least) r (inl e) = subst IsFault (sym e) tt
+  defender_speaks n p b m wins full (without_reply x legal never least) r (inr gone) = absurd gone
   defender_speaks n p b m wins full (with_replies {others = others} x goes o k) r there =
       let a = if_any_is (leaves_open (b ++ m ∷ [])) others r there in
       let reply = (o.exactly a.1.0).0 a.1.1 in
@@ -314,3 +330,56 @@ module _ (decided : WinsAreDecided) (order : MovesInOrder) (g : Geometry) (board
   silent n (r ∷ rs) h lines all =
       absurd (right n (r ∷ rs) h lines r (inl refl)
       (speaks n start [] (r ∷ rs) h (λ path line. (all path line).0) r (inl refl)))
+
+  -- ---- each end has a number
+  -- the tree goes on from a beginning, as from the root, or there is a win after it, as after a key and a reply
+  abbrev GoesOnOrWins : ℕ → Placement → List Move → Type 0
+  GoesOnOrWins n p b = ((m : Move) → GoesOnBy g p tree b m → ⊥) → Win g p n
+
+  attacker_numbered : (p : Placement) (n : ℕ) (b : List Move) {here : List Remark} {moves : List Move}
+      → GoesOnOrWins n p b → AtAttacker g p n tree b here moves → (r : Remark) → Member r here → IsNumbered r
+  attacker_numbered p n b won (without_move {wins_in = k} never least) r (inl e) =
+      subst IsNumbered (sym e) (least_some g p n k least (won never))
+  attacker_numbered p n b won (without_move never least) r (inr gone) = absurd gone
+  attacker_numbered p n b won (with_moves {failing = failing} {others = others} x goes f o k) r there =
+      elim (mem_cases r (map (λ t. fails b t.0 t.1) failing) (if_any (also b) others) there) [
+        | inl said ↦
+            let t = mem_map_back (λ t. fails b t.0 t.1) r failing said in subst IsNumbered (sym t.2) tt
+        | inr other ↦ let a = if_any_is (also b) others r other in subst IsNumbered (sym a.0) tt
+      ]
+
+  defender_numbered : (q : Placement) (b : List Move) {here : List Remark} {moves : List Move}
+      → AtDefender g q tree b here moves → (r : Remark) → Member r here → IsNumbered r
+  defender_numbered q b (over none) r there = absurd there
+  defender_numbered q b (without_reply s legal never least) r (inl e) = subst IsNumbered (sym e) refl
+  defender_numbered q b (without_reply s legal never least) r (inr gone) = absurd gone
+  defender_numbered q b (with_replies {others = others} s goes o k) r there =
+      let a = if_any_is (leaves_open b) others r there in subst IsNumbered (sym a.0) tt
+
+  numbered : (n : ℕ) (p : Placement) (b : List Move) (rs : List Remark) → GoesOnOrWins n p b
+      → AreRemarks g tree n p b rs → (r : Remark) → Member r rs → IsNumbered r
+  numbered zero p b rs won h r there = absurd h
+  numbered (suc n) p b rs won h r there =
+      elim (mem_cases r h.here h.later (subst (Member r) h.joined there)) [
+        | inl here ↦ attacker_numbered p (suc n) b won h.at r here
+        | inr later ↦
+            let f = said_behind h.behind r later in
+            let key = attacker_moves (suc n) p b h.at f.move f.among in
+            let k = f.behind in
+            let q : Placement = play g p f.move in
+            let c : List Move = b ++ f.move ∷ [] in
+            elim (mem_cases r k.here k.later (subst (Member r) k.joined f.there)) [
+              | inl here ↦ defender_numbered q c k.at r here
+              | inr deep ↦
+                  let e = said_behind k.behind r deep in
+                  let reply = defender_moves q c k.at e.move e.among in
+                  numbered n (play g q e.move) (c ++ e.move ∷ []) e.remarks (λ never. key.1.1 e.move reply.0) e.behind
+                  r e.there
+            ]
+      ]
+
+  pub ends_numbered : (n : ℕ) (rs : List Remark) → AreRemarks g tree n start [] rs → (b : List Move) (k : Option ℕ)
+      → Member (ends b k) rs → IsSome k
+  ends_numbered n rs h b k there =
+      numbered n start [] rs (λ never. absurd (root_goes (λ m on. never m
+      (goes_on_by decided order g board start tree played start [] m refl on)))) h (ends b k) there

@@ -164,13 +164,13 @@ module _ (decided : WinsAreDecided) (order : MovesInOrder) (g : Geometry) (board
   -- ---- a beginning without a fault
   attacker_ends : (p : Placement) (n : ℕ) (b : List Move) {here : List Remark} {moves : List Move}
       → AtAttacker g p n tree b here moves → NoFault here → IsWhole tree b → ⊥
-  attacker_ends p n b (without_move none) right whole = right (ends b) (inl refl) tt
+  attacker_ends p n b (without_move none least) right whole = right (ends b _) (inl refl) tt
   attacker_ends p n b (with_moves m goes f o k) right whole = whole m goes.1
 
   attacker_wins : (p : Placement) (n : ℕ) (b : List Move) {here : List Remark} {moves : List Move}
       → AtAttacker g p (suc n) tree b here moves → NoFault here → (m : Move) → GoesOnBy g p tree b m
       → Member m moves × IsWinning g p (suc n) m
-  attacker_wins p n b (without_move none) right m goes = absurd (none m goes)
+  attacker_wins p n b (without_move none least) right m goes = absurd (none m goes)
   attacker_wins p n b (with_moves {failing = failing} {others = others} x goes' f o k) right m goes =
       elim (lost_or_first decided order g board (play g p m) n) [
         | inl lost ↦ ((k.exactly m).1 (goes, (goes.0, lost)), (goes.0, lost))
@@ -185,13 +185,13 @@ module _ (decided : WinsAreDecided) (order : MovesInOrder) (g : Geometry) (board
   defender_ends : (q : Placement) (b : List Move) {here : List Remark} {moves : List Move}
       → AtDefender g q tree b here moves → NoFault here → IsWhole tree b → NoMove g q
   defender_ends q b (over none) right whole = none
-  defender_ends q b (without_reply r legal never) right whole = absurd (right (ends b) (inl refl) tt)
+  defender_ends q b (without_reply r legal never least) right whole = absurd (right (ends b _) (inl refl) tt)
   defender_ends q b (with_replies r goes o k) right whole = absurd (whole r goes.1)
 
   defender_replies : (q : Placement) (b : List Move) {here : List Remark} {moves : List Move}
       → AtDefender g q tree b here moves → (r : Move) → GoesOnBy g q tree b r → Member r moves
   defender_replies q b (over none) r goes = absurd (none r goes.0)
-  defender_replies q b (without_reply x legal never) r goes = absurd (never r goes)
+  defender_replies q b (without_reply x legal never least) r goes = absurd (never r goes)
   defender_replies q b (with_replies x goes' o k) r goes = (k.exactly r).1 goes
 
   right_here : (rs here later : List Remark) → rs ≡ here ++ later → NoFault rs → NoFault here
@@ -250,7 +250,7 @@ module _ (decided : WinsAreDecided) (order : MovesInOrder) (g : Geometry) (board
   attacker_whole : (p : Placement) (n : ℕ) (b : List Move) {here : List Remark} {moves : List Move}
       → AtAttacker g p n tree b here moves → Silent here → (m : Move) → IsWinning g p n m
       → Legal g p m → GoesOnBy g p tree b m × Member m moves
-  attacker_whole p n b (without_move never) none m wins legal = absurd (none (ends b) (inl refl))
+  attacker_whole p n b (without_move never least) none m wins legal = absurd (none (ends b _) (inl refl))
   attacker_whole p n b (with_moves {failing = failing} {others = others} x goes' f o k) none m wins legal =
       elim (stands_decided (b ++ m ∷ []) tree) [
         | inl there ↦ ((legal, there), (k.exactly m).1 ((legal, there), wins))
@@ -263,7 +263,7 @@ module _ (decided : WinsAreDecided) (order : MovesInOrder) (g : Geometry) (board
       → AtDefender g q tree b here moves → Silent here → (r : Move) → Legal g q r
       → GoesOnBy g q tree b r × Member r moves
   defender_whole q b (over never) none r legal = absurd (never r legal)
-  defender_whole q b (without_reply x lawful never) none r legal = absurd (none (ends b) (inl refl))
+  defender_whole q b (without_reply x lawful never least) none r legal = absurd (none (ends b _) (inl refl))
   defender_whole q b (with_replies {others = others} x goes' o k) none r legal =
       elim (stands_decided (b ++ r ∷ []) tree) [
         | inl there ↦ ((legal, there), (k.exactly r).1 (legal, there))

@@ -1,6 +1,7 @@
 -- The tree of a movetext has one list of remarks at most.
 use Rattle.std.proofs.Common.{◌≡◌, ℕ, zero, suc, List, [], ◌∷◌, ◌++◌, map, Some, refl, sym, ap, subst, ◌∙◌, inl, inr}
-use Rattle.std.proofs.Common.{arith}
+use Rattle.std.proofs.Common.{arith, ◌<◌, ◌≤◌, Option, None}
+use Rattle.std.proofs.lemmas.Bool.{cases_lt}
 use Rattle.std.specs.List.{slice_get}
 use Rattle.dw_board.specs.Geometry.{Geometry}
 use Rattle.dw_board.specs.Placement.{Placement}
@@ -10,11 +11,15 @@ use Rattle.dw_moves.specs.Order.{Precedes}
 use Rattle.dw_moves.specs.Laws.{MovesHaveKeys}
 use Rattle.dw_moves.specs.inner.MemberLemmas.{mem_cases}
 use Rattle.dw_moves.specs.inner.OneListLemmas.{list_only}
+use Rattle.dw_solve.specs.Laws.{WinsStay}
+use Rattle.dw_solve.specs.Solving.{IsLeast}
+use Rattle.dw_solve.specs.Wins.{Win, Lost}
 use Rattle.dw_solve.specs.inner.LineOrderLemmas.{precedes_asym}
 use Rattle.dw_games.specs.Movetext.{AreDistinct, IsTree}
 use Rattle.dw_games.specs.Movetext as tree
 use Rattle.dw_verdict.specs.Verdict.{IsWinning}
-use Rattle.dw_study.specs.Remarks.{Remark, fails, also, leaves_open, GoesOnBy, StandsBefore, IsFailing, if_any}
+use Rattle.dw_study.specs.Remarks.{Remark, fails, also, leaves_open, ends, GoesOnBy, StandsBefore, IsFailing, if_any}
+use Rattle.dw_study.specs.Remarks.{IsLeastLoss}
 use Rattle.dw_study.specs.Remarks.{AtAttacker, without_move, with_moves, AtDefender, over, without_reply, with_replies}
 use Rattle.dw_study.specs.Remarks.{InTurn, nothing, one_more, AndBehind, AfterKey, AreRemarks}
 use Rattle.dw_study.proofs.ChildLemmas.{same, absent, at_member, filled, last_same}
@@ -70,7 +75,30 @@ and_behind_one At Behind at_one one rs ss h k =
     let later = in_turn_one Behind one both.1 h.behind k.behind in
     h.joined ∙ ((λ x. both.0 x ++ later x) ∙ sym k.joined)
 
-module _ (keys : MovesHaveKeys) (g : Geometry) (tree : List (List Move)) (once : NoRepeat tree) where
+-- ---- one number is the least
+not_below : (Holds : ℕ → Type 0) (i j : ℕ) → Holds i → ((k : ℕ) → k < j → Holds k → ⊥) → j ≤ i
+not_below Holds i j holds none = elim (cases_lt i j) [
+  | inl less ↦ absurd (none i less holds)
+  | inr more ↦ more
+]
+
+least_only : WinsStay → (g : Geometry) (p : Placement) (n : ℕ) (i j : Option ℕ) → IsLeast g p n i → IsLeast g p n j
+    → i ≡ j
+least_only stay g p n None None none never = refl
+least_only stay g p n None (Some j) none found = absurd (none (stay.win g p j n found.1 found.2))
+least_only stay g p n (Some i) None found none = absurd (none (stay.win g p i n found.1 found.2))
+least_only stay g p n (Some i) (Some j) found other =
+    let low = not_below (Win g p) i j found.2 other.3 in
+    let high = not_below (Win g p) j i other.2 found.3 in
+    ap Some (omega (arith, low, high))
+
+loss_only : (g : Geometry) (q : Placement) (i j : ℕ) → IsLeastLoss g q i → IsLeastLoss g q j → i ≡ j
+loss_only g q i j one other =
+    let low = not_below (Lost g q) i j one.lost other.none_less in
+    let high = not_below (Lost g q) j i other.lost one.none_less in
+    omega (arith, low, high)
+
+module _ (keys : MovesHaveKeys) (stay : WinsStay) (g : Geometry) (tree : List (List Move)) (once : NoRepeat tree) where
   stands_asym : (b : List Move) (m o : Move) → StandsBefore tree b m o → StandsBefore tree b o m → ⊥
   stands_asym b m o h k =
       let one : h.0 ≡ k.1 = no_twice tree h.0 k.1 (b ++ m ∷ []) once h.3 k.4 in
@@ -80,9 +108,10 @@ module _ (keys : MovesHaveKeys) (g : Geometry) (tree : List (List Move)) (once :
   -- ---- what is remarked on a beginning
   at_attacker_one : (p : Placement) (n : ℕ) (b : List Move) (hs ks : List Remark) (ms os : List Move)
       → AtAttacker g p n tree b hs ms → AtAttacker g p n tree b ks os → (hs ≡ ks) × (ms ≡ os)
-  at_attacker_one p n b hs ks ms os (without_move none) (without_move never) = (refl, refl)
-  at_attacker_one p n b hs ks ms os (without_move none) (with_moves m goes f o k) = absurd (none m goes)
-  at_attacker_one p n b hs ks ms os (with_moves m goes f o k) (without_move none) = absurd (none m goes)
+  at_attacker_one p n b hs ks ms os (without_move {wins_in = i} none least) (without_move {wins_in = j} never other) =
+      let same = least_only stay g p n i j least other in ((λ x. ends b (same x) ∷ []), refl)
+  at_attacker_one p n b hs ks ms os (without_move none least) (with_moves m goes f o k) = absurd (none m goes)
+  at_attacker_one p n b hs ks ms os (with_moves m goes f o k) (without_move none least) = absurd (none m goes)
   at_attacker_one p n b hs ks ms os (with_moves m goes f o k) (with_moves m' goes' f' o' k') =
       let failing = list_only (λ (s t : Move × Move). StandsBefore tree b s.0 t.0) (IsFailing g p n tree b)
       (λ s t. stands_asym b s.0 t.0) _ _ f f' in
@@ -95,13 +124,16 @@ module _ (keys : MovesHaveKeys) (g : Geometry) (tree : List (List Move)) (once :
   at_defender_one : (q : Placement) (b : List Move) (hs ks : List Remark) (ms os : List Move)
       → AtDefender g q tree b hs ms → AtDefender g q tree b ks os → (hs ≡ ks) × (ms ≡ os)
   at_defender_one q b hs ks ms os (over none) (over never) = (refl, refl)
-  at_defender_one q b hs ks ms os (over none) (without_reply r legal never) = absurd (none r legal)
+  at_defender_one q b hs ks ms os (over none) (without_reply r legal never least) = absurd (none r legal)
   at_defender_one q b hs ks ms os (over none) (with_replies r goes o k) = absurd (none r goes.0)
-  at_defender_one q b hs ks ms os (without_reply r legal never) (over none) = absurd (none r legal)
-  at_defender_one q b hs ks ms os (without_reply r legal never) (without_reply s legal' never') = (refl, refl)
-  at_defender_one q b hs ks ms os (without_reply r legal never) (with_replies s goes o k) = absurd (never s goes)
+  at_defender_one q b hs ks ms os (without_reply r legal never least) (over none) = absurd (none r legal)
+  at_defender_one q b hs ks ms os (without_reply {k = i} r legal never least)
+      (without_reply {k = j} s legal' never' other) =
+      let same = loss_only g q i j least other in ((λ x. ends b (Some (same x)) ∷ []), refl)
+  at_defender_one q b hs ks ms os (without_reply r legal never least) (with_replies s goes o k) = absurd (never s goes)
   at_defender_one q b hs ks ms os (with_replies r goes o k) (over none) = absurd (none r goes.0)
-  at_defender_one q b hs ks ms os (with_replies r goes o k) (without_reply s legal never) = absurd (never r goes)
+  at_defender_one q b hs ks ms os (with_replies r goes o k) (without_reply s legal never least) =
+      absurd (never r goes)
   at_defender_one q b hs ks ms os (with_replies r goes o k) (with_replies s goes' o' k') =
       let others = list_only (Precedes g q) (λ m. Legal g q m × (GoesOnBy g q tree b m → ⊥))
       (precedes_asym keys g q) _ _ o o' in
@@ -120,8 +152,9 @@ module _ (keys : MovesHaveKeys) (g : Geometry) (tree : List (List Move)) (once :
       (at_defender_one (play g p m) (b ++ m ∷ []))
       (λ r. remarks_one n (play g (play g p m) r) ((b ++ m ∷ []) ++ r ∷ [])) us vs) rs ss h k
 
-pub tree_has_one : MovesHaveKeys → (g : Geometry) (p : Placement) (text : List ℕ) (beginnings : List (List Move))
+pub tree_has_one : MovesHaveKeys → WinsStay → (g : Geometry) (p : Placement) (text : List ℕ)
+    (beginnings : List (List Move))
     → IsTree g p text beginnings → (n : ℕ) (rs ss : List Remark) → AreRemarks g beginnings n p [] rs
     → AreRemarks g beginnings n p [] ss → rs ≡ ss
-tree_has_one keys g p text beginnings is n rs ss h k =
-    remarks_one keys g beginnings (distinct_once is.distinct) n p [] rs ss h k
+tree_has_one keys stay g p text beginnings is n rs ss h k =
+    remarks_one keys stay g beginnings (distinct_once is.distinct) n p [] rs ss h k

@@ -1,13 +1,13 @@
 -- The texts of remarks, put together.
-use Rattle.std.proofs.Common.{◌≡◌, ℕ, List, [], ◌++◌, refl, ap, ◌∙◌, codes, decimal, append-nil, Option}
+use Rattle.std.proofs.Common.{◌≡◌, ℕ, List, [], ◌++◌, refl, ap, ◌∙◌, codes, decimal, append-nil, append_assoc, Option}
 use Rattle.std.proofs.Common.{Some, None, option_map}
 use Rattle.std.specs.List.{join_by}
 use Rattle.dw_board.specs.Geometry.{Geometry}
 use Rattle.dw_board.specs.Placement.{Placement}
 use Rattle.dw_moves.specs.Moves.{Move}
-use Rattle.dw_report.specs.inner.JoinedLemmas.{joined_3, joined_5, joined_7, joined_9}
+use Rattle.dw_report.specs.inner.JoinedLemmas.{joined_5, joined_7, joined_9}
 use Rattle.dw_study.specs.Remarks.{Remark, fails, also, leaves_open, ends}
-use Rattle.dw_study.specs.RemarkText.{behind_blank, IsRemarkText}
+use Rattle.dw_study.specs.RemarkText.{behind_blank, missing_text, IsRemarkText}
 use Rattle.dw_study.specs.RemarkFields.{AreRemarkFields, Words}
 
 -- a remark is told only if its beginning is
@@ -19,6 +19,9 @@ told (Some b) f r e = (b, refl, ap inside e) where
   inside None = r
   inside (Some z) = z
 
+joined_4 : (a b c d : List ℕ) → a ++ (b ++ (c ++ (d ++ []))) ≡ a ++ b ++ c ++ d
+joined_4 a b c d = simp (append_assoc, append-nil)
+
 -- the text of a remark, given its parts
 module _ (g : Geometry) (p : Placement) (b : List Move) (words : Words) (begun digits moved text : List ℕ)
     (blank : begun ≡ behind_blank words.line) (number : digits ≡ decimal words.turn) where
@@ -27,7 +30,7 @@ module _ (g : Geometry) (p : Placement) (b : List Move) (words : Words) (begun d
       → ((answer : List ℕ) → words.refutation ≡ Some answer → reply ≡ answer)
       → text ≡ codes "fails" ++ (begun ++ (codes " " ++ (digits ++ (codes ". " ++ (moved ++ (codes " refuted by "
       ++ (reply ++ (codes "\n" ++ [])))))))) → IsRemarkText g p (fails b m r) text
-  fails_made m r reply (move, answer, written, is, answers, one, refutes, turn) joined said e =
+  fails_made m r reply (move, answer, written, is, answers, one, refutes, wins, turn) joined said e =
       let first : moved ≡ move = joined ∙ (ap (join_by (λ t. t) (codes ", ")) one ∙ append-nil move) in
       let second = said answer refutes in
       let here = number ∙ ap decimal turn in (
@@ -46,7 +49,7 @@ module _ (g : Geometry) (p : Placement) (b : List Move) (words : Words) (begun d
       → moved ≡ join_by (λ t. t) (codes " / ") words.moves
       → text ≡ codes "also" ++ (begun ++ (codes " " ++ (digits ++ (codes ". " ++ (moved ++ (codes "\n" ++ []))))))
       → IsRemarkText g p (also b keys) text
-  also_made keys (written, are, none, turn) joined e =
+  also_made keys (written, are, none, wins, turn) joined e =
       let here = number ∙ ap decimal turn in (
         words.line,
         moved,
@@ -60,7 +63,7 @@ module _ (g : Geometry) (p : Placement) (b : List Move) (words : Words) (begun d
       → moved ≡ join_by (λ t. t) (codes ", ") words.moves
       → text ≡ codes "open" ++ (begun ++ (codes ": " ++ (moved ++ (codes "\n" ++ []))))
       → IsRemarkText g p (leaves_open b replies) text
-  open_made replies (written, are, none, turn) joined e = (
+  open_made replies (written, are, none, wins, turn) joined e = (
     words.line,
     moved,
     written,
@@ -69,10 +72,13 @@ module _ (g : Geometry) (p : Placement) (b : List Move) (words : Words) (begun d
         ∙ (λ i. codes "open" ++ blank i ++ codes ": " ++ moved ++ codes "\n")),
   )
 
-  pub ends_made : AreRemarkFields g p (ends b) words → text ≡ codes "ends" ++ (begun ++ (codes "\n" ++ []))
-      → IsRemarkText g p (ends b) text
-  ends_made (written, are, none, turn) e = (
-    words.line,
-    written,
-    e ∙ (joined_3 (codes "ends") begun (codes "\n") ∙ (λ i. codes "ends" ++ blank i ++ codes "\n")),
-  )
+  pub ends_made : (wins_in : Option ℕ) (missing : List ℕ) → AreRemarkFields g p (ends b wins_in) words
+      → missing ≡ missing_text words.wins_in
+      → text ≡ codes "ends" ++ (begun ++ (missing ++ (codes "\n" ++ []))) → IsRemarkText g p (ends b wins_in) text
+  ends_made wins_in missing (written, are, none, wins, turn) made e =
+      let here : missing ≡ missing_text wins_in = made ∙ ap missing_text wins in (
+        words.line,
+        written,
+        e ∙ (joined_4 (codes "ends") begun missing (codes "\n")
+            ∙ (λ i. codes "ends" ++ blank i ++ here i ++ codes "\n")),
+      )

@@ -1,9 +1,7 @@
 -- What is seen of a beginning, and what is remarked behind it.
 use Rattle.std.proofs.Common.{◌≡◌, ℕ, zero, suc, ◌+◌, ◌-◌, ◌<◌, ◌≤◌, List, [], ◌∷◌, ◌++◌, length, map, take, drop}
-use Rattle.std.proofs.Common.{get_or, Vec, Global, Result, Ok, Err, cond, ◌*◌}
-use Rattle.std.specs.Prelude.{IfOk}
-use Rattle.std.specs.declared.alloc.AllocError.{AllocError}
-use Rattle.std.proofs.Common.{Option, Some, None, refl, sym, ap, subst, ◌∙◌, inl, inr, arith, Bool, true, false, IsTrue}
+use Rattle.std.proofs.Common.{get_or, Vec, Global, cond, ◌*◌}
+use Rattle.std.proofs.Common.{Option, Some, refl, sym, ap, subst, ◌∙◌, inl, inr, arith, Bool, true, false, IsTrue}
 use Rattle.std.proofs.Common.{◌↔◌, append-nil, append_assoc, not}
 use Rattle.std.specs.Prelude.{option_map}
 use Rattle.std.proofs.lemmas.Bool.{true≢false}
@@ -18,6 +16,7 @@ use Rattle.dw_moves.specs.Laws.{MovesHaveKeys}
 use Rattle.dw_moves.specs.inner.MemberLemmas.{mem_cases, mem_map}
 use Rattle.dw_solve.specs.inner.ListLemmas.{at_item, ascending_parts, listed_as}
 use Rattle.dw_solve.specs.inner.LineOrderLemmas.{precedes_asym}
+use Rattle.dw_solve.specs.Solving.{IsLeast}
 use Rattle.dw_solve.specs.Wins.{Win, Lost}
 use Rattle.dw_verdict.specs.Verdict.{IsWinning}
 use Rattle.dw_verdict.specs.inner.GatheredLemmas.{GatheredTo, to_none, to_more, to_same, to_all, item_among}
@@ -30,9 +29,9 @@ use Rattle.dw_study.specs.declared.remark.Remark as code
 use Rattle.dw_study.specs.declared.remark.Remark.TheVariants.{Fails, Also, Open, Ends}
 use Rattle.dw_study.specs.Remarks.{Remark, fails, also, leaves_open, ends, GoesOnBy, StandsBefore, IsFirstRefutation}
 use Rattle.dw_study.specs.Remarks.{if_any, AtAttacker, without_move, with_moves, AtDefender, over, without_reply}
-use Rattle.dw_study.specs.Remarks.{with_replies, InTurn, nothing, one_more}
+use Rattle.dw_study.specs.Remarks.{with_replies, InTurn, nothing, one_more, IsLeastLoss}
 use Rattle.dw_study.specs.Telling.{remark_in, Say}
-use Rattle.dw_study.specs.inner.Checking.{AreChildren, AreOthers, AreOtherKeys, FindsFirst, IsSorted, IsSeen, IsAt}
+use Rattle.dw_study.specs.inner.Checking.{AreChildren, AreOthers, AreOtherKeys, IsSorted, IsSeen, IsAt}
 use Rattle.dw_study.specs.inner.Checking.{At}
 use Rattle.dw_study.specs.inner.Checking.{Behind, IsChild, IsKept, left_after}
 use Rattle.dw_study.proofs.ChildLemmas.{after_more}
@@ -275,8 +274,8 @@ module _ (B : Type 0) (tree : List (List Move)) (node : Option Node) (b : List M
       ≡ Some (leaves_open b replies.items)
   said_open replies = ap (option_map (λ z. leaves_open z replies.items)) there
 
-  said_ends : remark_in {B = B} tree (Ends node) ≡ Some (ends b)
-  said_ends = ap (option_map (λ z. ends z)) there
+  said_ends : (wins_in : Option ℕ) → remark_in {B = B} tree (Ends node wins_in) ≡ Some (ends b wins_in)
+  said_ends wins_in = ap (option_map (λ z. ends z wins_in)) there
 
 -- one remark
 one_said : (B : Type 0) (tree : List (List Move)) (r : code.Remark B) (remark : Remark) (items : List (code.Remark B))
@@ -317,28 +316,35 @@ nothing_open g p tree b [] [] all other none lacks =
 nothing_open g p tree b (c ∷ children) [] all other none lacks =
     let first = (all.in_order.exactly c.mv).0 (inl refl) in with_replies c.mv first lacks all.in_order
 
+-- how much is missing where the attacker (true) is to move, or the defender (false), who can
+abbrev pub IsMissing : Geometry → Bool → ℕ → Placement → Option ℕ → Type 0
+IsMissing g true n p wins_in = IsLeast g p n wins_in
+IsMissing g false n q wins_in = (k : ℕ) × (wins_in ≡ Some k) × IsLeastLoss g q k × ((r : Move) × Legal g q r)
+
 module _ {B : Type 0} (g : Geometry) (p : Placement) (n : ℕ) (tree : List (List Move)) (b : List Move)
     (node : Option Node) (there : beginning_at tree (place_of node) ≡ Some b) (children : List (Child B))
     (all : AreChildren g p tree b children) where
   -- the solution ends
-  pub ends_seen : (attacks : Bool) (seen : Seen B) → length children ≡ 0
-      → (attacks ≡ false → (r : Move) × Legal g p r)
-      → seen.remarks.items ≡ Ends node ∷ [] → seen.followed.items ≡ []
+  pub ends_seen : (attacks : Bool) (wins_in : Option ℕ) (seen : Seen B) → length children ≡ 0
+      → IsMissing g attacks n p wins_in
+      → seen.remarks.items ≡ Ends node wins_in ∷ [] → seen.followed.items ≡ []
       → IsSeen g tree attacks n p b seen
-  ends_seen attacks seen none may said nobody = record {
+  ends_seen attacks wins_in seen none missing said nobody = record {
     here = (
-      ends b ∷ [],
-      one_said B tree (Ends node) (ends b) seen.remarks.items said
-          (said_ends B tree node b there),
-      subst (At g tree attacks n p b (ends b ∷ []))
-          (sym (ap (map (λ (c : Child B). c.mv)) nobody)) (stop attacks may),
+      ends b wins_in ∷ [],
+      one_said B tree (Ends node wins_in) (ends b wins_in) seen.remarks.items said
+          (said_ends B tree node b there wins_in),
+      subst (At g tree attacks n p b (ends b wins_in ∷ []))
+          (sym (ap (map (λ (c : Child B). c.mv)) nobody)) (stop attacks wins_in missing),
     );
     each = λ c m. absurd (subst (Member c) nobody m);
     kept = λ m h. absurd (subst (λ z. Member m (map (λ (c : Child B). c.mv) z)) nobody h);
   } where
-    stop : (a : Bool) → (a ≡ false → (r : Move) × Legal g p r) → At g tree a n p b (ends b ∷ []) []
-    stop true may = without_move (none_at_all g p tree b children all none)
-    stop false may = let r = may refl in without_reply r.0 r.1 (none_at_all g p tree b children all none)
+    stop : (a : Bool) (k : Option ℕ) → IsMissing g a n p k → At g tree a n p b (ends b k ∷ []) []
+    stop true k least = without_move (none_at_all g p tree b children all none) least
+    stop false k (j, is, least, reply) =
+        subst (λ z. At g tree false n p b (ends b z ∷ []) []) (sym is)
+        (without_reply reply.0 reply.1 (none_at_all g p tree b children all none) least)
 
   keys_kept : (seen : Seen B) → IsSorted g p n tree b node children seen → (m : Move)
       → Member m (map (λ c. c.mv) seen.followed.items)
@@ -452,16 +458,6 @@ module _ {B : Type 0} (g : Geometry) (p : Placement) (n : ℕ) (tree : List (Lis
       → (r : Move) × Legal g p r
   one_lacks [] other some = absurd (omega (arith, some))
   one_lacks (r ∷ others) other some = (r, ((other.exactly r).0 (inl refl)).0)
-
--- the same of an answer that may be none
-pub ends_if : {B : Type 0} (g : Geometry) (p : Placement) (n : ℕ) (tree : List (List Move)) (b : List Move)
-    (node : Option Node) → beginning_at tree (place_of node) ≡ Some b → (children : List (Child B))
-    → AreChildren g p tree b children → (attacks : Bool) (r : Result (Seen B) AllocError) → length children ≡ 0
-    → (attacks ≡ false → (m : Move) × Legal g p m) → IfOk r (λ seen. seen.remarks.items ≡ Ends node ∷ [])
-    → IfOk r (λ seen. seen.followed.items ≡ []) → IfOk r (IsSeen g tree attacks n p b)
-ends_if g p n tree b spot there children all attacks (Ok seen) none may said nobody =
-    ends_seen g p n tree b spot there children all attacks seen none may said nobody
-ends_if g p n tree b spot there children all attacks (Err e) none may said nobody = tt
 
 -- ---- what is remarked behind the moves that are followed
 -- the remarks so far: on the beginning, and behind the first so many of these moves

@@ -35,8 +35,8 @@ module _ (g : Geometry) (start : Placement) (tree : List (List Move)) where
 
   told_at_attacker : (p : Placement) (n : ℕ) (b : List Move) {here : List Remark} {moves : List Move}
       → reach g start b ≡ p → AtAttacker g p n tree b here moves → (r : Remark) → Member r here → HasTexts g start r
-  told_at_attacker p n b h (without_move none) r (inl e) = subst (HasTexts g start) (sym e) tt
-  told_at_attacker p n b h (without_move none) r (inr gone) = absurd gone
+  told_at_attacker p n b h (without_move none least) r (inl e) = subst (HasTexts g start) (sym e) tt
+  told_at_attacker p n b h (without_move none least) r (inr gone) = absurd gone
   told_at_attacker p n b h (with_moves {failing = failing} {others = others} m goes f o k) r there =
       elim (mem_cases r (map (λ t. fails b t.0 t.1) failing) (if_any (also b) others) there) [
         | inl fail ↦
@@ -53,8 +53,8 @@ module _ (g : Geometry) (start : Placement) (tree : List (List Move)) where
   told_at_defender : (q : Placement) (b : List Move) {here : List Remark} {moves : List Move} → reach g start b ≡ q
       → AtDefender g q tree b here moves → (r : Remark) → Member r here → HasTexts g start r
   told_at_defender q b h (over none) r there = absurd there
-  told_at_defender q b h (without_reply s legal never) r (inl e) = subst (HasTexts g start) (sym e) tt
-  told_at_defender q b h (without_reply s legal never) r (inr gone) = absurd gone
+  told_at_defender q b h (without_reply s legal never least) r (inl e) = subst (HasTexts g start) (sym e) tt
+  told_at_defender q b h (without_reply s legal never least) r (inr gone) = absurd gone
   told_at_defender q b h (with_replies {others = others} s goes o k) r there =
       subst (HasTexts g start) (sym (if_any_is (leaves_open b) others r there))
       (λ reply x. legal_there b q reply h ((o.exactly reply).0 x).0)

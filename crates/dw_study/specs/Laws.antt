@@ -1,5 +1,5 @@
 -- Laws of findings and of remarks, for every board.
-use Rattle.std.specs.Prelude.{◌≡◌, ◌↔◌, ℕ, ◌<◌, Bool, List, [], ◌∷◌, ◌++◌}
+use Rattle.std.specs.Prelude.{◌≡◌, ◌↔◌, ℕ, ◌<◌, Bool, Option, IsSome, List, [], ◌∷◌, ◌++◌}
 use Rattle.dw_board.specs.Geometry.{Geometry, IsBoard}
 use Rattle.dw_board.specs.Placement.{Placement}
 use Rattle.dw_board.specs.Lists.{Member}
@@ -33,12 +33,18 @@ abbrev pub RemarksHaveTexts : Type 0
 RemarksHaveTexts = (g : Geometry) (p : Placement) (tree : List (List Move)) (n : ℕ) (remarks : List Remark)
     → AreRemarks g tree n p [] remarks → (r : Remark) → Member r remarks → HasTexts g p r
 
+-- each end on the tree of a movetext has a number of moves within which the attacker wins
+abbrev pub EndsHaveNumbers : Type 0
+EndsHaveNumbers = (g : Geometry) → IsBoard g → (p : Placement) (text : List ℕ) (tree : List (List Move))
+    → IsTree g p text tree → (n : ℕ) (remarks : List Remark) → AreRemarks g tree n p [] remarks
+    → (b : List Move) (wins_in : Option ℕ) → Member (ends b wins_in) remarks → IsSome wins_in
+
 -- a remark is about a fault: a move fails, or a path ends too soon
 abbrev pub IsFault : Remark → Type 0
 IsFault (fails b m r) = Unit {0}
 IsFault (also b keys) = ⊥
 IsFault (leaves_open b replies) = ⊥
-IsFault (ends b) = Unit {0}
+IsFault (ends b wins_in) = Unit {0}
 
 -- a complete path of a tree: the tree has no path with one move more
 abbrev pub IsWholePath : List (List Move) → List Move → Type 0

@@ -1,18 +1,20 @@
 -- The remarks on an author's solution: on a tree of moves, given by the beginnings of its paths.
-use Rattle.std.specs.Prelude.{◌≡◌, ◌⊎◌, ℕ, ◌-◌, ◌<◌, Some, List, [], ◌∷◌, ◌++◌, map, slice_get}
+use Rattle.std.specs.Prelude.{◌≡◌, ◌⊎◌, ℕ, ◌-◌, ◌<◌, Option, Some, List, [], ◌∷◌, ◌++◌, map, slice_get}
 use Rattle.std.proofs.Common.{zero, suc}
 use Rattle.dw_board.specs.Geometry.{Geometry}
 use Rattle.dw_board.specs.Placement.{Placement}
 use Rattle.dw_board.specs.Lists.{Member}
 use Rattle.dw_moves.specs.Moves.{Move, Legal, NoMove, play}
 use Rattle.dw_moves.specs.Order.{Precedes, IsListOf}
+use Rattle.dw_solve.specs.Solving.{IsLeast}
+use Rattle.dw_solve.specs.Wins.{Lost}
 use Rattle.dw_verdict.specs.Verdict.{IsWinning, Refutes}
 
 pub data Remark : Type 0 where
   fails : (beginning : List Move) (move reply : Move) → Remark
   also : (beginning keys : List Move) → Remark
   leaves_open : (beginning replies : List Move) → Remark
-  ends : (beginning : List Move) → Remark
+  ends : (beginning : List Move) (wins_in : Option ℕ) → Remark
 
 -- the tree goes on from a beginning, which leads to p, by a move that is legal there
 abbrev pub GoesOnBy : Geometry → Placement → List (List Move) → List Move → Move → Type 0
@@ -37,12 +39,18 @@ abbrev pub if_any : (List Move → Remark) → List Move → List Remark
 if_any remark [] = []
 if_any remark (m ∷ moves) = remark (m ∷ moves) ∷ []
 
+-- the least number of moves within which the side to move has lost
+pub record IsLeastLoss (g : Geometry) (q : Placement) (k : ℕ) : Type 0 where
+  pub lost : Lost g q k
+  pub none_less : (j : ℕ) → j < k → Lost g q j → ⊥
+
 -- The remarks on a beginning after which the attacker is to move, with n moves left, and the moves of the tree that are
--- examined further: those that win. It is an end; or there are remarks on each move that fails, and on the keys that
--- the tree lacks.
+-- examined further: those that win. It is an end, with the least number of moves within which he wins; or there are
+-- remarks on each move that fails, and on the keys that the tree lacks.
 pub data AtAttacker (g : Geometry) (p : Placement) (n : ℕ) (tree : List (List Move)) (b : List Move)
     : List Remark → List Move → Type 0 where
-  without_move : ((m : Move) → GoesOnBy g p tree b m → ⊥) → AtAttacker g p n tree b (ends b ∷ []) []
+  without_move : {wins_in : Option ℕ} → ((m : Move) → GoesOnBy g p tree b m → ⊥) → IsLeast g p n wins_in
+      → AtAttacker g p n tree b (ends b wins_in ∷ []) []
   with_moves : {failing : List (Move × Move)} {others keys : List Move} (m : Move) → GoesOnBy g p tree b m
       → IsListOf (λ s t. StandsBefore tree b s.0 t.0) (IsFailing g p n tree b) failing
       → IsListOf (Precedes g p) (λ k. IsWinning g p n k × (GoesOnBy g p tree b k → ⊥)) others
@@ -50,12 +58,13 @@ pub data AtAttacker (g : Geometry) (p : Placement) (n : ℕ) (tree : List (List 
       → AtAttacker g p n tree b (map (λ t. fails b t.0 t.1) failing ++ if_any (also b) others) keys
 
 -- The remarks on a beginning after which the defender is to move, and the replies of the tree, which are all examined
--- further. The play is over; or it is an end; or there is a remark on the replies that the tree lacks.
+-- further. The play is over; or it is an end, with the least number of moves within which he has lost; or there is a
+-- remark on the replies that the tree lacks.
 pub data AtDefender (g : Geometry) (q : Placement) (tree : List (List Move)) (b : List Move)
     : List Remark → List Move → Type 0 where
   over : NoMove g q → AtDefender g q tree b [] []
-  without_reply : (r : Move) → Legal g q r → ((s : Move) → GoesOnBy g q tree b s → ⊥)
-      → AtDefender g q tree b (ends b ∷ []) []
+  without_reply : {k : ℕ} (r : Move) → Legal g q r → ((s : Move) → GoesOnBy g q tree b s → ⊥) → IsLeastLoss g q k
+      → AtDefender g q tree b (ends b (Some k) ∷ []) []
   with_replies : {others replies : List Move} (r : Move) → GoesOnBy g q tree b r
       → IsListOf (Precedes g q) (λ s. Legal g q s × (GoesOnBy g q tree b s → ⊥)) others
       → IsListOf (StandsBefore tree b) (GoesOnBy g q tree b) replies

@@ -80,7 +80,7 @@ abbrev pub remark_in : {B : Type 0} → List (List Move) → remarks.Remark B �
 remark_in tree (Fails at mv reply) = option_map (λ b. fails b mv reply) (beginning_at tree (place_of at))
 remark_in tree (Also at keys) = option_map (λ b. also b keys.items) (beginning_at tree (place_of at))
 remark_in tree (Open at replies) = option_map (λ b. leaves_open b replies.items) (beginning_at tree (place_of at))
-remark_in tree (Ends at) = option_map (λ b. ends b) (beginning_at tree (place_of at))
+remark_in tree (Ends at wins_in) = option_map (λ b. ends b wins_in) (beginning_at tree (place_of at))
 
 -- remarks on a tree have values for which a statement holds
 abbrev pub Say : {B : Type 0} → List (List Move) → List (remarks.Remark B) → (List Remark → Type 0) → Type 0
@@ -93,4 +93,5 @@ texts_in words = record {
   turn = words.turn;
   moves = map string_bytes words.moves.items;
   refutation = option_map string_bytes words.refutation;
+  wins_in = words.wins_in;
 }

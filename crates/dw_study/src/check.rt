@@ -105,10 +105,9 @@ fn seen<B: Board, M: Memo<B>, G: Guide<B>>(
         → IfOk result (IsSeen B.geometry tree.now.paths spot.now.attacks spot.now.left spot.now.position b) }
     ensures asked { Asked B.geometry M.content M.dropped spot.now.left solver.old solver.new result }
 {
-    dw_solve::laws::searches_add_up();
     if spot.attacks {
-        return seen_by_attacker(alloc, solver, tree, spot);
+        seen_by_attacker(alloc, solver, tree, spot)
+    } else {
+        seen_by_defender(alloc, solver, tree, spot)
     }
-    solver.keeps_its_limit();
-    Ok(seen_by_defender(alloc, tree, spot)?)
 }

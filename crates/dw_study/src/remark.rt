@@ -33,6 +33,9 @@ pub enum Remark<B: Board> {
     Ends {
         /// The beginning after which it has no move.
         at: Option<Node>,
+        /// The least number of moves within which the attacker wins from here, whatever the defender plays. `None` if
+        /// there is no win, in a tree without a move.
+        wins_in: Option<u8>,
     },
 }
 

@@ -2,7 +2,7 @@
 ghost use Rattle.std.specs.Prelude.{◌≡◌, Some, List, IfOk, IfSome, IsSome};
 ghost use Rattle.std.specs.String.{string_bytes};
 ghost use Rattle.dw_moves.specs.Moves as of;
-ghost use Rattle.dw_study.specs.RemarkText.{IsRemarkText, HasTexts, behind_blank};
+ghost use Rattle.dw_study.specs.RemarkText.{IsRemarkText, HasTexts, behind_blank, missing_text};
 ghost use Rattle.dw_study.specs.RemarkFields.{AreRemarkFields};
 ghost use Rattle.dw_study.specs.Telling.{remark_in, texts_in};
 
@@ -74,7 +74,10 @@ fn text_of<B: Board>(
             let replies = moves.join(alloc, ", ")?;
             ["open", begun, ": ", replies.as_str(), "\n"].concat(alloc)
         }
-        Remark::Ends { .. } => ["ends", begun, "\n"].concat(alloc),
+        Remark::Ends { .. } => {
+            let missing = missing_text(alloc, words.wins_in)?;
+            ["ends", begun, missing.as_str(), "\n"].concat(alloc)
+        }
     }
 }
 
@@ -85,6 +88,16 @@ fn refutation(words: &RemarkFields) -> &str
     match &words.refutation {
         Some(reply) => reply.as_str(),
         None => "",
+    }
+}
+
+/// Returns the text of how much is missing after an end, or nothing, if there is no win.
+fn missing_text(alloc: Global, wins_in: Option<u8>) -> Result<String, AllocError>
+    ensures { IfOk result (λ made. string_bytes made ≡ missing_text wins_in) }
+{
+    match wins_in {
+        Some(moves) => [": wins in ", Buffer::new().format(moves)].concat(alloc),
+        None => Ok(String::new(alloc)),
     }
 }
 

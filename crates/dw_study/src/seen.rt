@@ -5,6 +5,7 @@ ghost use Rattle.dw_moves.specs.Moves.{Legal};
 ghost use Rattle.dw_moves.specs.Moves as of;
 ghost use Rattle.dw_solve.specs.Questions.{Asked};
 ghost use Rattle.dw_solve.specs.Wins.{Lost};
+ghost use Rattle.dw_study.specs.Remarks.{IsLeastLoss};
 ghost use Rattle.dw_study.specs.inner.Checking.{AreChildren, AreOthers, AreOtherKeys};
 ghost use Rattle.dw_study.specs.inner.Checking.{FindsFirst, IsAt, IsSeen, IsSorted};
 
@@ -37,7 +38,8 @@ pub(crate) fn seen_by_attacker<B: Board, M: Memo<B>, G: Guide<B>>(
     solver.keeps_its_limit();
     let children = children(alloc, tree, spot)?;
     if children.is_empty() {
-        return Ok(end(alloc, spot)?);
+        let wins_in = solver.least(alloc, &spot.position, spot.left)?;
+        return Ok(end(alloc, spot, wins_in)?);
     }
     let mut seen = sorted(alloc, solver, spot, children.as_slice())?;
     let others = others(alloc, &spot.position, children.as_slice())?;
@@ -53,16 +55,21 @@ pub(crate) fn seen_by_attacker<B: Board, M: Memo<B>, G: Guide<B>>(
 }
 
 /// Returns the remarks at a turn of the defender, and the children to examine further: all of them.
-pub(crate) fn seen_by_defender<B: Board>(
+pub(crate) fn seen_by_defender<B: Board, M: Memo<B>, G: Guide<B>>(
     alloc: Global,
+    solver: &mut Solver<B, M, G>,
     tree: &Tree<B>,
     spot: &CheckNode<B>,
-) -> Result<Seen<B>, AllocError>
+) -> Result<Seen<B>, Stop>
     requires there { (b : _) × IsAt B.geometry tree.now spot.now b }
     requires lost { Lost B.geometry spot.now.position spot.now.left }
-    ensures { (b : _) → IsAt B.geometry tree.now spot.now b
+    requires few { spot.now.left ≤ 20 }
+    ensures seen { (b : _) → IsAt B.geometry tree.now spot.now b
         → IfOk result (IsSeen B.geometry tree.now.paths false spot.now.left spot.now.position b) }
+    ensures asked { Asked B.geometry M.content M.dropped spot.now.left solver.old solver.new result }
 {
+    dw_solve::laws::searches_add_up();
+    solver.keeps_its_limit();
     let followed = children(alloc, tree, spot)?;
     let replies = others(alloc, &spot.position, followed.as_slice())?;
     if replies.is_empty() {
@@ -72,7 +79,8 @@ pub(crate) fn seen_by_defender<B: Board>(
         });
     }
     if followed.is_empty() {
-        return end(alloc, spot);
+        let lost_in = least_loss(alloc, solver, &spot.position, spot.left)?;
+        return Ok(end(alloc, spot, Some(lost_in))?);
     }
     let mut remarks = Vec::new(alloc);
     let open = Remark::Open {
@@ -83,13 +91,43 @@ pub(crate) fn seen_by_defender<B: Board>(
     Ok(Seen { remarks, followed })
 }
 
-/// Returns the remark that the solution ends here, and no children.
-fn end<B: Board>(alloc: Global, spot: &CheckNode<B>) -> Result<Seen<B>, AllocError>
-    ensures remarks { IfOk result (λ seen. seen.remarks.items ≡ Remark.Ends spot.now.node ∷ []) }
+/// Returns the least number of moves within which the side to move has lost, which it has within `most`.
+fn least_loss<B: Board, M: Memo<B>, G: Guide<B>>(
+    alloc: Global,
+    solver: &mut Solver<B, M, G>,
+    position: &Position<B>,
+    most: u8,
+) -> Result<u8, Stop>
+    requires lost { Lost B.geometry position.now most }
+    requires few { most ≤ 20 }
+    ensures least { IfOk result (IsLeastLoss B.geometry position.now) }
+    ensures asked { Asked B.geometry M.content M.dropped most solver.old solver.new result }
+{
+    dw_solve::laws::searches_add_up();
+    solver.keeps_its_limit();
+    'moves: for moves in 0..most {
+        if solver.loses(alloc, position, moves)? {
+            return Ok(moves);
+        }
+    }
+    Ok(most)
+}
+
+/// Returns the remark that the solution ends here, within how many moves the attacker wins, and no children.
+fn end<B: Board>(
+    alloc: Global,
+    spot: &CheckNode<B>,
+    wins_in: Option<u8>,
+) -> Result<Seen<B>, AllocError>
+    ensures remarks { IfOk result (λ seen. seen.remarks.items ≡ Remark.Ends spot.now.node wins_in ∷ []) }
     ensures followed { IfOk result (λ seen. seen.followed.items ≡ []) }
 {
     let mut remarks = Vec::new(alloc);
-    push(&mut remarks, Remark::Ends { at: spot.node })?;
+    let ends = Remark::Ends {
+        at: spot.node,
+        wins_in,
+    };
+    push(&mut remarks, ends)?;
     Ok(Seen {
         remarks,
         followed: Vec::new(alloc),

@@ -1,5 +1,5 @@
 //! The parts of the text of a remark, one by one.
-ghost use Rattle.std.specs.Prelude.{◌≡◌, ◌↔◌, [], Some, true, List, IfOk, IfSome, IsSome};
+ghost use Rattle.std.specs.Prelude.{◌≡◌, ◌↔◌, [], Some, None, true, List, IfOk, IfSome, IsSome};
 ghost use Rattle.dw_board.specs.Lists.{Member};
 ghost use Rattle.dw_moves.specs.Moves.{Legal};
 ghost use Rattle.dw_moves.specs.Moves as of;
@@ -30,6 +30,8 @@ pub struct RemarkFields {
     pub moves: Vec<String>,
     /// The reply that refutes a move that fails.
     pub refutation: Option<String>,
+    /// The least number of moves within which the attacker wins, if the solution ends there.
+    pub wins_in: Option<u8>,
 }
 
 /// Returns the parts of the text of a remark that `check` made on a tree. It is `None` if the tree has no such node, or
@@ -57,8 +59,8 @@ pub fn remark_fields<B: Board>(
             Some(beginning) => moves_fields(alloc, &beginning, replies.as_slice()),
             None => Ok(None),
         },
-        Remark::Ends { at } => match beginning_of(alloc, tree, *at)? {
-            Some(beginning) => end_fields(alloc, &beginning),
+        Remark::Ends { at, wins_in } => match beginning_of(alloc, tree, *at)? {
+            Some(beginning) => end_fields(alloc, &beginning, *wins_in),
             None => Ok(None),
         },
     }
@@ -93,6 +95,7 @@ fn failure_fields<B: Board>(
         turn: beginning.turn(),
         moves,
         refutation: Some(String::from_str(alloc, second.as_str())?),
+        wins_in: None,
     }))
 }
 
@@ -103,7 +106,7 @@ fn moves_fields<B: Board>(
     moves: &[Move<B>],
 ) -> Result<Option<RemarkFields>, AllocError>
     ensures words { (p : _) (b : List of.Move) → IsBegun B.geometry p b beginning.now
-        → IfOk result (λ made. IfSome made (λ words. AreFieldsFor B.geometry p b moves.now (texts_in words))) }
+        → IfOk result (λ made. IfSome made (λ words. AreFieldsFor B.geometry p b moves.now None (texts_in words))) }
     ensures some { (p : _) (b : List of.Move) → IsBegun B.geometry p b beginning.now
         → HasTexts B.geometry p (also b moves.now) → IfOk result (λ made. IsSome made) }
 {
@@ -115,6 +118,7 @@ fn moves_fields<B: Board>(
         turn: beginning.turn(),
         moves: each_move_text(alloc, &beginning.position, moves)?,
         refutation: None,
+        wins_in: None,
     }))
 }
 
@@ -122,9 +126,10 @@ fn moves_fields<B: Board>(
 fn end_fields<B: Board>(
     alloc: Global,
     beginning: &Beginning<B>,
+    wins_in: Option<u8>,
 ) -> Result<Option<RemarkFields>, AllocError>
     ensures words { (p : _) (b : List of.Move) → IsBegun B.geometry p b beginning.now
-        → IfOk result (λ made. IfSome made (λ words. AreFieldsFor B.geometry p b [] (texts_in words))) }
+        → IfOk result (λ made. IfSome made (λ words. AreFieldsFor B.geometry p b [] wins_in (texts_in words))) }
     ensures some { IfOk result (λ made. IsSome made) }
 {
     Ok(Some(RemarkFields {
@@ -132,6 +137,7 @@ fn end_fields<B: Board>(
         turn: beginning.turn(),
         moves: Vec::new(alloc),
         refutation: None,
+        wins_in,
     }))
 }
 

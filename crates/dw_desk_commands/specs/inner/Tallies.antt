@@ -15,6 +15,6 @@ total t = t.fails + t.ends + t.open + t.also
 -- one remark more
 abbrev pub one_more : Remark → Counted → Counted
 one_more (fails b m r) c = record c { that_fail = c.that_fail + 1 }
-one_more (ends b) c = record c { that_end = c.that_end + 1 }
+one_more (ends b wins_in) c = record c { that_end = c.that_end + 1 }
 one_more (leaves_open b replies) c = record c { left_open = c.left_open + 1 }
 one_more (also b keys) c = record c { left_out = c.left_out + 1 }

@@ -1,4 +1,4 @@
-use Rattle.std.proofs.Common.{◌≤◌, ◌-◌, ◌∙◌, ap, sym, subst, arith, refl, rules}
+use Rattle.std.proofs.Common.{◌≤◌, ◌-◌, ◌∙◌, sym, subst, arith, refl, rules}
 use Rattle.dw_solve.specs.Questions.{moment_of}
 use Rattle.dw_solve.specs.inner.QuestionLemmas.{answered, asked_stop, asked_wider}
 use Rattle.dw_study.proofs.AskedLemmas.{asked_on}

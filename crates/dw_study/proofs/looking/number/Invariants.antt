@@ -1,4 +1,4 @@
-use Rattle.std.proofs.Common.{◌≡◌, ℕ, ◌+◌, ◌-◌, ◌<◌, ◌≤◌}
+use Rattle.std.proofs.Common.{ℕ, ◌+◌, ◌-◌, ◌<◌, ◌≤◌}
 use Rattle.dw_solve.specs.Certificates.{SaysLeast}
 use Rattle.dw_solve.specs.Questions.{Idle, LostNothing, moment_of}
 use Rattle.dw_solve.specs.Searching.{IsCounted}

@@ -5,11 +5,11 @@ use Rattle.std.specs.Prelude.{codes}
 use Rattle.std.specs.String.{string_bytes}
 use Rattle.dw_games.specs.Walk.{beginning_at, place_of}
 use Rattle.dw_report.specs.inner.JoinedLemmas.{join_texts}
-use Rattle.dw_study.specs.Remarks.{fails, also, leaves_open}
+use Rattle.dw_study.specs.Remarks.{fails, also, leaves_open, ends}
 use Rattle.dw_study.specs.RemarkText.{IsRemarkText, behind_blank}
 use Rattle.dw_study.specs.RemarkFields.{AreRemarkFields}
 use Rattle.dw_study.specs.Telling.{remark_in, texts_in}
-use Rattle.dw_study.proofs.RemarkTextLemmas.{told, fails_made, also_made, open_made}
+use Rattle.dw_study.proofs.RemarkTextLemmas.{told, fails_made, also_made, open_made, ends_made}
 use Rattle.dw_study.proofs.remark_texts.text_of.Goals as goal
 
 pub returns-in-Fails : goal.returns-in-Fails
@@ -63,3 +63,18 @@ returns-in-Open g c = λ tree p r is are.
     (c.as_str-begun.ensures.value ∙ (c.in_ok-begun.ensures ∙ ap behind_blank c.as_str.ensures.value))
     c.format-turn.ensures.text c.in-Open.replies.items
     (subst (λ z. AreRemarkFields geo p z words) (sym said.2) are) joined e) c.concat-in-Open.ensures.ok)
+
+pub returns : goal.returns
+returns g c = λ tree p r is are.
+    let geo = g.B.Board.geometry in
+    let words = texts_in c.args.words.now in
+    let wins_in = c.in-Ends.wins_in in
+    let said = told (beginning_at tree (place_of c.in-Ends.at)) (λ b. ends b wins_in) r
+    (subst (λ z. remark_in tree z ≡ Some r) c.in-Ends.is is) in
+    subst (λ z. IfOk c.concat-in-Ends.result (λ text. IsRemarkText geo p z (string_bytes text))) said.2
+    (IfOk-weaker c.concat-in-Ends.result _ _ (λ text e. ends_made geo p said.0 words c.as_str-begun.result.now
+    c.format-turn.result.now c.as_str-in-Ends.result.now (string_bytes text)
+    (c.as_str-begun.ensures.value ∙ (c.in_ok-begun.ensures ∙ ap behind_blank c.as_str.ensures.value))
+    c.format-turn.ensures.text wins_in c.as_str-in-Ends.result.now
+    (subst (λ z. AreRemarkFields geo p z words) (sym said.2) are)
+    (c.as_str-in-Ends.ensures.value ∙ c.in_ok-missing-in-Ends.ensures) e) c.concat-in-Ends.ensures.ok)

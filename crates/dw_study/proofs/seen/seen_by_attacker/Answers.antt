@@ -11,10 +11,28 @@ use Rattle.dw_study.proofs.seen.seen_by_attacker.Goals as goal
 pub returns-then-is_empty-clause-seen : goal.returns-then-is_empty-clause-seen
 returns-then-is_empty-clause-seen g c = λ b there.
     ends_seen g.B.Board.geometry c.args.spot.now.position c.args.spot.now.left c.args.tree.now.paths b
-    c.args.spot.now.node there.there c.in_ok-children.children.items (c.in_ok-children.ensures b there) _
-    c.in_ok-end.field-0
-    (none_there c.in_ok-children.children _ c.is_empty.ensures c.if-is_empty.true) (λ e. cc) c.in_ok-end.ensures.remarks
-    c.in_ok-end.ensures.followed
+    c.args.spot.now.node there.there c.in_ok-children.children.items (c.in_ok-children.ensures b there) true
+    c.in_ok-wins_in.wins_in c.in_ok-end.field-0
+    (none_there c.in_ok-children.children _ c.is_empty.ensures c.if-is_empty.true) c.in_ok-wins_in.ensures.answer
+    c.in_ok-end.ensures.remarks c.in_ok-end.ensures.followed
+
+pub returns-in_err-wins_in-clause-asked : goal.returns-in_err-wins_in-clause-asked
+returns-in_err-wins_in-clause-asked g c =
+    asked_stop g.B.Board.geometry g.M.Memo.content g.M.Memo.dropped c.args.spot.now.left c.args.solver.now
+    c.least.new.self c.in_err-wins_in.field-0.0 c.from_residual-in_err-wins_in.result
+    c.from_residual-in_err-wins_in.ensures.1 c.in_err-wins_in.ensures.asked
+
+pub returns-in_err-end-clause-asked : goal.returns-in_err-end-clause-asked
+returns-in_err-end-clause-asked g c =
+    asked_memory g.B.Board.geometry g.M.Memo.content g.M.Memo.dropped c.args.spot.now.left c.args.solver.now
+    c.least.new.self c.from_residual-in_err-end.result c.from_residual-in_err-end.ensures.1
+    (asked_ok g.B.Board.geometry g.M.Memo.content g.M.Memo.dropped c.args.spot.now.left c.args.solver.now
+    c.least.new.self c.in_ok-wins_in.wins_in 0 c.in_ok-wins_in.ensures.asked)
+
+pub returns-then-is_empty-clause-asked : goal.returns-then-is_empty-clause-asked
+returns-then-is_empty-clause-asked g c =
+    asked_ok g.B.Board.geometry g.M.Memo.content g.M.Memo.dropped c.args.spot.now.left c.args.solver.now
+    c.least.new.self c.in_ok-wins_in.wins_in _ c.in_ok-wins_in.ensures.asked
 
 pub sorted-requires-clause-legal : goal.sorted-requires-clause-legal
 sorted-requires-clause-legal g c = λ m member.

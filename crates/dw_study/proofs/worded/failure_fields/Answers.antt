@@ -1,4 +1,4 @@
-use Rattle.std.proofs.Common.{◌≡◌, ◌++◌, ◌∷◌, [], ap, ◌∙◌, true, false, sym, subst, map, Some}
+use Rattle.std.proofs.Common.{◌≡◌, ◌++◌, ◌∷◌, [], ap, ◌∙◌, true, false, sym, subst, map, refl, Some, None}
 use Rattle.std.specs.String.{string_bytes}
 use Rattle.dw_report.specs.JudgedText.{next_number}
 use Rattle.dw_study.specs.Telling.{texts_in}
@@ -21,11 +21,12 @@ returns-clause-words g c = λ p b begun.
       turn = c.turn.result;
       moves = c.push.new.self;
       refutation = Some c.in_ok-from_str-3.field-0;
+      wins_in = None;
     })) begun.written
     (c.in_ok-from_str-2.ensures.ok ∙ (c.as_str-2.ensures.value ∙ begun.same)) begun.position c.play-after.ensures
     c.in_ok-first.ensures.text c.in_ok-second.ensures.text
     (ap (map string_bytes) (c.in_ok-push.ensures.items
     ∙ ap (λ z. z ++ c.in_ok-from_str.field-0 ∷ []) c.new-moves.ensures.items)
     ∙ ap (λ z. z ∷ []) (c.in_ok-from_str.ensures.ok ∙ c.as_str.ensures.value))
-    (ap Some (c.in_ok-from_str-3.ensures.ok ∙ c.as_str-3.ensures.value))
+    (ap Some (c.in_ok-from_str-3.ensures.ok ∙ c.as_str-3.ensures.value)) refl
     (c.turn.ensures ∙ ap next_number begun.moves)

@@ -48,7 +48,7 @@ pub returns-in-Some-4-clause-words : goal.returns-in-Some-4-clause-words
 returns-in-Some-4-clause-words g c = λ r is.
     let p = c.args.tree.now.start in
     let tree = c.args.tree.now.paths in
-    let said = told (beginning_at tree (place_of c.in-Ends.at)) (λ b. ends b) r
+    let said = told (beginning_at tree (place_of c.in-Ends.at)) (λ b. ends b c.in-Ends.wins_in) r
     (subst (λ z. remark_in tree z ≡ Some r) c.in-Ends.is is) in
     let begun = subst (λ made. IfSome made (IsBegun g.B.Board.geometry p said.0)) c.in-Some-4.is
     (c.in_ok-beginning-in-Ends.ensures.begun said.0 said.1) in

@@ -13,6 +13,6 @@ returns-in_ok-solution_text-in-Ok-read_movetext-clause-text g c =
     let tree = c.in-Ok-read_movetext.tree in
     let told = c.in_ok-solution_text-in-Ok-read_movetext.ensures in
     check_for geo c.args.self.now (problem_of (numbered_game game)) game.movetext.items game.problem.found
-    c.in-Ok.position tree c.moves_for-n.result.value told.0 _ _ c.in-Ok.is
+    c.in-Ok.position tree c.in_ok-n-in-Ok-read_movetext.n.value told.0 _ _ c.in-Ok.is
     (subst (λ z. IsAnswer geo c.in-Ok.position z (Ok tree)) c.as_slice.ensures.value
-    c.in-Ok-read_movetext.ensures) c.moves_for-n.ensures told.1 told.2
+    c.in-Ok-read_movetext.ensures) c.in_ok-n-in-Ok-read_movetext.ensures.number told.1 told.2
