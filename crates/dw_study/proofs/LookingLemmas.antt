@@ -16,24 +16,12 @@ use Rattle.dw_solve.specs.Solving.{Solving}
 use Rattle.dw_solve.specs.Work.{Moment, Searched, Stronger, LossIsCounted}
 use Rattle.dw_solve.specs.declared.stop.Stop.{Stop}
 use Rattle.dw_solve.specs.declared.stop.Stop.TheVariants.{Limit}
-use Rattle.dw_solve.specs.inner.QuestionLemmas.{answered}
+use Rattle.dw_solve.specs.inner.QuestionLemmas.{answered, err_is, searched_looser}
 use Rattle.dw_study.specs.Telling.{Sought}
 use Rattle.dw_study.specs.declared.finding.Finding as findings
 use Rattle.dw_study.specs.declared.finding.Finding.TheVariants.{Undecided}
 use Rattle.dw_study.specs.declared.looking.Cut.{Cut}
 use Rattle.dw_study.specs.inner.Looking.{LooksFor}
-
-searched_looser : (g : Geometry) (n cut more : ℕ) (a c : Moment) → cut ≤ more → Searched g n cut a c
-    → Searched g n more a c
-searched_looser g n cut more a c less s = record {
-  few = s.few;
-  counted = s.counted;
-  worked = λ kept. let w = s.worked kept in record {
-    stronger = w.stronger;
-    closed = w.closed;
-    growth = λ i h. let r = w.growth i h in omega (arith, r, less);
-  };
-}
 
 -- searches after others, of which none was cut off
 pub searched_then : SearchesAddUp → (g : Geometry) (n k cut : ℕ) (a b c : Moment) → n ≤ k → Searched g n 0 a b
@@ -79,13 +67,6 @@ says_more g content lost law p n cut a b c answer some counted here before last 
 -- a solver whose limit was changed
 pub same_memo : {M : Type 0} (a b : Solving M) (limit : ℕ) → b ≡ record a { limit = limit } → b.memo ≡ a.memo
 same_memo a b limit e = ap (λ z. z.memo) e
-
-pub counted_then : (a l b m c o : ℕ) → IsCounted a l b m → IsCounted b m c o → IsCounted a l c o
-counted_then a l b m c o h k = record {
-  rises = omega (arith, h.rises, k.rises);
-  within = subst (λ z. c ≤ z) h.same k.within;
-  same = k.same ∙ h.same;
-}
 
 -- what is decided is so in a memo with the same entries
 decided_same : (c d : Content) (p : Placement) (n : ℕ) → SameEntries c d → IsDecided c p n → IsDecided d p n
@@ -160,9 +141,6 @@ looks_between g content lost limit most a b c d r down up same less h =
       stop = lower.stop;
       searched = lower.searched;
     }))
-
-err_is : {B : Type 0} (d : Stop) → IsErrOf {T = B} (Err d) Limit → d ≡ Limit
-err_is d same = cc
 
 module _ {M : Type 0} (g : Geometry) (content : M → Content) (lost : M → ℕ) where
   -- a number was found

@@ -1,9 +1,10 @@
 use Rattle.std.proofs.Common.{◌≤◌, ◌-◌, ◌∙◌, sym, subst, arith, refl, rules}
+use Rattle.dw_solve.specs.inner.CountLemmas.{counted_then}
 use Rattle.dw_solve.specs.Questions.{moment_of}
 use Rattle.dw_solve.specs.inner.QuestionLemmas.{answered, asked_stop, asked_wider}
 use Rattle.dw_study.proofs.AskedLemmas.{asked_on}
 use Rattle.dw_study.proofs.FindingLemmas.{number_for}
-use Rattle.dw_study.proofs.LookingLemmas.{counted_then, looked, searched_then, sought_cut, sought_stopped}
+use Rattle.dw_study.proofs.LookingLemmas.{looked, searched_then, sought_cut, sought_stopped}
 use Rattle.dw_study.proofs.LookingLemmas.{sought_undecided}
 use Rattle.dw_study.proofs.OpenLemmas.{each_is, few_within, no_lower, says_on, stays_stopped}
 use Rattle.dw_study.proofs.find.find.Goals as goal

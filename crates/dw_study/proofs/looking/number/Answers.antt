@@ -1,8 +1,9 @@
 use Rattle.std.proofs.Common.{◌≡◌, ℕ, ◌+◌, ◌-◌, ◌≤◌, ◌∙◌, sym, subst, ap, arith, below_more, Err}
 use Rattle.std.proofs.lemmas.Bool.{true≢false}
+use Rattle.dw_solve.specs.inner.CountLemmas.{counted_then}
 use Rattle.dw_solve.specs.Questions.{moment_of}
 use Rattle.dw_solve.specs.Work.{Searched}
-use Rattle.dw_study.proofs.LookingLemmas.{counted_then, idle_on, known_below, loss_then, says_more, searched_then}
+use Rattle.dw_study.proofs.LookingLemmas.{idle_on, known_below, loss_then, says_more, searched_then}
 use Rattle.dw_study.proofs.looking.number.Goals as goal
 
 one_more : (n : ℕ) → n ≡ n + 1 - 1
