@@ -1,0 +1,4 @@
+pub mod Laws
+pub mod Repeats
+pub mod Turning
+pub mod inner

@@ -1,0 +1,10 @@
+//! Problems that stand in a text for the second time, as they are or turned by 180 degrees with the colours exchanged.
+//!
+//! Everything is generic over the board. Begin with `ProblemIndex`, to which problems are added one after another.
+#![tactic(auto)]
+
+pub mod index;
+mod key;
+pub mod laws;
+
+pub use index::{ProblemIndex, Repeat};
