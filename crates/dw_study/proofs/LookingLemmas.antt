@@ -20,7 +20,7 @@ use Rattle.dw_solve.specs.inner.QuestionLemmas.{answered, err_is, searched_loose
 use Rattle.dw_study.specs.Telling.{Sought}
 use Rattle.dw_study.specs.declared.finding.Finding as findings
 use Rattle.dw_study.specs.declared.finding.Finding.TheVariants.{Undecided}
-use Rattle.dw_study.specs.declared.looking.Cut.{Cut}
+use Rattle.dw_study.specs.declared.least.Cut.{Cut}
 use Rattle.dw_study.specs.inner.Looking.{LooksFor}
 
 -- searches after others, of which none was cut off
