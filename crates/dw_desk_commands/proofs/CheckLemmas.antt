@@ -57,12 +57,6 @@ counted_next remarks (leaves_open b replies) = let r = leaves_open b replies in 
 counted_next remarks (also b keys) = let r = also b keys in same_numbers _ _ _ _ _ _ _ _
     (no is_fail remarks r refl) (no is_end remarks r refl) (no is_open remarks r refl) (yes is_also remarks r refl)
 
--- a refusal by an equal fault at an equal place
-pub refused_same : {given what : MovetextFaultKind} {there place : ℕ} (text : List ℕ) → given ≡ what → there ≡ place
-    → text ≡ solution_fault_line given there → text ≡ solution_fault_line what place
-refused_same {given} {what} {there} {place} text fault at line =
-    line ∙ (ap (λ z. solution_fault_line z there) fault ∙ ap (solution_fault_line what) at)
-
 -- what is counted of a solution is the same by its tally
 pub numbers_same : (wins b : Bool) (t c : Counted) → b ≡ holds t → t ≡ c → (numbers : CheckNumbers)
     → numbers ≡ record {

@@ -75,14 +75,6 @@ module _ (g : Geometry) (tree : PlayedTree) (node : Option ℕ) where
       → (beginning_at tree.paths node ≡ Some whole) × ArePlayable g tree.start whole
   gathered_all moves whole h e = rw e (h.joined [] refl)
 
-  -- no beginning leads to a node before which none is left
-  pub gathered_lost : (n : ℕ) (moves : List Move) → slice_get tree.paths n ≡ None → Gathered g tree node (Some n) moves
-      → beginning_at tree.paths node ≡ None
-  gathered_lost n moves none h = by (beginning_at tree.paths node) refl where
-    by : (o : Option (List Move)) → beginning_at tree.paths node ≡ o → beginning_at tree.paths node ≡ None
-    by None e = e
-    by (Some b) e = let found = h.left b e in absent found.0 (sym none ∙ found.1)
-
 -- a list that was reversed in its place
 pub reversed : (xs ys zs : List Move) → zs ≡ xs → ys ≡ reverse zs
     → take (length xs) (ys ++ drop (length ys) xs) ≡ reverse xs
@@ -135,10 +127,6 @@ legal_more g p moves i m all low is legal =
     let more : take (i + 1) moves ≡ take i moves ++ m ∷ [] = take_more moves i m low
     ∙ ap (λ z. take i moves ++ z ∷ []) (sym is) in
     λ o here. legal_among g p (take i moves) m all legal o (subst (Member o) more here)
-
-pub legal_all : (g : Geometry) (p : Placement) (moves : List Move) (i : ℕ) → LegalTo g p moves i → length moves ≤ i
-    → (m : Move) → Member m moves → Legal g p m
-legal_all g p moves i all end m here = all m (subst (Member m) (sym (take_all i moves end)) here)
 
 pub legal_no : (g : Geometry) (p : Placement) (moves : List Move) (i : ℕ) (m : Move) → i < length moves
     → m ≡ get_or moves i m → (Legal g p m → ⊥) → ((o : Move) → Member o moves → Legal g p o) → ⊥

@@ -16,8 +16,8 @@ returns g c =
     let all = Appends-trans start middle end (first_line geo problem) (solution_fault_line c.args.what c.args.place)
     (subst (Appends start middle) (c.as_bytes.ensures.value ∙ (c.as_str.ensures.value ∙ c.problem_line.ensures))
     c.in_ok-push.ensures)
-    (subst (Appends middle end) (c.as_bytes-2.ensures.value ∙ (c.as_str-2.ensures.value ∙ c.in_ok-solution_fault_line.ensures))
-    c.in_ok-push-2.ensures) in
+    (subst (Appends middle end) (c.as_bytes-2.ensures.value
+    ∙ (c.as_str-2.ensures.value ∙ c.in_ok-solution_fault_line.ensures)) c.in_ok-push-2.ensures) in
     subst (λ z. end ≡ fault_text geo z problem c.args.position.now c.args.what c.args.place)
     (sym c.if-json.false)
     (all.grown ∙ ap (λ z. z ++ (first_line geo problem ++ solution_fault_line c.args.what c.args.place))
