@@ -1,6 +1,7 @@
 pub mod Signs
 pub mod Tokens
 pub mod Play
+pub mod Printed
 pub mod Movetext
 pub mod Faults
 pub mod Lines
