@@ -30,3 +30,5 @@ pub mod OneAnswerLemmas
 pub mod PlayedLemmas
 pub mod LineLemmas
 pub mod OneLineLemmas
+pub mod PdnLemmas
+pub mod RuleLemmas

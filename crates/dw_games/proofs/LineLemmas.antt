@@ -113,7 +113,8 @@ beginnings_append : (before moves more : List Move) → beginnings_after before 
 beginnings_append before [] more = ap (λ z. beginnings_after z more) (sym (append-nil before))
 beginnings_append before (m ∷ moves) more =
     ap (λ z. (before ++ m ∷ []) ∷ z) (beginnings_append (before ++ m ∷ []) moves more
-    ∙ ap (λ z. beginnings_after (before ++ m ∷ []) moves ++ beginnings_after z more) (append_assoc before (m ∷ []) moves))
+    ∙ ap (λ z. beginnings_after (before ++ m ∷ []) moves ++ beginnings_after z more)
+    (append_assoc before (m ∷ []) moves))
 
 -- the moves and the paths of play without parentheses
 pub main_line : (g : Geometry) (p : Placement) {room : ℕ} {start line : Line} {ts : List Token}

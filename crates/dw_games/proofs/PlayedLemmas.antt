@@ -225,7 +225,8 @@ played g p K (aside {inner = inner} {us = us} {paths = paths} {others = more} {k
     let outer = played g p K v h in
     let all = line_moves K paths kind before now answer outer.known in
     let front = all_front K paths before moves last all in
-    let whole = subst (Known K paths) (sym (append_assoc before moves (last ∷ []))) (all_whole K paths before now all) in
+    let whole = subst (Known K paths) (sym (append_assoc before moves (last ∷ [])))
+    (all_whole K paths before now all) in
     let own = played g p (Known K paths) w (inl front, inl whole) in
     record {
       known = after_known g p K paths more kind before moves last answer inner (count_moves us) outer.known own.known

@@ -23,7 +23,8 @@ use Rattle.dw_games.specs.declared.reader.Cursor.{Cursor}
 use Rattle.dw_games.specs.declared.reader.OpenLine.{OpenLine}
 use Rattle.dw_games.proofs.PlaceLemmas.{got_old, absent}
 use Rattle.dw_games.proofs.PathLemmas.{last_same, filled}
-use Rattle.dw_games.proofs.PrintedLemmas.{IsShort, moves_short, front_short, short, IsInside, inside, IsCounted, counted}
+use Rattle.dw_games.proofs.PrintedLemmas.{IsShort, moves_short, front_short, short, IsInside, inside, IsCounted}
+use Rattle.dw_games.proofs.PrintedLemmas.{counted}
 use Rattle.dw_games.proofs.PrintedLemmas.{counted_more, counted_aside, none_passed}
 
 pub after_append : (g : Geometry) (p : Placement) (moves : List Move) (m : Move)
@@ -114,7 +115,8 @@ module _ {B : Type 0} (g : Geometry) (p : Placement) (tree : List (List Move)) w
   begun_none now front last cursor h e = absent cursor (sym h.none ∙ e)
 
   pub read_opens : {R : ℕ} {ts : List Token} {now : OpenLine B} {outer : List (OpenLine B)} {paths : List (List Move)}
-      (room : ℕ) (line : Line) (t : Token) (cursor : Cursor B) → Opened g p tree R ts now outer line paths → R ≡ suc room
+      (room : ℕ) (line : Line) (t : Token) (cursor : Cursor B) → Opened g p tree R ts now outer line paths
+      → R ≡ suc room
       → t.what ≡ Opens → now.before ≡ Some cursor
       → (next : Line) × Opened g p tree room (ts ++ t ∷ []) (parenthesis cursor now) (outer ++ now ∷ []) next paths
   read_opens {now = now} room (begins front last) t cursor o r e is =
@@ -124,7 +126,8 @@ module _ {B : Type 0} (g : Geometry) (p : Placement) (tree : List (List Move)) w
       let l = opened_line o in
       let early : IsBefore g p tree (Some cursor) before moves =
       subst (λ x. IsBefore g p tree x before moves) is l.earlier in
-      let around : Opened g p tree (suc room) ts now outer (goes_on kind before (early.0 ++ early.1 ∷ []) answer) paths =
+      let around : Opened g p tree (suc room) ts now outer (goes_on kind before (early.0 ++ early.1 ∷ []) answer) paths
+      =
       subst (λ x. Opened g p tree (suc room) ts now outer (goes_on kind before x answer) paths) early.2
       (subst (λ x. Opened g p tree x ts now outer (goes_on kind before moves answer) paths) r o) in
       let whole : before ++ moves ≡ (before ++ early.0) ++ early.1 ∷ [] =
@@ -164,13 +167,14 @@ module _ {B : Type 0} (g : Geometry) (p : Placement) (tree : List (List Move)) w
       → IsInside (before ++ moves) last line → now.is_single ≡ (many == 1)
       → IsGoing g p tree (line_after around now) kind before (moves ++ last ∷ []) (answer_of line many answer)
   line_is around now kind before moves last answer (begins front end) many l k i single = rw k.behind l
-  line_is around now kind before moves last answer (goes_on own start others a) many l k i single = rw k.behind (record {
-    now = l.now;
-    earlier = l.earlier;
-    behind = l.behind;
-    answered = after_is around now kind own before moves start others last answer a many l k i single;
-    told = l.told;
-  })
+  line_is around now kind before moves last answer (goes_on own start others a) many l k i single =
+      rw k.behind (record {
+        now = l.now;
+        earlier = l.earlier;
+        behind = l.behind;
+        answered = after_is around now kind own before moves start others last answer a many l k i single;
+        told = l.told;
+      })
 
   single_is : (around now : OpenLine B) (line : Line) (a b : ℕ) → IsOpenLine g p tree now line → IsCounted line b
       → 0 < a → around.is_single ≡ (a == 1) → (line_after around now).is_single ≡ (a + b == 1)

@@ -10,7 +10,8 @@ use Rattle.dw_notation.specs.MoveReadingLaws.{HasOneAnswer}
 use Rattle.dw_notation.specs.declared.read_move.MoveFault.{MoveFault}
 use Rattle.dw_notation.specs.declared.read_move.MoveFault.TheVariants as reading
 use Rattle.dw_games.specs.Tokens.{Token}
-use Rattle.dw_games.specs.Play.{IsResult, IsMove, IsPassed, plain, after, beginnings_after, IsDefence, IsLeftOut, IsOnlyMove}
+use Rattle.dw_games.specs.Play.{IsResult, IsMove, IsPassed, plain, after, beginnings_after, IsDefence, IsLeftOut}
+use Rattle.dw_games.specs.Play.{IsOnlyMove}
 use Rattle.dw_games.specs.Play.{HasForm, HasTwoMoves, IsNamed, NamesNoneBehind, IsRefused, StandsFor, IsRefusedAfter}
 use Rattle.dw_games.specs.Play as rule
 use Rattle.dw_games.specs.Printed.{Kind, variation, reply as as_reply, Line, begins, goes_on, first_line, NamesNotOne}
@@ -33,8 +34,8 @@ pub record Around : Type 0 where
   pub line : Line
   pub count : ℕ
 
--- whether the result has been read, how many more parentheses may be open, the innermost line and how many of its tokens
--- are moves, the lines around it, and the paths so far
+-- whether the result has been read, how many more parentheses may be open, the innermost line and how many of its
+-- tokens are moves, the lines around it, and the paths so far
 pub record State : Type 0 where
   pub over : Bool
   pub room : ℕ
@@ -189,7 +190,7 @@ one_move one g q text m n is too = elim (one g q text (Ok m) (Ok n) is too) [
   | inr (inr memory) ↦ absurd (no_memory_of n memory)
 ]
 
-not_several : HasOneAnswer → {A : Type 0} (g : Geometry) (q : Placement) (text : List ℕ) (m : Move)
+pub not_several : HasOneAnswer → {A : Type 0} (g : Geometry) (q : Placement) (text : List ℕ) (m : Move)
     → IsRead g q text (Ok m) → IsRead g q text (Err reading.Ambiguous) → A
 not_several one g q text m is too = elim (one g q text (Ok m) (Err reading.Ambiguous) is too) [
   | inl same ↦ absurd (one_several m same)
@@ -207,13 +208,13 @@ not_both one g q text answer none is kept other = elim (one g q text (Err readin
   | inr (inr memory) ↦ absurd (kept memory)
 ]
 
-not_named : HasOneAnswer → {A : Type 0} (g : Geometry) (q : Placement) (text : List ℕ)
+pub not_named : HasOneAnswer → {A : Type 0} (g : Geometry) (q : Placement) (text : List ℕ)
     → IsRead g q text (Err reading.NoSuchMove) → IsNamed g q text → A
 not_named one g q text none (inl is) = not_both one g q text (Ok is.0) none is.1 (no_memory_of is.0) (no_miss_of is.0)
 not_named one g q text none (inr is) =
     not_both one g q text (Err reading.Ambiguous) none is ambiguous_memory ambiguous_miss
 
-not_two : {A : Type 0} (g : Geometry) (q : Placement) (m : Move) → IsOnlyMove g q m → HasTwoMoves g q → A
+pub not_two : {A : Type 0} (g : Geometry) (q : Placement) (m : Move) → IsOnlyMove g q m → HasTwoMoves g q → A
 not_two g q m only two =
     absurd (two.differ (only.alone two.first two.legal ∙ sym (only.alone two.second two.legal_too)))
 
@@ -222,7 +223,8 @@ data IsMissed (g : Geometry) (p : Placement) (path : List Move) (t : Token) (r :
   nothing : (IsDefence path → NamesNoneBehind g (after g p path) (plain t.text)) → r ≡ Err NoSuchMove
       → IsMissed g p path t r
   two_moves : (answer m : Move) → IsDefence path → IsOnlyMove g (after g p path) answer
-      → IsRead g (play g (after g p path) answer) (plain t.text) (Ok m) → r ≡ Ok (answer ∷ m ∷ []) → IsMissed g p path t r
+      → IsRead g (play g (after g p path) answer) (plain t.text) (Ok m) → r ≡ Ok (answer ∷ m ∷ [])
+      → IsMissed g p path t r
   several : (answer : Move) → IsDefence path → IsOnlyMove g (after g p path) answer
       → IsRead g (play g (after g p path) answer) (plain t.text) (Err reading.Ambiguous) → r ≡ Err Ambiguous
       → IsMissed g p path t r
@@ -256,8 +258,10 @@ module _ (g : Geometry) (p : Placement) where
   told_refused (rule.no_such_move low is missing) = missed low is.refused (nothing missing refl)
   told_refused (rule.ambiguous low is) =
       read (Err reading.Ambiguous) low is.refused ambiguous_memory ambiguous_miss refl
-  told_refused (rule.ambiguous_after_reply r low odd is only many) = missed low is.refused (several r odd only many refl)
-  told_refused (rule.no_reply r low odd is two legal named) = missed low is.refused (unforced r odd two legal named refl)
+  told_refused (rule.ambiguous_after_reply r low odd is only many) =
+      missed low is.refused (several r odd only many refl)
+  told_refused (rule.no_reply r low odd is two legal named) =
+      missed low is.refused (unforced r odd two legal named refl)
   told_refused (rule.too_long high form) = long high refl
 
   judged_told : {path : List Move} {t : Token} (r : Outcome) → Judged g p path t r → IsTold g p path t r

@@ -1,6 +1,7 @@
 -- What a reader makes of a token.
 use Rattle.std.proofs.Common.{◌≡◌, ◌⊎◌, ℕ, zero, suc, ◌+◌, ◌<◌, ◌≤◌, Bool, true, false, List, [], ◌∷◌, ◌++◌, length}
-use Rattle.std.proofs.Common.{Some, None, refl, sym, ap, subst, ◌∙◌, arith, append_assoc, append-nil, length-append, inl}
+use Rattle.std.proofs.Common.{Some, None, refl, sym, ap, subst, ◌∙◌, arith, append_assoc, append-nil, length-append}
+use Rattle.std.proofs.Common.{inl}
 use Rattle.std.proofs.Common.{inr, Ok, Err, Result}
 use Rattle.std.specs.Prelude.{◌==◌, ◌%◌}
 use Rattle.std.proofs.Math.Nat.{eq-or-lt_of_le}
@@ -12,7 +13,8 @@ use Rattle.dw_notation.specs.MoveReading.{IsRead, IsAnswered, Named, QuietMove, 
 use Rattle.dw_notation.specs.declared.read_move.MoveFault.{MoveFault}
 use Rattle.dw_notation.specs.declared.read_move.MoveFault.TheVariants as reading
 use Rattle.dw_games.specs.Tokens.{Token}
-use Rattle.dw_games.specs.Play.{IsResult, IsMove, IsDefence, IsLeftOut, IsPassed, plain, after, beginnings_after, StandsFor}
+use Rattle.dw_games.specs.Play.{IsResult, IsMove, IsDefence, IsLeftOut, IsPassed, plain, after, beginnings_after}
+use Rattle.dw_games.specs.Play.{StandsFor}
 use Rattle.dw_games.specs.Play.{named, left_out, HasForm, IsRefused, no_such_move, ambiguous}
 use Rattle.dw_games.specs.Play.{ambiguous_after_reply, no_reply, too_long}
 use Rattle.dw_games.specs.Printed.{Kind, variation, reply as as_reply, Line, begins, goes_on, first_line}
@@ -145,7 +147,8 @@ module _ {B : Type 0} (g : Geometry) (p : Placement) (ts : List Token) (r : Read
       }
 
   -- ---- moves
-  pub fault_found : (why : MovetextFault) → IsFoundOr {B = B} g p r.tree.paths h.line t (Err why) → IsFaultOf g p ts t why
+  pub fault_found : (why : MovetextFault) → IsFoundOr {B = B} g p r.tree.paths h.line t (Err why)
+      → IsFaultOf g p ts t why
   fault_found (Refused what place) (inl is, there) =
       (subst (λ x. FaultAt g p ts t x) (sym is.0) (fault_unreadable (inr (inr is.1))), there)
   fault_found (Refused what place) (inr is, there) = (refused opened_now is, there)
@@ -309,7 +312,7 @@ squares_legal g p (s ∷ []) m h = absurd h
 squares_legal g p (s ∷ u ∷ []) m h = h.0
 squares_legal g p (s ∷ u ∷ v ∷ squares) m h = (h.most, h.best, legal_at g p m h.most h.some h.landings h.leads)
 
-fits_legal : (g : Geometry) (p : Placement) (named : Named) (m : Move) → Fits g p named m → Legal g p m
+pub fits_legal : (g : Geometry) (p : Placement) (named : Named) (m : Move) → Fits g p named m → Legal g p m
 fits_legal g p (QuietMove from to) m h = h.0
 fits_legal g p (Capture squares) m h = squares_legal g p squares m h
 
@@ -778,7 +781,8 @@ module _ {B : Type 0} (g : Geometry) (p : Placement) (ts : List Token) (r : Read
       let low = short_now (begins k.0 k.1) k.2 in omega (arith, low, k.4.many, length-append k.0 (k.1 ∷ []))
 
   pub found_first : (after : Cursor B) (result : Result (Found B) MovetextFault) → r.line.behind ≡ Some after
-      → ((q : Placement) (tree : List (List Move)) (front : List Move) (last : Move) → IsCursor g q tree r.line.now front
+      → ((q : Placement) (tree : List (List Move)) (front : List Move) (last : Move)
+      → IsCursor g q tree r.line.now front
       → IsCursor g q tree after (front ++ last ∷ []) → IsFoundOr g q tree (begins front last) t result)
       → IsFoundOr g p r.tree.paths h.line t result
   found_first after result e f =

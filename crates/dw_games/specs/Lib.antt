@@ -6,6 +6,8 @@ pub mod Movetext
 pub mod Faults
 pub mod Lines
 pub mod Laws
+pub mod Rules
+pub mod Pdn
 pub mod Walk
 pub mod Games
 pub mod GameReading

@@ -1,7 +1,7 @@
--- The play of a movetext, as a grammar on its tokens: its lines, the parentheses in them, and the paths that it goes
--- through. A parenthesis follows a move. It is a variation, which begins before that move, or a reply, which begins after
--- it: its first move decides. A reply that is followed by another move of the same side was by-play, and else the play
--- goes on after it.
+-- The play of a movetext, as a grammar on its tokens: its lines, the parentheses in them, and all paths through it.
+-- Parentheses follow a move. They are a variation, which begins before that move, or a reply, which begins after it: their
+-- first move decides. If the next move outside can be played after the move before the reply, the reply was by-play.
+-- Else the play goes on after the reply.
 use Rattle.std.specs.Prelude.{◌≡◌, ◌⊎◌, ℕ, ◌==◌, ◌<◌, if◌then◌else◌, Option, Some, None, List, []}
 use Rattle.std.specs.Prelude.{◌∷◌, ◌++◌, ◌+◌, length, Err}
 use Rattle.std.proofs.Common.{suc}
@@ -25,8 +25,8 @@ pub data Kind : Type 0 where
   variation : Kind
   reply : Kind
 
--- A line at some place of the text. In parentheses it begins after a move, and has no move so far. Or it has moves of its
--- own after others. Its last move may be followed by a reply in parentheses of one move token, which has these moves.
+-- A line at some place of the text. In parentheses it begins after a move, and has no move so far. Or it has moves of
+-- its own after others. Its last move may be followed by a reply in parentheses of one move token, with these moves.
 pub data Line : Type 0 where
   begins : (front : List Move) (last : Move) → Line
   goes_on : Kind → (before moves : List Move) → (answer : Option (List Move)) → Line
@@ -63,7 +63,8 @@ pub data Follows (g : Geometry) (p : Placement)
       → StandsFor g p (before ++ (moves ++ answer)) t more
       → Follows g p (goes_on kind before moves (Some answer)) t kind before (moves ++ answer) more
   -- nothing fits after the reply, which was by-play, and the only one is left out
-  left_out_again : {kind : Kind} {before moves answer : List Move} {t : Token} {only m : Move} {what : MovetextFaultKind}
+  left_out_again : {kind : Kind} {before moves answer : List Move} {t : Token} {only m : Move}
+      {what : MovetextFaultKind}
       → IsRefusedAfter g p (before ++ (moves ++ answer)) t what → length (before ++ moves) < MAX_PATH
       → IsDefence (before ++ moves) → IsLeftOut g (after g p (before ++ moves)) t only m
       → Follows g p (goes_on kind before moves (Some answer)) t kind before moves (only ∷ m ∷ [])
@@ -103,7 +104,8 @@ answer_of (begins front last) many old = old
 
 -- Tokens lead from one line to another: the number of parentheses that may be open in it, and all paths through it, in
 -- turn. They are none, or such tokens followed by a token without effect, or by a move, or by a parenthesis.
-pub data IsLine (g : Geometry) (p : Placement) : ℕ → Line → List Token → Line → (paths : List (List Move)) → Type 0 where
+pub data IsLine (g : Geometry) (p : Placement)
+    : ℕ → Line → List Token → Line → (paths : List (List Move)) → Type 0 where
   empty : {room : ℕ} {start : Line} → IsLine g p room start [] start []
   passed : {room : ℕ} {start line : Line} {ts : List Token} {paths : List (List Move)} (t : Token)
       → IsLine g p room start ts line paths → IsPassed t.what → IsLine g p room start (ts ++ t ∷ []) line paths

@@ -411,8 +411,8 @@ fn step_behind<B: Board>(
     }
 }
 
-/// Returns how a token that names no move after the line goes on: from the end of the reply in parentheses, or else from
-/// the last move of the line, after a reply that is left out.
+/// Returns how a token that names no move after the line goes on: from the end of the reply in parentheses, or else
+/// from the last move of the line, after a reply that is left out.
 fn step_past<B: Board>(
     alloc: Global,
     line: &OpenLine<B>,

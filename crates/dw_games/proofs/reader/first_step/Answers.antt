@@ -10,8 +10,8 @@ use Rattle.dw_games.proofs.reader.first_step.Goals as goal
 
 pub returns-in-Ok : goal.returns-in-Ok
 returns-in-Ok g c = λ p tree front last before behind.
-    found_variation g.row.B.Denot g.B.Board.geometry p tree (token_value c.args.token) c.args.before.now c.in-Ok.mv front
-    last before
+    found_variation g.row.B.Denot g.B.Board.geometry p tree (token_value c.args.token) c.args.before.now c.in-Ok.mv
+    front last before
     (step_named g.B.Board.geometry p front (token_value c.args.token) c.args.before.now (at_cursor before)
     c.requires.written c.requires.no_result c.in-Ok.mv c.in-Ok.ensures c.requires.short)
     (named_move g.B.Board.geometry p front (token_value c.args.token) c.args.before.now (at_cursor before)
@@ -42,5 +42,6 @@ returns-in-Err-Ambiguous g c = λ p tree front last before behind.
 
 pub returns-in-Err-Syntax : goal.returns-in-Err-Syntax
 returns-in-Err-Syntax g c = λ p tree front last before behind.
-    rw c.fault-in-Err-Syntax.ensures (fault_formless g.row.B.Denot g.B.Board.geometry p tree (token_value c.args.token) _
-    c.args.before.now.position c.requires.written c.requires.no_result (rw c.in-Err-Syntax.field-0-is at c.in-Err-Syntax.ensures))
+    rw c.fault-in-Err-Syntax.ensures (fault_formless g.row.B.Denot g.B.Board.geometry p tree (token_value c.args.token)
+    _ c.args.before.now.position c.requires.written c.requires.no_result
+    (rw c.in-Err-Syntax.field-0-is at c.in-Err-Syntax.ensures))

@@ -1,6 +1,7 @@
 use Rattle.std.proofs.lemmas.Result.{err_from_is_err_and}
 use Rattle.dw_games.specs.inner.Ahead.{token_value}
-use Rattle.dw_games.proofs.TakenLemmas.{begun_low, behind_low, found_first, now_low, answer_low, found_behind, alone_low}
+use Rattle.dw_games.proofs.TakenLemmas.{begun_low, behind_low, found_first, now_low, answer_low, found_behind}
+use Rattle.dw_games.proofs.TakenLemmas.{alone_low}
 use Rattle.dw_games.proofs.TakenLemmas.{alone_found, alone_fault}
 use Rattle.dw_games.proofs.reader.Reader.step_of.Goals as goal
 
