@@ -175,7 +175,7 @@ def marked(source, text):
 
 
 def written(source, problems, tree, cells, turn, ply, is_behind=True):
-    """The tokens of a tree, from its first move on, whether they stand behind a move or behind a reply in parentheses."""
+    """The tokens of a tree, from its first move on. Those that follow a move may begin with parentheses."""
     if not tree:
         return
     first, *others = tree
@@ -196,16 +196,17 @@ def written(source, problems, tree, cells, turn, ply, is_behind=True):
     are_replies = may_open and source.randrange(3) == 0
     if are_replies:
         yield from map(beside, others)
-    is_enclosed = may_open and (are_replies or not others) and source.randrange(3) == 0
-    if is_enclosed:
+    is_named = False
+    if may_open and (are_replies or not others) and source.randrange(3) == 0:
         yield enclosed([named(first)])
     # A forced reply may be left out, if a move follows and no other move stands beside either.
     elif ply % 2 == 0 or others or not tree[first] or source.randrange(2) or len(problems.moves(cells, turn)) > 1:
+        is_named = True
         yield named(first)
     if not are_replies:
         yield from map(beside, others)
     after = play(problems.board, cells, first)
-    yield from written(source, problems, tree[first], after, other(turn), ply + 1, not is_enclosed)
+    yield from written(source, problems, tree[first], after, other(turn), ply + 1, is_named)
 
 
 def movetext(source, problems, tree, cells, turn):
@@ -288,8 +289,8 @@ def left_out(problems, cells, turn, text, place):
 
 
 class Line:
-    """An open line: its places; in parentheses, until the first move, the place after the move that they follow; how many
-    of its tokens are moves; whether it is a reply; and the places of the reply that counts after its last move."""
+    """An open line: its places; in parentheses, until the first move, the place after the move that they follow; how
+    many of its tokens are moves; whether it is a reply; and the places of the reply that counts after its last move."""
 
     def __init__(self, start, behind=None):
         self.places, self.behind = [start], behind
