@@ -74,16 +74,5 @@ plain_full text i inside other items is full =
       length-append (plain (take (suc i) text)) (plain (drop (suc i) text)),
     )
 
-pub results_short : (text : List ℕ) → Member text results → length text ≤ 7
-results_short text (inl e) = omega (arith, ap length e)
-results_short text (inr (inl e)) = omega (arith, ap length e)
-results_short text (inr (inr (inl e))) = omega (arith, ap length e)
-results_short text (inr (inr (inr (inl e)))) = omega (arith, ap length e)
-results_short text (inr (inr (inr (inr (inl e))))) = omega (arith, ap length e)
-results_short text (inr (inr (inr (inr (inr (inl e)))))) = omega (arith, ap length e)
-results_short text (inr (inr (inr (inr (inr (inr (inl e))))))) = omega (arith, ap length e)
-results_short text (inr (inr (inr (inr (inr (inr (inr (inl e)))))))) = omega (arith, ap length e)
-results_short text (inr (inr (inr (inr (inr (inr (inr (inr gone)))))))) = absurd gone
-
 pub names_nothing : (g : Geometry) (text : List ℕ) (named : Named) → 62 < length text → Names g text named → ⊥
 names_nothing g text named long h = let n = names_short g text named h in omega (arith, n, long)

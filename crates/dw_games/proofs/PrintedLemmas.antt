@@ -54,15 +54,6 @@ module _ (g : Geometry) (p : Placement) where
   follows_form (after_reply none is) = stands_form is
   follows_form {t = t} (left_out_again {m = m} none low odd is) = move_form _ t m is.next
 
-  pub follows_some : {line : Line} {t : Token} {kind : Kind} {before moves more : List Move}
-      → Follows g p line t kind before moves more → 0 < length more
-  follows_some (opens_variation is) = omega arith
-  follows_some (opens_reply none is) = stands_some is
-  follows_some (alone is) = stands_some is
-  follows_some (by_play low is) = omega arith
-  follows_some (after_reply none is) = stands_some is
-  follows_some (left_out_again none low odd is) = omega arith
-
 -- ---- no path is too long
 below : (n : ℕ) → n < MAX_PATH → n ≤ 38
 below n low = omega (arith, low)

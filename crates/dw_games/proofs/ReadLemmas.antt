@@ -29,18 +29,6 @@ module _ {B S : Type 0} (g : Geometry) (supply : S → Supply) (is_failed : S �
   abbrev On : Input S → Input S → BoundedBuf → BoundedBuf → BoundedBuf → BoundedBuf → SectionReader B → Type 0
   On = ReadsOn g supply is_failed pulls
 
-  pub ReadsOn-start : (old : Input S) (begun before : BoundedBuf) (reader : SectionReader B)
-      → ((over : Bool) (bytes : List ℕ) → SectionsSay g over bytes (ahead_of reader g over bytes))
-      → ahead_of reader g false [] ≡ [] → On old old begun begun before before reader
-  ReadsOn-start old begun before reader said unsaid = record {
-    passed = [];
-    passes = Passes-refl supply is_failed pulls old;
-    rows = λ limit is. is;
-    keeps = λ limit is. is;
-    said = said;
-    unsaid = unsaid;
-  }
-
   -- the next bytes are known
   pub ReadsOn-fill : (old mid now : Input S) (begun row before kept : BoundedBuf) (reader : SectionReader B)
       → On old mid begun row before kept reader → Passes supply is_failed pulls mid now [] false

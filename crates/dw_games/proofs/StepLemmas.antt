@@ -540,9 +540,6 @@ same_ok a b e = cc
 pub ok_err : {A : Type 0} (a : State) (what : MovetextFaultKind) → ◌≡◌ {A = Next} (Ok a) (Err what) → A
 ok_err a what e = cc
 
-pub same_reason : (why other : MoveFault) → ◌≡◌ {A = Result Move MoveFault} (Err why) (Err other) → why ≡ other
-same_reason why other e = cc
-
 pub same_err : (what other : MovetextFaultKind) → ◌≡◌ {A = Next} (Err what) (Err other) → what ≡ other
 same_err what other e = cc
 

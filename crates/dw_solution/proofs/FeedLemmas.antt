@@ -39,19 +39,6 @@ module _ (shown : Style) where
       ap (λ z. front ++ (w ++ z)) (spaced_closed v words)
       ∙ (ap (λ z. front ++ z) (sym (append_assoc w rest end)) ∙ sym (append_assoc front (w ++ rest) end))
 
-  -- nothing was written where no move is
-  pub none_added : (g : Geometry) (p : Placement) (half : ℕ) (due : Bool) (tree : Tree) (text : List ℕ) → tree ≡ over
-      → IsAdded shown (AreWords shown g p half due tree) text text
-  none_added g p half due tree text e =
-      subst (λ z. IsAdded shown (AreWords shown g p half due z) text text) (sym e)
-      (record { words = []; are = refl; added = sym (append-nil text) })
-
-  pub no_variations : (g : Geometry) (p : Placement) (half : ℕ) (tree : Tree) (text : List ℕ) → tree ≡ over
-      → IsAdded shown (AreVariations shown g p half tree) text text
-  no_variations g p half tree text e =
-      subst (λ z. IsAdded shown (AreVariations shown g p half z) text text) (sym e)
-      (record { words = []; are = refl; added = sym (append-nil text) })
-
   -- a move, the others in its place, and what goes on behind it
   pub play_added : (g : Geometry) (p : Placement) (half : ℕ) (due some : Bool) (m : Move) (tree behind others : Tree)
       (a b c d e : List ℕ) → tree ≡ branch m behind others → some ≡ has_move others

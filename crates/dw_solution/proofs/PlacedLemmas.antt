@@ -28,12 +28,6 @@ placed_next g p depth m tree behind others a b c whole is pushed more so_far =
     ∙ (append_assoc (a ++ one ∷ []) inner outer ∙ (append_assoc a (one ∷ []) (inner ++ outer)
     ∙ (sym (ap (λ t. a ++ placed_moves g p depth t) is) ∙ so_far)))
 
--- no move comes
-pub placed_none : (g : Geometry) (p : Placement) (depth : ℕ) (tree : Tree) (a whole : List Placed) → tree ≡ over
-    → a ++ placed_moves g p depth tree ≡ whole → a ≡ whole
-placed_none g p depth tree a whole is so_far =
-    sym (append-nil a) ∙ (sym (ap (λ t. a ++ placed_moves g p depth t) is) ∙ so_far)
-
 -- what stands in one of two lists
 in_either : {X : Type 0} (x : X) (xs ys : List X) (P : Type 0) → Member x (xs ++ ys) → (Member x xs → P)
     → (Member x ys → P) → P

@@ -108,10 +108,6 @@ module _ (B : Type 0) where
       ∙ (ap (λ z. branch m z (tree_at (chain {B = B} (k + 1) moves) k)) (chain_here (k + 1) moves)
       ∙ ap (branch m (straight moves)) (chain_deeper (k + 1) k moves (omega arith)))
 
-  deep_shut : (k : ℕ) (steps : List (TreeStep B)) → AreDeep (k + 1) steps → tree_at steps k ≡ over
-  deep_shut k [] h = refl
-  deep_shut k (s ∷ steps) h = at_deeper s steps k (omega (arith, h.0)) ∙ deep_shut k steps h.1
-
   over_deep : (k : ℕ) (steps : List (TreeStep B)) → AreDeep k steps → tree_at steps k ≡ over → AreDeep (k + 1) steps
   over_deep k [] h e = tt
   over_deep k (s ∷ steps) h e = elim (cases_order s.depth k) [
@@ -223,10 +219,3 @@ module _ (B : Type 0) where
       ∙ (sym (chain_more d (take place moves) m) ∙ ap (chain d) (sym next)))))
 
   -- ---- the first step that is not deeper
-  pub passed_deeper : (steps : List (TreeStep B)) (place depth : ℕ) (s : TreeStep B) → place < length steps
-      → s ≡ get_or steps place s → depth < s.depth → tree_at (drop place steps) depth ≡ tree_at steps depth
-      → tree_at (drop (place + 1) steps) depth ≡ tree_at steps depth
-  passed_deeper steps place depth s low is high same =
-      let here : drop place steps ≡ s ∷ drop (place + 1) steps =
-      drop_more steps place s low ∙ ap (λ z. z ∷ drop (place + 1) steps) (sym is) in
-      sym (at_deeper s (drop (place + 1) steps) depth high) ∙ (sym (ap (λ z. tree_at z depth) here) ∙ same)

@@ -212,15 +212,3 @@ stopped exist g p n most true lines taken h many all = (
 stopped exist g p n most false lines taken h many all =
     let whole = first_all exist g p n most lines taken all h (omega (arith, many)) in
     (whole.0, ((λ t. absurd (true≢false (sym t))), (λ low. absurd (whole.1 low))))
-
-pub counted_then : (before limit mid mid_limit after last : ℕ) → IsCounted before limit mid mid_limit
-    → IsCounted mid mid_limit after last → IsCounted before limit after last
-counted_then before limit mid mid_limit after last h k = record {
-  rises = omega (arith, h.rises, k.rises);
-  within = omega (arith, k.within, h.same);
-  same = k.same ∙ h.same;
-}
-
-pub if_ok_map : {A E : Type 0} → (r : Result A E) (P Q : A → Type 0) → ((x : A) → P x → Q x) → IfOk r P → IfOk r Q
-if_ok_map (Ok x) P Q f h = f x h
-if_ok_map (Err e) P Q f h = tt
