@@ -1,6 +1,6 @@
 -- The play of a movetext, as a grammar on its tokens: its lines, the parentheses in them, and all paths through it.
--- Parentheses follow a move. They are a variation, which begins before that move, or a reply, which begins after it: their
--- first move decides. If the next move outside can be played after the move before the reply, the reply was by-play.
+-- Parentheses follow a move, and their first move says what they are. A variation begins before the move that they
+-- follow, and a reply begins after it. If the next move outside can be played before the reply, the reply was by-play.
 -- Else the play goes on after the reply.
 use Rattle.std.specs.Prelude.{◌≡◌, ◌⊎◌, ℕ, ◌==◌, ◌<◌, if◌then◌else◌, Option, Some, None, List, []}
 use Rattle.std.specs.Prelude.{◌∷◌, ◌++◌, ◌+◌, length, Err}
@@ -14,8 +14,7 @@ use Rattle.dw_games.specs.Tokens.{Token}
 use Rattle.dw_games.specs.Play.{IsResult, IsMove, IsDefence, IsLeftOut, IsPassed, IsRefused, IsRefusedAfter, StandsFor}
 use Rattle.dw_games.specs.Play.{after, beginnings_after, plain}
 use Rattle.dw_games.specs.declared.tokens.TokenKind.{TokenKind}
-use Rattle.dw_games.specs.declared.tokens.TokenKind.TheVariants.{Comment, Passed, Written, Opens, Closes, CutOff}
-use Rattle.dw_games.specs.declared.tokens.TokenKind.TheVariants.{Unknown}
+use Rattle.dw_games.specs.declared.tokens.TokenKind.TheVariants.{Comment, Written, Opens, Closes}
 use Rattle.dw_games.specs.declared.fault.MovetextFaultKind.{MovetextFaultKind}
 use Rattle.dw_games.specs.declared.fault.MovetextFaultKind.TheVariants.{Ambiguous}
 use Rattle.dw_games.specs.declared.movetext.TheConstants.{MAX_OPEN, MAX_PATH}
@@ -82,15 +81,10 @@ pub data CannotFollow (g : Geometry) (p : Placement) : Line → Token → Movete
       → IsRefusedAfter g p (before ++ moves) t other → IsRefusedAfter g p (before ++ (moves ++ answer)) t what
       → CannotFollow g p (goes_on kind before moves (Some answer)) t what
 
--- how many of some tokens are moves, none of them being a result
+-- how many of some tokens are moves, if none of them is a result
 abbrev pub one_if_move : TokenKind → ℕ
 one_if_move Written = 1
-one_if_move Comment = 0
-one_if_move Passed = 0
-one_if_move Opens = 0
-one_if_move Closes = 0
-one_if_move CutOff = 0
-one_if_move Unknown = 0
+one_if_move what = 0
 
 abbrev pub count_moves : List Token → ℕ
 count_moves [] = 0
