@@ -153,7 +153,11 @@ fn checked<B: Board, G: Guide<B>>(
 }
 
 /// Makes the line of a fault of a solution.
-fn solution_fault_line(alloc: Global, what: MovetextFaultKind, place: u32) -> Result<String, AllocError>
+fn solution_fault_line(
+    alloc: Global,
+    what: MovetextFaultKind,
+    place: u32,
+) -> Result<String, AllocError>
     ensures { IfOk result (λ line. string_bytes line ≡ of.solution_fault_line what place) }
 {
     let mut digits = Buffer::new();

@@ -5,8 +5,7 @@ use Rattle.std.proofs.Math.Seq.{take-suc}
 use Rattle.std.proofs.lemmas.Bool.{cases_Bool, eqb-true}
 use Rattle.std.proofs.lemmas.List.{take-append-drop}
 use Rattle.std.specs.Prelude.{◌==◌}
-use Rattle.dw_board.specs.Lists.{Member}
-use Rattle.dw_games.specs.Play.{is_leading, plain, plain_byte, results}
+use Rattle.dw_games.specs.Play.{is_leading, plain, plain_byte}
 use Rattle.dw_board.specs.Geometry.{Geometry}
 use Rattle.dw_notation.specs.MoveReading.{IsNumber, AreCrossed, single, more, Named, Names, by_dash, by_crosses}
 use Rattle.dw_games.proofs.PlaceLemmas.{absent}

@@ -15,7 +15,7 @@ use Rattle.dw_games.specs.inner.Keeping.{IsKept, spaces_on, row_of}
 use Rattle.dw_games.specs.inner.Sectioning.{ReadsOn, ReadsSection, EndsWell}
 use Rattle.dw_games.specs.declared.games.GameFault.{GameFault}
 use Rattle.dw_games.specs.declared.bounded_buf.BoundedBuf.{BoundedBuf}
-use Rattle.dw_games.proofs.InputLemmas.{Passes-refl, Passes-trans}
+use Rattle.dw_games.proofs.InputLemmas.{Passes-trans}
 use Rattle.dw_games.proofs.SectionLemmas.{first, cut_at, last_at, cut_games, last_games, empty_games, spaces_on-append}
 use Rattle.dw_games.proofs.SectionLemmas.{cut_ends_well, last_ends_well}
 

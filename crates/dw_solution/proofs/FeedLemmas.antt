@@ -7,7 +7,7 @@ use Rattle.dw_board.specs.Placement.{Placement}
 use Rattle.dw_moves.specs.Moves.{Move, play}
 use Rattle.dw_solution.specs.FirstLines.{LinesFrom, is_cut}
 use Rattle.dw_solution.specs.Movetext.{AreWordsOfFirst, first_half, last_words, result_of}
-use Rattle.dw_solution.specs.Tree.{Tree, IsTreeOf, over, branch}
+use Rattle.dw_solution.specs.Tree.{Tree, IsTreeOf, branch}
 use Rattle.dw_solution.specs.declared.style.Mark.TheVariants.{Gap, Opening, Closing}
 use Rattle.dw_solution.specs.Words.{AreWords, AreVariations, Style, closed, has_move, in_parentheses, mark, move_text}
 use Rattle.dw_solution.specs.Words.{move_words, number_word, number_words, spaced}

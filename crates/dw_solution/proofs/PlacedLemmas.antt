@@ -1,6 +1,6 @@
 -- The moves of a tree in their places.
 use Rattle.std.proofs.Common.{◌≡◌, ◌∙◌, ℕ, ◌+◌, List, [], ◌∷◌, ◌++◌, length, map, take, sym, ap, subst, inl, inr}
-use Rattle.std.proofs.Common.{append_assoc, append-nil, arith, ◌≤◌, ◌<◌}
+use Rattle.std.proofs.Common.{append_assoc, arith, ◌≤◌, ◌<◌}
 use Rattle.std.proofs.lemmas.Bool.{cases_lt}
 use Rattle.std.proofs.lemmas.List.{take_all}
 use Rattle.dw_board.specs.Geometry.{Geometry}

@@ -1,7 +1,7 @@
 -- The tree of steps in a row, as one line's steps are put behind them.
 use Rattle.std.proofs.Common.{◌≡◌, ℕ, ◌+◌, ◌<◌, ◌≤◌, List, [], ◌∷◌, ◌++◌, length, refl, sym, ap, subst, ◌∙◌, inl, inr}
-use Rattle.std.proofs.Common.{arith, eqb, ltb, take, drop, get_or, append_assoc}
-use Rattle.std.proofs.lemmas.List.{length-take-le, take_more, drop_more}
+use Rattle.std.proofs.Common.{arith, eqb, ltb, take, get_or, append_assoc}
+use Rattle.std.proofs.lemmas.List.{length-take-le, take_more}
 use Rattle.std.proofs.lemmas.Bool.{eq-eqb, ne_eqb, lt-ltb, le-ltb, cond-true, cond-false, cases_order}
 use Rattle.dw_moves.specs.Moves.{Move}
 use Rattle.dw_solution.specs.Tree.{Tree, over, branch, lines_of, or_ended}
@@ -217,5 +217,4 @@ module _ (B : Type 0) where
       ∙ (append_assoc old (chain d (take place moves)) ((record { depth = d + place; mv = m }) ∷ [])
       ∙ ap (λ z. old ++ z) (ap (λ z. chain d (take place moves) ++ (record { depth = d + z; mv = m }) ∷ []) (sym many)
       ∙ (sym (chain_more d (take place moves) m) ∙ ap (chain d) (sym next)))))
-
   -- ---- the first step that is not deeper

@@ -4,7 +4,7 @@ use Rattle.std.proofs.Common.{ap, subst, ◌∙◌, inl, inr, append_assoc, appe
 use Rattle.std.proofs.Common.{arith, Bool, true, false}
 use Rattle.std.proofs.lemmas.List.{take_at, take_all}
 use Rattle.std.proofs.lemmas.Bool.{true≢false, cases_lt, le-ltb, lt-ltb}
-use Rattle.std.specs.Prelude.{◌↔◌, IsTrue, Result, Ok, Err, IfOk, nat_lt}
+use Rattle.std.specs.Prelude.{◌↔◌, IsTrue, nat_lt}
 use Rattle.dw_board.specs.Geometry.{Geometry}
 use Rattle.dw_board.specs.Placement.{Placement}
 use Rattle.dw_board.specs.Lists.{Member}
@@ -13,7 +13,6 @@ use Rattle.dw_moves.specs.Moves.{Move, play}
 use Rattle.dw_moves.specs.Order.{IsAscending, Precedes}
 use Rattle.dw_moves.specs.inner.MemberLemmas.{mem_right}
 use Rattle.dw_notation.specs.Text.{ArePlayable}
-use Rattle.dw_solve.specs.Searching.{IsCounted}
 use Rattle.dw_list.specs.Laws.{NoneBegins, LinesExist}
 use Rattle.dw_solve.specs.Lines.{Line, Lines, Before}
 use Rattle.dw_list.specs.LineStack.{LineStack, AreToCome}

@@ -3,7 +3,7 @@ use Rattle.std.proofs.Common.{◌≡◌, ◌⊎◌, ℕ, zero, suc, ◌+◌, ◌
 use Rattle.std.proofs.Common.{sym, ap, ◌∙◌, subst, inl, inr, arith, append_assoc, append-nil, Option, Some, None}
 use Rattle.std.proofs.Common.{slice_get, option_map, reverse, refl}
 use Rattle.std.specs.String.{string_bytes}
-use Rattle.std.proofs.lemmas.List.{take_all, take_more, reverse-append, length-append, length-reverse}
+use Rattle.std.proofs.lemmas.List.{take_more, reverse-append, length-append, length-reverse}
 use Rattle.std.proofs.Math.Seq.{take-append_seam}
 use Rattle.dw_board.specs.Geometry.{Geometry}
 use Rattle.dw_board.specs.Placement.{Placement}
@@ -16,7 +16,7 @@ use Rattle.dw_notation.specs.Text.{ArePlayable, IsLineText}
 use Rattle.dw_verdict.specs.Verdict.{reach}
 use Rattle.dw_study.specs.declared.beginning.Beginning.{Beginning}
 use Rattle.dw_study.specs.inner.Beginnings.{IsBegun}
-use Rattle.dw_study.proofs.ChildLemmas.{same, absent, after_more}
+use Rattle.dw_study.proofs.ChildLemmas.{same, after_more}
 
 -- the beginning before a node is that before another, and the moves that were gathered since, the last one first
 pub record Gathered (g : Geometry) (tree : PlayedTree) (node at : Option ℕ) (moves : List Move) : Type 0 where

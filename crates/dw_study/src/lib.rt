@@ -7,21 +7,21 @@
 mod beginning;
 mod branch;
 pub mod check;
+mod fields;
 pub mod find;
 pub mod finding;
 pub mod laws;
 mod least;
 mod limits;
 pub mod remark;
-mod remark_fields;
 mod remark_texts;
 mod remarks;
 mod text;
 pub mod turns;
 
+pub use fields::{RemarkFields, remark_fields};
 pub use finding::{FindBounds, Finding};
 pub use remark::{Checked, Remark};
-pub use remark_fields::{RemarkFields, remark_fields};
 pub use remark_texts::remark_text;
 pub use text::found_text;
 pub use turns::turns_of;

@@ -1,6 +1,6 @@
 use Rattle.std.proofs.Common.{◌≡◌, ◌∙◌, true, false, sym}
 use Rattle.dw_study.proofs.BeginningLemmas.{legal_more, legal_no}
-use Rattle.dw_study.proofs.remark_fields.are_legal.Goals as goal
+use Rattle.dw_study.proofs.fields.are_legal.Goals as goal
 
 pub moves-preserved : goal.moves-preserved
 moves-preserved g c = legal_more g.B.Board.geometry c.args.position.now c.args.moves.now c.moves.mv-index

@@ -1,6 +1,6 @@
 use Rattle.std.proofs.Common.{◌≡◌, true, false, sym, subst, ◌∙◌}
 use Rattle.dw_moves.specs.Moves.{Legal}
-use Rattle.dw_study.proofs.remark_fields.moves_fields.Goals as goal
+use Rattle.dw_study.proofs.fields.moves_fields.Goals as goal
 
 pub returns-then-not-are_legal-clause-some : goal.returns-then-not-are_legal-clause-some
 returns-then-not-are_legal-clause-some g c = λ p b begun told.

@@ -6,7 +6,7 @@ use Rattle.dw_study.specs.RemarkFields.{AreRemarkFields}
 use Rattle.dw_study.specs.Telling.{remark_in, texts_in}
 use Rattle.dw_study.specs.inner.Beginnings.{IsBegun}
 use Rattle.dw_study.proofs.RemarkTextLemmas.{told}
-use Rattle.dw_study.proofs.remark_fields.remark_fields.Goals as goal
+use Rattle.dw_study.proofs.fields.remark_fields.Goals as goal
 
 pub returns-in-Some-clause-words : goal.returns-in-Some-clause-words
 returns-in-Some-clause-words g c = λ r is.

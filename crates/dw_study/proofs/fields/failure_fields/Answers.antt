@@ -4,7 +4,7 @@ use Rattle.dw_report.specs.JudgedText.{next_number}
 use Rattle.dw_study.specs.Telling.{texts_in}
 use Rattle.dw_moves.specs.Moves.{Legal, play}
 use Rattle.dw_study.proofs.WordLemmas.{fails_said}
-use Rattle.dw_study.proofs.remark_fields.failure_fields.Goals as goal
+use Rattle.dw_study.proofs.fields.failure_fields.Goals as goal
 
 pub returns-then-not-is_legal-2-clause-some : goal.returns-then-not-is_legal-2-clause-some
 returns-then-not-is_legal-2-clause-some g c = λ p b begun told.
