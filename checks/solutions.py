@@ -6,11 +6,11 @@ second reader.
 
 For random small positions (150 on each board by default) it makes a tree of all lines of a win and spoils it: it cuts a
 path, changes a move, removes a variation or a reply. It writes the tree as a movetext with comments, marks and numbers
-of all kinds. `dw-desk check` must give the remarks of the recursion in judging.py, byte for byte, for the right number
-of moves, for one less, for the least up to these, and for that of the tree, as text, as JSON, and with --faults. Then
-bytes of the movetexts are dropped, doubled and changed: a reader made from the list of parts in docs/DESK.md must find
-the same error at the same place, or the same tree. With --count 4500 there are up to 108,000 such movetexts, which
-takes a quarter of an hour.
+of all kinds, and with variations and replies in parentheses. `dw-desk check` must give the remarks of the recursion in
+judging.py, byte for byte, for the right number of moves, for one less, for the least up to these, and for that of the
+tree, as text, as JSON, and with --faults. Then bytes of the movetexts are dropped, doubled and changed: a reader made
+from the list of parts in docs/DESK.md must find the same error at the same place, or the same tree. With --count 4500
+there are up to 108,000 such movetexts, which takes a quarter of an hour.
 """
 import itertools
 import json
@@ -177,8 +177,8 @@ def marked(source, text):
                                  " x", " :", "\xb1 X+", " \xd7"])
 
 
-def written(source, problems, tree, cells, turn, ply):
-    """The tokens of a tree, from its first move on."""
+def written(source, problems, tree, cells, turn, ply, is_behind=True):
+    """The tokens of a tree, from its first move on. Those that follow a move may begin with parentheses."""
     if not tree:
         return
     first, *others = tree
@@ -187,13 +187,29 @@ def written(source, problems, tree, cells, turn, ply):
     def named(move):
         return source.choice(numbers) + source.choice(["", " "]) + marked(source, problems.text(cells, turn, move))
 
+    def enclosed(words):
+        return "(" + source.choice(["", " "]) + " ".join(words) + source.choice([")", " )", "\n% )\n)"])
+
+    def beside(move):
+        rest = written(source, problems, tree[move], play(problems.board, cells, move), other(turn), ply + 1)
+        return enclosed([named(move), *rest])
+
+    # Other moves are replies in parentheses, which come first, or variations. The first one may be a reply too.
+    may_open = is_behind and ply > 0
+    are_replies = may_open and source.randrange(3) == 0
+    if are_replies:
+        yield from map(beside, others)
+    is_named = False
+    if may_open and (are_replies or not others) and source.randrange(3) == 0:
+        yield enclosed([named(first)])
     # A forced reply may be left out, if a move follows and no other move stands beside either.
-    if ply % 2 == 0 or others or not tree[first] or source.randrange(2) or len(problems.moves(cells, turn)) > 1:
+    elif ply % 2 == 0 or others or not tree[first] or source.randrange(2) or len(problems.moves(cells, turn)) > 1:
+        is_named = True
         yield named(first)
-    for move in others:
-        rest = list(written(source, problems, tree[move], play(problems.board, cells, move), other(turn), ply + 1))
-        yield "(" + source.choice(["", " "]) + " ".join([named(move), *rest]) + source.choice([")", " )", "\n% )\n)"])
-    yield from written(source, problems, tree[first], play(problems.board, cells, first), other(turn), ply + 1)
+    if not are_replies:
+        yield from map(beside, others)
+    after = play(problems.board, cells, first)
+    yield from written(source, problems, tree[first], after, other(turn), ply + 1, is_named)
 
 
 def movetext(source, problems, tree, cells, turn):
@@ -275,43 +291,87 @@ def left_out(problems, cells, turn, text, place):
     return [replies[0], named[0][0]]
 
 
+class Line:
+    """An open line: its places; in parentheses, until the first move, the place after the move that they follow; how
+    many of its tokens are moves; whether it is a reply; and the places of the reply that counts after its last move."""
+
+    def __init__(self, start, behind=None):
+        self.places, self.behind = [start], behind
+        self.count, self.is_reply, self.answer = 0, False, []
+
+    def after(self, inner):
+        """Takes up the parentheses that end."""
+        self.count += inner.count
+        if inner.is_reply:
+            self.answer = inner.places[1:] if inner.count == 1 else []
+
+
+def stands_for(problems, place, text, at):
+    """The moves that a token stands for at a place."""
+    _, cells, side, ply = place
+    moves = named_moves(problems, cells, side, text)
+    if moves is None:
+        raise Refused(1, at)
+    if ply == 39:
+        raise Refused(8, at)
+    replies = [] if moves or ply % 2 == 0 else left_out(problems, cells, side, text, at)
+    if not replies and len(moves) != 1:
+        raise Refused(3 if moves else 2, at)
+    return replies or moves
+
+
+def follow(problems, line, text, at):
+    """Goes to the place from which a token goes on with a line, and returns the moves that it stands for there."""
+    now = line.places[-1]
+    named = named_moves(problems, now[1], now[2], text) or []
+    if line.behind and not named:
+        moves = stands_for(problems, line.behind, text, at)
+        line.places, line.is_reply = [line.behind], True
+        return moves
+    if line.answer and len(named) != 1:
+        try:
+            moves = stands_for(problems, line.answer[-1], text, at)
+        except Refused as fault:
+            try:
+                return stands_for(problems, now, text, at)
+            except Refused:
+                raise fault from None
+        line.places += line.answer
+        return moves
+    return stands_for(problems, now, text, at)
+
+
 def read(problems, text, cells, turn):
     """The tree of a movetext; Refused tells its first fault."""
     tree, over = {}, False
-    line, outer = [(tree, cells, turn, 0)], []  # the places of the innermost variation, and those around it
+    line, outer = Line((tree, cells, turn, 0)), []  # the innermost line, and those around it
     for kind, whole, place in tokens(text):
         if over and kind not in ("comment", "cut off"):
             raise Refused(6, place)
         if kind in ("cut off", "unknown"):
             raise Refused(1, place)
         if kind == "opens":
-            if len(line) == 1:
+            if len(line.places) == 1:
                 raise Refused(4, place)
             if len(outer) == 40:
                 raise Refused(7, place)
             outer.append(line)
-            line = [line[-2]]
+            line = Line(*line.places[-2:])
         elif kind == "closes":
             if not outer:
                 raise Refused(4, place)
+            outer[-1].after(line)
             line = outer.pop()
         elif kind == "written" and plain(whole).decode() in RESULTS:
             if outer:
                 raise Refused(5, place)
             over = True
         elif kind == "written":
-            here, there, side, ply = line[-1]
-            moves = named_moves(problems, there, side, plain(whole))
-            if moves is None:
-                raise Refused(1, place)
-            if ply == 39:
-                raise Refused(8, place)
-            replies = [] if moves or ply % 2 == 0 else left_out(problems, there, side, plain(whole), place)
-            if not replies and len(moves) != 1:
-                raise Refused(3 if moves else 2, place)
-            for move in replies or moves:
-                here, there, side, ply = line[-1]
-                line.append((here.setdefault(move, {}), play(problems.board, there, move), other(side), ply + 1))
+            moves = follow(problems, line, plain(whole), place)
+            line.behind, line.answer, line.count = None, [], line.count + 1
+            for move in moves:
+                here, there, side, ply = line.places[-1]
+                line.places.append((here.setdefault(move, {}), play(problems.board, there, move), other(side), ply + 1))
     if outer:
         raise Refused(5, len(text) + 1)
     if not tree:

@@ -18,7 +18,7 @@ use Rattle.dw_games.specs.Walk.{PlayedTree}
 use Rattle.dw_arguments.specs.declared.check.CheckArgs.{CheckArgs}
 use Rattle.dw_study.specs.Remarks.{Remark, fails, also, leaves_open, ends, AreRemarks}
 use Rattle.dw_games.specs.declared.fault.MovetextFaultKind.{MovetextFaultKind}
-use Rattle.dw_desk_commands.specs.Check.{Counted, counted, is_fail, is_end, is_open, is_also, refused_line}
+use Rattle.dw_desk_commands.specs.Check.{Counted, counted, is_fail, is_end, is_open, is_also, solution_fault_line}
 use Rattle.dw_desk_commands.specs.Check.{IsChecked, IsCheckedAt, IsCheckFor}
 use Rattle.dw_desk_commands.specs.inner.Tallies.{one_more}
 
@@ -56,12 +56,6 @@ counted_next remarks (leaves_open b replies) = let r = leaves_open b replies in 
     (no is_fail remarks r refl) (no is_end remarks r refl) (yes is_open remarks r refl) (no is_also remarks r refl)
 counted_next remarks (also b keys) = let r = also b keys in same_numbers _ _ _ _ _ _ _ _
     (no is_fail remarks r refl) (no is_end remarks r refl) (no is_open remarks r refl) (yes is_also remarks r refl)
-
--- a refusal by an equal fault at an equal place
-pub refused_same : {given what : MovetextFaultKind} {there place : ℕ} (text : List ℕ) → given ≡ what → there ≡ place
-    → text ≡ refused_line given there → text ≡ refused_line what place
-refused_same {given} {what} {there} {place} text fault at line =
-    line ∙ (ap (λ z. refused_line z there) fault ∙ ap (refused_line what) at)
 
 -- what is counted of a solution is the same by its tally
 pub numbers_same : (wins b : Bool) (t c : Counted) → b ≡ holds t → t ≡ c → (numbers : CheckNumbers)

@@ -27,9 +27,3 @@ pub bounded_from : (each : Option ℕ) (all undecided begun before after : ℕ) 
 bounded_from None all undecided begun before after same none = none
 bounded_from (Some bound) all undecided begun before after same b =
     (omega (arith, b.0, same), omega (arith, b.1, same))
-
--- of a bound that is given something holds, if that follows from its being given
-pub if_given : (each : Option ℕ) (answer : Bool) (P : Type 0) → answer ≡ is_some each → (answer ≡ true → P)
-    → IfSome each (λ _. P)
-if_given None answer P is so = tt
-if_given (Some bound) answer P is so = so is

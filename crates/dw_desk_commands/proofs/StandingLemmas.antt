@@ -17,12 +17,6 @@ left_stands Leaves Whole because.Write text left = (text, record { back = []; jo
 left_stands Leaves Whole (because.Stopped stop) text left = left
 left_stands Leaves Whole because.Read text left = left
 
--- nothing was written
-pub nothing_stands : (Leaves Whole : List ℕ → Type 0) (bytes : List ℕ) (fault : DeskFault) → Leaves []
-    → Stands Leaves Whole bytes bytes fault
-nothing_stands Leaves Whole bytes fault left =
-    record { text = []; wrote = Appends-nil bytes; after = left_stands Leaves Whole fault [] left }
-
 -- a beginning of a text was written
 pub short_stands : (Leaves Whole : List ℕ → Type 0) (old new text : List ℕ) (fault : DeskFault)
     → fault ≡ because.Write → StopsShort old new text → Leaves text ⊎ Whole text → Stands Leaves Whole old new fault

@@ -126,8 +126,8 @@ IsCheckedAt g p (Some moves) is_least tree n = IsNumberFor g p is_least moves.va
 IsCheckedAt g p None is_least tree n = (turns : ℕ) × HasTurns tree turns × (n ≡ max turns 1)
 
 -- the line that names the fault of a movetext, and its place
-abbrev pub refused_line : MovetextFaultKind → (place : ℕ) → List ℕ
-refused_line what place =
+abbrev pub solution_fault_line : MovetextFaultKind → (place : ℕ) → List ℕ
+solution_fault_line what place =
     codes "solution refused: " ++ (decimal (number_of what) ++ (codes " " ++ (name_of what ++ (codes " at "
     ++ (decimal place ++ codes "\n")))))
 
@@ -135,7 +135,7 @@ refused_line what place =
 abbrev pub fault_text : Geometry → (json : Bool) → Numbered → Placement → MovetextFaultKind → (place : ℕ) → List ℕ
 fault_text g json problem p what place =
     if json then refused_solution_row g problem.number p what place
-    else first_line g problem ++ refused_line what place
+    else first_line g problem ++ solution_fault_line what place
 
 -- The output for a problem with this movetext. It counts as refused if the problem or the movetext is refused, or if
 -- the solution does not hold.

@@ -33,9 +33,9 @@ IsFound g query expanded p finding =
 
 -- the text of a finding, and the lines of later wins; the problem counts as refused if it stays undecided
 abbrev pub SaysFound : Geometry → FindArgs → (expanded : ℕ) → Placement → (refused : Bool) → List ℕ → Type 0
-SaysFound g query expanded p refused text = (finding : Finding) × (found : List ℕ) × (later : Option (List (List ℕ × ℕ)))
-    × IsFound g query expanded p finding × (refused ≡ is_open finding) × IsFoundText g p finding found
-    × HasLater g p (won_in finding) query.later later × (text ≡ found ++ lines_of later)
+SaysFound g query expanded p refused text = (finding : Finding) × (found : List ℕ)
+    × (later : Option (List (List ℕ × ℕ))) × IsFound g query expanded p finding × (refused ≡ is_open finding)
+    × IsFoundText g p finding found × HasLater g p (won_in finding) query.later later × (text ≡ found ++ lines_of later)
 
 -- the first lines of the solution for a finding: those within the number of moves at which the position is judged, or
 -- none if it stays undecided

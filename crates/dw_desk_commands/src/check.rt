@@ -103,7 +103,7 @@ fn fault_text_of<B: Board>(
     push(&mut text, problem_line(problem).as_str().as_bytes())?;
     push(
         &mut text,
-        refused_line(alloc, what, place)?.as_str().as_bytes(),
+        solution_fault_line(alloc, what, place)?.as_str().as_bytes(),
     )?;
     Ok(text)
 }
@@ -153,8 +153,12 @@ fn checked<B: Board, G: Guide<B>>(
 }
 
 /// Makes the line of a fault of a solution.
-fn refused_line(alloc: Global, what: MovetextFaultKind, place: u32) -> Result<String, AllocError>
-    ensures { IfOk result (λ line. string_bytes line ≡ of.refused_line what place) }
+fn solution_fault_line(
+    alloc: Global,
+    what: MovetextFaultKind,
+    place: u32,
+) -> Result<String, AllocError>
+    ensures { IfOk result (λ line. string_bytes line ≡ of.solution_fault_line what place) }
 {
     let mut digits = Buffer::new();
     let mut places = Buffer::new();

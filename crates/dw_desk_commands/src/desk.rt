@@ -165,8 +165,8 @@ impl<B: Board, G: Guide<B>> Desk<B, G> {
 }
 
 /// Runs a command on the problems of a source, and returns how the program ends. The guide orders the moves of the
-/// searches, and learns how far they are. The board must have 10 or 8 rows, and neither the source nor the sink may have
-/// failed before. It fails if memory is refused, if a stream fails, or if 2^64 - 1 positions are expanded. Then a
+/// searches, and learns how far they are. The board must have 10 or 8 rows, and neither the source nor the sink may
+/// have failed before. It fails if memory is refused, if a stream fails, or if 2^64 - 1 positions are expanded. Then a
 /// beginning of the output was written: whole texts of the problems before, and of the next one's text nothing, or
 /// whole lines. After a failed write it may end at any byte.
 pub fn run_on<'a, B: Board, G: Guide<B> + Drop, S: Source, K: Sink>(

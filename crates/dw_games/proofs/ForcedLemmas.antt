@@ -1,9 +1,9 @@
 -- A reply that is left out.
-use Rattle.std.proofs.Common.{◌≡◌, ◌⊎◌, ℕ, zero, suc, ◌<◌, true, false, List, [], ◌∷◌, ◌++◌, length, get_or, take, Ok}
-use Rattle.std.proofs.Common.{Err, refl, sym, ap, subst, ◌∙◌, arith, inl, inr}
+use Rattle.std.proofs.Common.{◌≡◌, ℕ, zero, suc, ◌<◌, true, false, List, [], ◌∷◌, ◌++◌, length, get_or, take, Ok}
+use Rattle.std.proofs.Common.{Err, refl, sym, subst, ◌∙◌, arith, inl, inr}
 use Rattle.std.proofs.Math.Seq.{take-suc}
 use Rattle.dw_board.specs.Geometry.{Geometry}
-use Rattle.dw_board.specs.Lists.{Member, NoRepeat}
+use Rattle.dw_board.specs.Lists.{Member}
 use Rattle.dw_board.specs.Placement.{Placement}
 use Rattle.dw_moves.specs.Moves.{AreLegal, Legal, Move, play}
 use Rattle.dw_moves.specs.inner.MemberLemmas.{mem_cases}
@@ -11,8 +11,7 @@ use Rattle.dw_notation.specs.MoveReading.{IsRead}
 use Rattle.dw_notation.specs.declared.read_move.MoveFault.{MoveFault}
 use Rattle.dw_notation.specs.declared.read_move.MoveFault.TheVariants as reading
 use Rattle.dw_games.specs.Tokens.{Token}
-use Rattle.dw_games.specs.Play.{IsOnlyMove, plain}
-use Rattle.dw_games.specs.Faults.{HasTwoMoves, IsNamed, NamesNoneBehind}
+use Rattle.dw_games.specs.Play.{IsOnlyMove, HasTwoMoves, IsNamed, NamesNoneBehind, plain}
 use Rattle.dw_games.specs.inner.Reading.{IsForcedOr, IsSearched}
 use Rattle.dw_games.specs.inner.Refusals.{refusal_of, searched_of}
 

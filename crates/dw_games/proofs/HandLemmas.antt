@@ -1,7 +1,7 @@
 -- Lemmas on handing out games.
-use Rattle.std.proofs.Common.{◌≡◌, ◌+◌, ◌<◌, ◌≤◌, nat_lt, cond, MatchBool, ℕ, List, [], ◌∷◌, ◌++◌, take, drop, Bool}
+use Rattle.std.proofs.Common.{◌≡◌, ◌+◌, ◌≤◌, nat_lt, cond, ℕ, List, [], ◌∷◌, ◌++◌, take, drop, Bool}
 use Rattle.std.proofs.Common.{true, false, Option, Some, None, Result, Ok, Err, refl, sym, ap, ◌∙◌, subst, append_assoc}
-use Rattle.std.proofs.lemmas.Bool.{lt-ltb, le-ltb, ltb-true, true≢false}
+use Rattle.std.proofs.lemmas.Bool.{ltb-true, true≢false}
 use Rattle.dw_notation.specs.inner.StreamLemmas.{Reads-nil}
 use Rattle.dw_board.specs.Geometry.{Geometry}
 use Rattle.dw_notation.specs.TextLines.{Found}
@@ -393,11 +393,6 @@ open_given g supply old new game here input stage given = record {
 }
 
 -- ---- all games are handed out
-pub over_test : (over : Bool) (handed : ℕ) → MatchBool over (1000000 < handed) (handed ≤ 1000000)
-    → over ≡ nat_lt MAX_PROBLEMS handed
-over_test true handed h = sym (lt-ltb 1000000 handed h)
-over_test false handed h = sym (le-ltb 1000000 handed h)
-
 over_games : (stage : Stage) (handed : ℕ) (said : List Said) (text : List ℕ) (g : Geometry)
     → is_done stage handed ≡ true → Stands g stage text said → games_from handed said ≡ []
 over_games Reading handed said text g over stands = games_from-over handed said (ltb-true 1000000 handed over)

@@ -18,6 +18,7 @@ pub mod LinkLemmas
 pub mod PathLemmas
 pub mod BranchLemmas
 pub mod TreeLemmas
+pub mod PrintedLemmas
 pub mod ReadingLemmas
 pub mod LongLemmas
 pub mod TakenLemmas
@@ -29,3 +30,5 @@ pub mod OneAnswerLemmas
 pub mod PlayedLemmas
 pub mod LineLemmas
 pub mod OneLineLemmas
+pub mod PdnLemmas
+pub mod RuleLemmas

@@ -1,4 +1,4 @@
--- Reading a written line: no variation is open, and the tree holds the beginnings of its moves, in turn.
+-- Reading a written line: no parenthesis is open, and the tree holds the beginnings of its moves, in turn.
 use Rattle.std.proofs.Common.{◌≡◌, ◌≢◌, ◌⊎◌, ℕ, zero, suc, ◌+◌, ◌≤◌, true, List, [], ◌∷◌, ◌++◌, length, Some, None}
 use Rattle.std.proofs.Common.{refl, sym, ap, subst, ◌∙◌, arith, append_assoc, append-nil, length-append, inl, inr}
 use Rattle.std.proofs.Common.{Result, Ok, Err}
@@ -9,14 +9,17 @@ use Rattle.dw_board.specs.Placement.{Placement}
 use Rattle.dw_board.specs.Lists.{Member}
 use Rattle.dw_moves.specs.Moves.{Move}
 use Rattle.dw_games.specs.Tokens.{Token, AreTokens}
-use Rattle.dw_games.specs.Play.{IsResult, AreComments, IsVariation, empty, passed, move, forced, variation}
+use Rattle.dw_games.specs.Play.{IsResult, beginnings_after}
+use Rattle.dw_games.specs.Printed.{Kind, variation, Line, begins, goes_on, first_line, Follows, opens_variation}
+use Rattle.dw_games.specs.Printed.{opens_reply, alone, by_play, after_reply, left_out_again, IsLine, empty, passed}
+use Rattle.dw_games.specs.Printed.{move, aside, AreComments}
 use Rattle.dw_games.specs.Movetext.{AreDistinct, nothing, again, first}
 use Rattle.dw_games.specs.Faults.{cut_off, behind_result}
 use Rattle.dw_games.specs.Lines.{IsStraight, IsPlainGame, going_on, ended, IsWrittenLine, line_fault_of, other}
 use Rattle.dw_games.specs.Lines.{IsFirstLineFault, at_token, no_move, even, IsLineRefusal}
 use Rattle.dw_games.specs.inner.Ahead.{AreAhead}
 use Rattle.dw_games.specs.inner.Reading.{Opened, outermost, inner, IsFaultOf, ReadOn, IsOdd}
-use Rattle.dw_games.specs.inner.LineReading.{NoneOpens, beginnings_after, HasReadLine, LineHasEnded, IsNoOddNumber}
+use Rattle.dw_games.specs.inner.LineReading.{NoneOpens, HasReadLine, LineHasEnded, IsNoOddNumber}
 use Rattle.dw_games.specs.declared.tokens.Tokens.{Tokens}
 use Rattle.dw_games.specs.declared.tokens.TokenKind.TheVariants.{Opens}
 use Rattle.dw_games.specs.declared.movetext.TheConstants.{MAX_MOVETEXT, MAX_PATH}
@@ -28,7 +31,8 @@ use Rattle.dw_games.specs.declared.reader.OpenLine.{OpenLine}
 use Rattle.dw_games.specs.declared.reader.Reader.{Reader}
 use Rattle.dw_games.proofs.PlaceLemmas.{absent, same}
 use Rattle.dw_games.proofs.PathLemmas.{filled, last_same}
-use Rattle.dw_games.proofs.TakenLemmas.{opened_short}
+use Rattle.dw_games.proofs.PrintedLemmas.{IsShort}
+use Rattle.dw_games.proofs.ReadingLemmas.{opened_short}
 use Rattle.dw_games.proofs.WholeLemmas.{over, joined}
 
 -- ---- where no token begins a variation
@@ -40,24 +44,50 @@ pub none_more : (ts : List Token) (t : Token) → NoneOpens ts → t.what ≢ Op
 none_more [] t h differs = (differs, tt)
 none_more (u ∷ ts) t h differs = (h.0, none_more ts t h.1 differs)
 
+-- the main line without parentheses
+abbrev pub main : List Move → Line
+main moves = goes_on variation [] moves None
+
+begins_main : {A : Type 0} (front own : List Move) (last : Move) → begins front last ≡ main own → A
+begins_main front own last e = cc
+
+answer_main : {A : Type 0} (kind : Kind) (before moves answer own : List Move)
+    → goes_on kind before moves (Some answer) ≡ main own → A
+answer_main kind before moves answer own e = cc
+
+kind_main : (kind : Kind) (before moves own : List Move) → goes_on kind before moves None ≡ main own
+    → kind ≡ variation
+kind_main kind before moves own e = cc
+
+before_main : (kind : Kind) (before moves own : List Move) → goes_on kind before moves None ≡ main own → before ≡ []
+before_main kind before moves own e = cc
+
+moves_main : (kind : Kind) (before moves own : List Move) → goes_on kind before moves None ≡ main own → moves ≡ own
+moves_main kind before moves own e = cc
+
 module _ (g : Geometry) (p : Placement) where
-  any_room : {room : ℕ} {before moves : List Move} {ts : List Token} {paths : List (List Move)}
-      → IsVariation g p room before ts moves paths → NoneOpens ts → IsVariation g p zero before ts moves paths
+  pub any_room : {room : ℕ} {start line : Line} {ts : List Token} {paths : List (List Move)}
+      → IsLine g p room start ts line paths → NoneOpens ts → IsLine g p zero start ts line paths
   any_room empty h = empty
   any_room (passed {ts = ts} t v is) h = passed t (any_room v (none_parts ts (t ∷ []) h).0) is
-  any_room (move {ts = ts} {t = t} v low is) h = move (any_room v (none_parts ts (t ∷ []) h).0) low is
-  any_room (forced {ts = ts} {t = t} v low defence is) h =
-      forced (any_room v (none_parts ts (t ∷ []) h).0) low defence is
-  any_room (variation {ts = ts} {us = us} moves last opening closing v o w c) h =
+  any_room (move {ts = ts} {t = t} v follows) h = move (any_room v (none_parts ts (t ∷ []) h).0) follows
+  any_room (aside {ts = ts} {us = us} moves last opening closing v o w c) h =
       let rest = none_parts ts (opening ∷ (us ++ closing ∷ [])) h in absurd (rest.1.0 o)
 
-  straight_read : {B : Type 0} (tree : List (List Move)) {room : ℕ} {ts : List Token} {line : OpenLine B}
-      {outer : List (OpenLine B)} {before moves : List Move} {paths : List (List Move)}
-      → Opened g p tree room ts line outer before moves paths → NoneOpens ts
-      → (outer ≡ []) × (before ≡ []) × IsVariation g p zero [] ts moves paths
-  straight_read tree (outermost v l) h = (refl, refl, any_room v h)
-  straight_read tree (inner {ts = ts} {us = us} moves last opening o e v l) h =
-      let rest = none_parts ts (opening ∷ us) h in absurd (rest.1.0 e)
+  -- a token goes on with it
+  main_follows : {line : Line} {t : Token} {kind : Kind} {before moves more : List Move} (own : List Move)
+      → Follows g p line t kind before moves more → line ≡ main own
+      → (kind ≡ variation) × (before ≡ []) × (moves ≡ own)
+  main_follows own (opens_variation {front = front} {last = last} is) e = begins_main front own last e
+  main_follows own (opens_reply {front = front} {last = last} none is) e = begins_main front own last e
+  main_follows own (alone {kind = kind} {before = before} {moves = moves} is) e =
+      (kind_main kind before moves own e, before_main kind before moves own e, moves_main kind before moves own e)
+  main_follows own (by_play {kind = kind} {before = before} {moves = moves} {answer = a} low is) e =
+      answer_main kind before moves a own e
+  main_follows own (after_reply {kind = kind} {before = before} {moves = moves} {answer = a} none is) e =
+      answer_main kind before moves a own e
+  main_follows own (left_out_again {kind = kind} {before = before} {moves = moves} {answer = a} none low odd is) e =
+      answer_main kind before moves a own e
 
 -- ---- the beginnings of some moves
 beginnings_more : (before moves : List Move) (m : Move)
@@ -78,20 +108,58 @@ none_longer before (m ∷ moves) path (inl e) = omega (arith, ap length e, lengt
 none_longer before (m ∷ moves) path (inr h) =
     let more = none_longer (before ++ m ∷ []) moves path h in omega (arith, more, length-append before (m ∷ []))
 
--- the paths of play without variations
-pub paths_are : (g : Geometry) (p : Placement) {room : ℕ} {before moves : List Move} {ts : List Token}
-    {paths : List (List Move)} → IsVariation g p room before ts moves paths → room ≡ zero
-    → paths ≡ beginnings_after before moves
-paths_are g p empty e = refl
-paths_are g p (passed t v is) e = paths_are g p v e
-paths_are g p (move {before = before} {moves = moves} {m = m} v low is) e =
-    ap (λ z. z ++ (before ++ (moves ++ m ∷ [])) ∷ []) (paths_are g p v e) ∙ sym (beginnings_more before moves m)
-paths_are g p (forced {before = before} {moves = moves} {reply = r} {m = m} v low defence is) e =
-    ap (λ z. (z ++ (before ++ (moves ++ r ∷ [])) ∷ []) ++ (before ++ ((moves ++ r ∷ []) ++ m ∷ [])) ∷ [])
-    (paths_are g p v e)
-    ∙ (ap (λ z. z ++ (before ++ ((moves ++ r ∷ []) ++ m ∷ [])) ∷ []) (sym (beginnings_more before moves r))
-    ∙ sym (beginnings_more before (moves ++ r ∷ []) m))
-paths_are g p (variation moves last opening closing v o w c) e = absurd (omega (arith, e))
+beginnings_append : (before moves more : List Move) → beginnings_after before (moves ++ more)
+    ≡ beginnings_after before moves ++ beginnings_after (before ++ moves) more
+beginnings_append before [] more = ap (λ z. beginnings_after z more) (sym (append-nil before))
+beginnings_append before (m ∷ moves) more =
+    ap (λ z. (before ++ m ∷ []) ∷ z) (beginnings_append (before ++ m ∷ []) moves more
+    ∙ ap (λ z. beginnings_after (before ++ m ∷ []) moves ++ beginnings_after z more)
+    (append_assoc before (m ∷ []) moves))
+
+-- the moves and the paths of play without parentheses
+pub main_line : (g : Geometry) (p : Placement) {room : ℕ} {start line : Line} {ts : List Token}
+    {paths : List (List Move)} → IsLine g p room start ts line paths → start ≡ first_line → NoneOpens ts
+    → (own : List Move) × (line ≡ main own) × (paths ≡ beginnings_after [] own)
+main_line g p empty e h = ([], e, refl)
+main_line g p (passed {ts = ts} t v is) e h = main_line g p v e (none_parts ts (t ∷ []) h).0
+main_line g p (move {ts = ts} {paths = paths} {t = t} {kind = kind} {before = before} {moves = moves} {more = more} v
+    follows) e h =
+    let old = main_line g p v e (none_parts ts (t ∷ []) h).0 in
+    let is = main_follows g p old.0 follows old.1 in (
+      old.0 ++ more,
+      ap (λ z. goes_on z before (moves ++ more) None) is.0
+          ∙ (ap (λ z. goes_on variation z (moves ++ more) None) is.1 ∙ ap (λ z. main (z ++ more)) is.2),
+      ap (λ z. z ++ beginnings_after (before ++ moves) more) old.2
+          ∙ (ap (λ z. beginnings_after [] old.0 ++ beginnings_after (z ++ moves) more) is.1
+          ∙ (ap (λ z. beginnings_after [] old.0 ++ beginnings_after z more) is.2
+          ∙ sym (beginnings_append [] old.0 more))),
+    )
+main_line g p (aside {ts = ts} {us = us} moves last opening closing v o w c) e h =
+    let rest = none_parts ts (opening ∷ (us ++ closing ∷ [])) h in absurd (rest.1.0 o)
+
+same_main : (moves own : List Move) → main moves ≡ main own → own ≡ moves
+same_main moves own e = cc
+
+pub paths_are : (g : Geometry) (p : Placement) {room : ℕ} {moves : List Move} {ts : List Token}
+    {paths : List (List Move)} → IsLine g p room first_line ts (main moves) paths → NoneOpens ts
+    → paths ≡ beginnings_after [] moves
+paths_are g p {moves = moves} v h =
+    let is = main_line g p v refl h in is.2 ∙ ap (beginnings_after []) (same_main moves is.0 is.1)
+
+-- what a reader has read
+pub straight_read : {B : Type 0} (g : Geometry) (p : Placement) (tree : List (List Move)) {room : ℕ} {ts : List Token}
+    {now : OpenLine B} {outer : List (OpenLine B)} {line : Line} {paths : List (List Move)}
+    → Opened g p tree room ts now outer line paths → NoneOpens ts
+    → (outer ≡ []) × (own : List Move) × (line ≡ main own) × IsLine g p zero first_line ts (main own) paths
+straight_read g p tree (outermost {ts = ts} {line = line} {paths = paths} v l) h =
+    let is = main_line g p v refl h in (
+      refl,
+      is.0,
+      is.1,
+      subst (λ z. IsLine g p zero first_line ts z paths) is.1 (any_room g p v h),
+    )
+straight_read g p tree (inner {ts = ts} {us = us} moves last opening o e v l s) h =
+    let rest = none_parts ts (opening ∷ us) h in absurd (rest.1.0 e)
 
 parted : (moves : List Move) → (moves ≡ []) ⊎ ((front : List Move) × (last : Move) × (moves ≡ front ++ last ∷ []))
 parted [] = inl refl
@@ -157,10 +225,10 @@ module _ (tree : List (List Move)) (n : ℕ) (moves all rest : List Move) (is : 
 -- ---- what a reader has read
 module _ {B : Type 0} (g : Geometry) (p : Placement) (ts : List Token) (r : Reader B) (h : HasReadLine g p ts r) where
   abbrev pub moves_read : List Move
-  moves_read = h.read.moves
+  moves_read = (straight_read g p r.tree.paths h.read.opened h.none_opens).1
 
-  straight_play : IsVariation g p zero [] ts moves_read h.read.paths
-  straight_play = (straight_read g p r.tree.paths h.read.opened h.none_opens).2
+  straight_play : IsLine g p zero first_line ts (main moves_read) h.read.paths
+  straight_play = (straight_read g p r.tree.paths h.read.opened h.none_opens).3
 
   pub none_around_line : r.outer.items ≡ []
   none_around_line = (straight_read g p r.tree.paths h.read.opened h.none_opens).0
@@ -170,13 +238,14 @@ module _ {B : Type 0} (g : Geometry) (p : Placement) (ts : List Token) (r : Read
 
   pub tree_read : r.tree.paths ≡ beginnings_after [] moves_read
   tree_read =
-      let is : h.read.paths ≡ beginnings_after [] moves_read = paths_are g p straight_play refl in
+      let is : h.read.paths ≡ beginnings_after [] moves_read = paths_are g p straight_play h.none_opens in
       tree_is h.read.distinct moves_read is ∙ is
 
   pub tree_short : length r.tree.paths ≤ MAX_PATH
   tree_short =
-      let short = opened_short g p r.tree.paths h.read.opened in
-      omega (arith, short, ap length tree_read, length_beginnings [] moves_read, length-append h.read.before moves_read)
+      let short = subst IsShort (straight_read g p r.tree.paths h.read.opened h.none_opens).2
+      (opened_short g p r.tree.paths h.read.opened) in
+      omega (arith, short, ap length tree_read, length_beginnings [] moves_read)
 
 -- a token is at fault
 pub line_stopped : {B : Type 0} (g : Geometry) (p : Placement) (old now : Tokens) (r before : Reader B)

@@ -5,8 +5,7 @@ use Rattle.std.proofs.Math.Seq.{take-suc}
 use Rattle.std.proofs.lemmas.Bool.{cases_Bool, eqb-true}
 use Rattle.std.proofs.lemmas.List.{take-append-drop}
 use Rattle.std.specs.Prelude.{◌==◌}
-use Rattle.dw_board.specs.Lists.{Member}
-use Rattle.dw_games.specs.Play.{is_leading, plain, plain_byte, results}
+use Rattle.dw_games.specs.Play.{is_leading, plain, plain_byte}
 use Rattle.dw_board.specs.Geometry.{Geometry}
 use Rattle.dw_notation.specs.MoveReading.{IsNumber, AreCrossed, single, more, Named, Names, by_dash, by_crosses}
 use Rattle.dw_games.proofs.PlaceLemmas.{absent}
@@ -73,17 +72,6 @@ plain_full text i inside other items is full =
       ap length whole,
       length-append (plain (take (suc i) text)) (plain (drop (suc i) text)),
     )
-
-pub results_short : (text : List ℕ) → Member text results → length text ≤ 7
-results_short text (inl e) = omega (arith, ap length e)
-results_short text (inr (inl e)) = omega (arith, ap length e)
-results_short text (inr (inr (inl e))) = omega (arith, ap length e)
-results_short text (inr (inr (inr (inl e)))) = omega (arith, ap length e)
-results_short text (inr (inr (inr (inr (inl e))))) = omega (arith, ap length e)
-results_short text (inr (inr (inr (inr (inr (inl e)))))) = omega (arith, ap length e)
-results_short text (inr (inr (inr (inr (inr (inr (inl e))))))) = omega (arith, ap length e)
-results_short text (inr (inr (inr (inr (inr (inr (inr (inl e)))))))) = omega (arith, ap length e)
-results_short text (inr (inr (inr (inr (inr (inr (inr (inr gone)))))))) = absurd gone
 
 pub names_nothing : (g : Geometry) (text : List ℕ) (named : Named) → 62 < length text → Names g text named → ⊥
 names_nothing g text named long h = let n = names_short g text named h in omega (arith, n, long)

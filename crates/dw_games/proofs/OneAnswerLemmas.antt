@@ -1,36 +1,30 @@
 -- A text has at most one tree and at most one first fault, and never both.
 use Rattle.std.proofs.Common.{◌≡◌, ◌⊎◌, ℕ, zero, suc, ◌+◌, ◌<◌, true, false, List, [], ◌∷◌, ◌++◌, length, Ok, Err, refl}
-use Rattle.std.proofs.Common.{sym, ap, subst, ◌∙◌, arith, append_assoc, inl, inr}
+use Rattle.std.proofs.Common.{sym, ap, subst, ◌∙◌, arith, append_assoc, zero-add, inl, inr}
 use Rattle.dw_board.specs.Geometry.{Geometry}
 use Rattle.dw_board.specs.Placement.{Placement}
 use Rattle.dw_board.specs.Lists.{Member}
 use Rattle.dw_moves.specs.Moves.{Move}
 use Rattle.dw_notation.specs.MoveReadingLaws as reading
-use Rattle.dw_notation.specs.declared.read_move.MoveFault.{MoveFault}
-use Rattle.dw_notation.specs.declared.read_move.MoveFault.TheVariants as why
 use Rattle.dw_games.specs.Tokens.{Token, AreTokens}
-use Rattle.dw_games.specs.Play.{IsOver, AreComments, after}
+use Rattle.dw_games.specs.Printed.{Line, begins, goes_on, first_line, count_moves, IsLine, IsOver, AreComments}
 use Rattle.dw_games.specs.Movetext.{IsGame, AreDistinct, nothing, again, first, IsTree}
-use Rattle.dw_games.specs.Faults.{IsOpen, HasForm, IsRefused, IsUnreadable, FaultAt, FaultAtEnd, IsFirstFault}
-use Rattle.dw_games.specs.Faults.{outermost, inner, unreadable, no_such_move, ambiguous, no_move_before, none_open}
-use Rattle.dw_games.specs.Faults.{ambiguous_after_reply, no_reply}
-use Rattle.dw_games.specs.Faults.{within, behind_result, cut_off, too_deep, too_long, too_large, at_token, at_end}
+use Rattle.dw_games.specs.Faults.{IsOpen, IsUnreadable, HasNoMove, FaultAt, FaultAtEnd, IsFirstFault}
+use Rattle.dw_games.specs.Faults.{outermost, inner, unreadable, refused, no_move_before, none_open}
+use Rattle.dw_games.specs.Faults.{within, behind_result, cut_off, too_deep, too_large, at_token, at_end}
 use Rattle.dw_games.specs.Faults.{no_move}
 use Rattle.dw_games.specs.Faults as faults
 use Rattle.dw_games.specs.Laws.{OneAnswer}
 use Rattle.dw_games.specs.declared.tokens.TokenKind.{TokenKind}
 use Rattle.dw_games.specs.declared.tokens.TokenKind.TheVariants.{Comment, Written, Opens, Closes, CutOff, Unknown}
-use Rattle.dw_games.specs.declared.movetext.TheConstants.{MAX_PATH, MAX_OPEN}
+use Rattle.dw_games.specs.declared.movetext.TheConstants.{MAX_OPEN}
 use Rattle.dw_games.specs.declared.fault.MovetextFaultKind.{MovetextFaultKind}
-use Rattle.dw_games.specs.declared.fault.MovetextFaultKind.TheVariants.{Token as NoToken, NoSuchMove, Ambiguous}
-use Rattle.dw_games.specs.declared.fault.MovetextFaultKind.TheVariants.{Variation, Unclosed, Rest, TooDeep, TooLong}
-use Rattle.dw_games.specs.declared.fault.MovetextFaultKind.TheVariants.{Empty, Reply}
+use Rattle.dw_games.specs.declared.fault.MovetextFaultKind.TheVariants.{Token as NoToken}
+use Rattle.dw_games.specs.declared.fault.MovetextFaultKind.TheVariants.{Variation, Unclosed, Rest, TooDeep, Empty}
 use Rattle.dw_games.proofs.PathLemmas.{filled, last_same}
 use Rattle.dw_games.proofs.TokenRowLemmas.{one_row, row_first}
-use Rattle.dw_games.proofs.StepLemmas.{State, Around, start, Next, IsNext, Leads, ended, closed, begun, moved, result}
-use Rattle.dw_games.proofs.StepLemmas.{neither, read, missed, IsMissed, long, begun_deep, as_kind, leads_on, varied}
-use Rattle.dw_games.proofs.StepLemmas.{begun_next}
-use Rattle.dw_games.proofs.StepLemmas.{leads_one, stopped, fault_one}
+use Rattle.dw_games.proofs.StepLemmas.{State, Around, start, Next, IsNext, Leads, ended, begun, result, neither, went}
+use Rattle.dw_games.proofs.StepLemmas.{begun_deep, as_kind, leads_on, varied, begun_next, leads_one, stopped, fault_one}
 use Rattle.dw_games.proofs.StepLemmas as step
 
 -- ---- a list without its repeats is one
@@ -53,14 +47,15 @@ distinct_one (first {paths = ps} {tree = tree} x d none) (first {paths = qs} {tr
     ap (λ z. z ++ x ∷ []) (distinct_one d f both.0) ∙ ap (λ z. other ++ z ∷ []) both.1
 
 -- ---- where a text stands
--- the innermost variation that is open, and those around it
-record Stands (g : Geometry) (p : Placement) (room : ℕ) (ts : List Token) (before moves : List Move) : Type 0 where
+-- the innermost line that is open, and those around it
+record Stands (g : Geometry) (p : Placement) (room : ℕ) (ts : List Token) (line : Line) : Type 0 where
+  count : ℕ
   outer : List Around
   paths : List (List Move)
-  leads : Leads g p start ts (step.within room before moves outer paths)
+  leads : Leads g p start ts (step.within room line count outer paths)
   many : room + length outer ≡ MAX_OPEN
 
--- no variation in parentheses is open
+-- no parenthesis is open
 pub record Whole (g : Geometry) (p : Placement) (ts : List Token) (paths : List (List Move)) : Type 0 where
   pub state : State
   pub leads : Leads g p start ts state
@@ -91,30 +86,38 @@ record Ends (g : Geometry) (p : Placement) (ts : List Token) (what : MovetextFau
   lacks : Lacks state what
 
 module _ (g : Geometry) (p : Placement) where
-  stands : {room : ℕ} {ts : List Token} {before moves : List Move} → IsOpen g p room ts before moves
-      → Stands g p room ts before moves
-  stands (outermost {paths = paths} v) = record {
+  pub from_start : {ts : List Token} {line : Line} {paths : List (List Move)}
+      → IsLine g p MAX_OPEN first_line ts line paths
+      → Leads g p start ts (step.within MAX_OPEN line (count_moves ts) [] paths)
+  from_start {ts = ts} {line = line} {paths = paths} v =
+      subst (λ n. Leads g p start ts (step.within MAX_OPEN line n [] paths)) (zero-add (count_moves ts))
+      (varied g p v 0 [] [])
+
+  stands : {room : ℕ} {ts : List Token} {line : Line} → IsOpen g p room ts line → Stands g p room ts line
+  stands (outermost {ts = ts} {paths = paths} v) = record {
+    count = count_moves ts;
     outer = [];
     paths = paths;
-    leads = varied g p v [] [];
+    leads = from_start v;
     many = refl;
   }
-  stands (inner {room = room} {ts = ts} {us = us} {before = before} {others = others} {paths = more} moves last opening
-      o is v) =
+  stands (inner {room = room} {ts = ts} {us = us} {kind = kind} {before = before} {answer = answer} {line = line}
+      {paths = more} moves last opening o is v) =
       let h = stands o in
-      let now : List Move = moves ++ last ∷ [] in
-      let around : List Around = (record { before = before; moves = now }) ∷ h.outer in
-      let s : State = step.within (suc room) before now h.outer h.paths in
-      let inside : State = step.within room (before ++ moves) [] around h.paths in
-      let next : State = step.within room (before ++ moves) others around (h.paths ++ more) in
+      let now : Line = goes_on kind before (moves ++ last ∷ []) answer in
+      let around : List Around = (record { line = now; count = h.count }) ∷ h.outer in
+      let s : State = step.within (suc room) now h.count h.outer h.paths in
+      let inside : State = step.within room (begins (before ++ moves) last) 0 around h.paths in
+      let next : State = step.within room line (0 + count_moves us) around (h.paths ++ more) in
       let many : room + length around ≡ MAX_OPEN = omega (arith, h.many) in record {
+        count = 0 + count_moves us;
         outer = around;
         paths = h.paths ++ more;
         leads =
             leads_on g p ts (opening ∷ us) start s next h.leads (
               inside,
-              begun_next g p room before moves last h.outer h.paths opening is,
-              varied g p v around h.paths,
+              begun_next g p room kind before moves last answer h.count h.outer h.paths opening is,
+              varied g p v 0 around h.paths,
             );
         many = many;
       }
@@ -129,20 +132,20 @@ module _ (g : Geometry) (p : Placement) where
 
   over_all : {ts : List Token} {paths : List (List Move)} → IsOver g p ts paths → Over g p ts paths
   over_all {ts = ts} {paths = paths} h =
-      let s : State = step.within MAX_OPEN [] h.played.0 [] paths in
+      let s : State = step.within MAX_OPEN h.played.0 (count_moves h.front) [] paths in
       let t : Token = h.result in
       let end : State = record {
         over = true;
         room = MAX_OPEN;
-        before = [];
-        moves = h.played.0;
+        line = h.played.0;
+        count = count_moves h.front;
         outer = [];
         paths = paths;
       } in
       let on : IsNext g p false t.what s t (Ok end) =
       as_kind g p false Written s t (Ok end) h.is_result.written (result h.is_result refl) in
       let all : Leads g p start (h.front ++ t ∷ h.comments) end =
-      leads_on g p h.front (t ∷ h.comments) start s end (varied g p h.played.1 [] [])
+      leads_on g p h.front (t ∷ h.comments) start s end (from_start h.played.1)
       (end, on, comments_on h.comments end refl h.are_comments) in
       record {
         state = end;
@@ -153,9 +156,9 @@ module _ (g : Geometry) (p : Placement) where
       }
 
   pub whole : {ts : List Token} {paths : List (List Move)} → IsGame g p ts paths → Whole g p ts paths
-  whole {paths = paths} (inl play) = record {
-    state = step.within MAX_OPEN [] play.0 [] paths;
-    leads = varied g p play.1 [] [];
+  whole {ts = ts} {paths = paths} (inl play) = record {
+    state = step.within MAX_OPEN play.0 (count_moves ts) [] paths;
+    leads = from_start play.1;
     none = refl;
     same = refl;
   }
@@ -163,16 +166,16 @@ module _ (g : Geometry) (p : Placement) where
       let h = over_all over in record { state = h.state; leads = h.leads; none = h.none; same = h.same }
 
   -- ---- faults
-  failing : {room : ℕ} {ts : List Token} {before moves : List Move} (t : Token) (what : MovetextFaultKind)
-      → IsOpen g p room ts before moves
-      → ((outer : List Around) (paths : List (List Move)) → room + length outer ≡ MAX_OPEN
-      → IsNext g p false t.what (step.within room before moves outer paths) t (Err what))
+  failing : {room : ℕ} {ts : List Token} {line : Line} (t : Token) (what : MovetextFaultKind)
+      → IsOpen g p room ts line
+      → ((count : ℕ) (outer : List Around) (paths : List (List Move)) → room + length outer ≡ MAX_OPEN
+      → IsNext g p false t.what (step.within room line count outer paths) t (Err what))
       → Fails g p ts t what
-  failing {room = room} {before = before} {moves = moves} t what o f =
+  failing {room = room} {line = line} t what o f =
       let h = stands o in record {
-        state = step.within room before moves h.outer h.paths;
+        state = step.within room line h.count h.outer h.paths;
         leads = h.leads;
-        fails = f h.outer h.paths h.many;
+        fails = f h.count h.outer h.paths h.many;
       }
 
   unreadable_next : (s : State) (t : Token) → IsUnreadable g t → IsNext g p false t.what s t (Err NoToken)
@@ -181,20 +184,10 @@ module _ (g : Geometry) (p : Placement) where
   unreadable_next s t (inr (inr is)) =
       as_kind g p false Written s t (Err NoToken) is.written (neither is.no_result is.no_form refl)
 
-  refused_next : (s : State) (t : Token) (reason : MoveFault) → (reason ≡ why.Memory → ⊥)
-      → (reason ≡ why.NoSuchMove → ⊥) → length (s.before ++ s.moves) < MAX_PATH
-      → IsRefused g (after g p (s.before ++ s.moves)) t reason
-      → IsNext g p false t.what s t (moved s (Err reason))
-  refused_next s t reason kept found low is =
-      as_kind g p false Written s t (moved s (Err reason)) is.form.written
-      (read (Err reason) is.form.no_result is.form low is.refused (λ e. kept (step.same_reason reason why.Memory e))
-      (λ e. found (step.same_reason reason why.NoSuchMove e)) refl)
-
-  missed_next : (s : State) (t : Token) (r : Next) → length (s.before ++ s.moves) < MAX_PATH
-      → IsRefused g (after g p (s.before ++ s.moves)) t why.NoSuchMove → IsMissed g p s t r
-      → IsNext g p false t.what s t r
-  missed_next s t r low is h =
-      as_kind g p false Written s t r is.form.written (missed is.form.no_result is.form low is.refused h)
+  begun_not : (s : State) (line : Line) → HasNoMove line → Err Variation ≡ begun s s.room line
+  begun_not s (begins front last) none = refl
+  begun_not s (goes_on kind before moves answer) none =
+      sym (ap (λ x. begun s s.room (goes_on kind before x answer)) none)
 
   ended_inside : (s : State) (outer : List Around) → 0 < length outer → Err Unclosed ≡ ended s outer
   ended_inside s [] some = absurd (omega (arith, some))
@@ -216,50 +209,37 @@ module _ (g : Geometry) (p : Placement) where
       }
 
   pub fails : {ts : List Token} {t : Token} {what : MovetextFaultKind} → FaultAt g p ts t what → Fails g p ts t what
-  fails (unreadable {room = room} {before = before} {moves = moves} {t = t} o is) =
-      failing t NoToken o (λ outer paths many. unreadable_next (step.within room before moves outer paths) t is)
-  fails (no_such_move {room = room} {before = before} {moves = moves} {t = t} o low is none) =
-      failing t NoSuchMove o (λ outer paths many.
-      missed_next (step.within room before moves outer paths) t (Err NoSuchMove) low is (step.nothing none refl))
-  fails (ambiguous_after_reply {room = room} {before = before} {moves = moves} {t = t} reply o low odd is only several)
-      =
-      failing t Ambiguous o (λ outer paths many.
-      missed_next (step.within room before moves outer paths) t (Err Ambiguous) low is
-      (step.several reply odd only several refl))
-  fails (no_reply {room = room} {before = before} {moves = moves} {t = t} reply o low odd is two legal named) =
-      failing t Reply o (λ outer paths many.
-      missed_next (step.within room before moves outer paths) t (Err Reply) low is
-      (step.unforced reply odd two legal named refl))
-  fails (ambiguous {room = room} {before = before} {moves = moves} {t = t} o low is) =
-      failing t Ambiguous o (λ outer paths many.
-      refused_next (step.within room before moves outer paths) t why.Ambiguous (λ e. cc) (λ e. cc) low is)
-  fails (no_move_before {room = room} {before = before} {t = t} o is) =
-      failing t Variation o (λ outer paths many.
-      as_kind g p false Opens (step.within room before [] outer paths) t (Err Variation) is refl)
-  fails (none_open {paths = paths} {t = t} play is) = record {
-    state = step.within MAX_OPEN [] play.0 [] paths;
-    leads = varied g p play.1 [] [];
-    fails = as_kind g p false Closes (step.within MAX_OPEN [] play.0 [] paths) t (Err Variation) is refl;
-  }
-  fails (within {room = room} {before = before} {moves = moves} {t = t} o low is) =
-      failing t Unclosed o (λ outer paths many.
-      as_kind g p false Written (step.within room before moves outer paths) t (Err Unclosed) is.written
-      (result is (ended_inside (step.within room before moves outer paths) outer (omega (arith, low, many)))))
+  fails (unreadable {room = room} {line = line} {t = t} o is) =
+      failing t NoToken o (λ count outer paths many. unreadable_next (step.within room line count outer paths) t is)
+  fails (refused {room = room} {line = line} {t = t} {what = what} o is) =
+      failing t what o (λ count outer paths many. went g p (step.within room line count outer paths) t (Err what) is)
+  fails (no_move_before {room = room} {line = line} {t = t} o none is) =
+      failing t Variation o (λ count outer paths many.
+      let s : State = step.within room line count outer paths in
+      as_kind g p false Opens s t (Err Variation) is (begun_not s line none))
+  fails (none_open {ts = ts} {paths = paths} {t = t} play is) =
+      let s : State = step.within MAX_OPEN play.0 (count_moves ts) [] paths in
+      record {
+        state = s;
+        leads = from_start play.1;
+        fails = as_kind g p false Closes s t (Err Variation) is refl;
+      }
+  fails (within {room = room} {line = line} {t = t} o low is) =
+      failing t Unclosed o (λ count outer paths many.
+      let s : State = step.within room line count outer paths in
+      as_kind g p false Written s t (Err Unclosed) is.written
+      (result is (ended_inside s outer (omega (arith, low, many)))))
   fails (behind_result {t = t} over none other) = over_fails t Rest over (λ s. rest_next t.what s t none other)
   fails (cut_off {t = t} over is) = over_fails t NoToken over (λ s. as_kind g p true CutOff s t (Err NoToken) is refl)
-  fails (too_deep {before = before} {t = t} moves last o is) =
-      failing t TooDeep o (λ outer paths many.
-      let s : State = step.within zero before (moves ++ last ∷ []) outer paths in
-      as_kind g p false Opens s t (Err TooDeep) is (sym (begun_deep s moves last)))
-  fails (too_long {room = room} {before = before} {moves = moves} {t = t} o high form) =
-      failing t TooLong o (λ outer paths many.
-      as_kind g p false Written (step.within room before moves outer paths) t (Err TooLong) form.written
-      (long form.no_result form high refl))
+  fails (too_deep {kind = kind} {before = before} {answer = answer} {t = t} moves last o is) =
+      failing t TooDeep o (λ count outer paths many.
+      let s : State = step.within zero (goes_on kind before (moves ++ last ∷ []) answer) count outer paths in
+      as_kind g p false Opens s t (Err TooDeep) is (sym (begun_deep s kind before moves last answer)))
 
   ends : {ts : List Token} {what : MovetextFaultKind} → FaultAtEnd g p ts what → Ends g p ts what
-  ends (faults.unclosed {room = room} {before = before} {moves = moves} o low) =
+  ends (faults.unclosed {room = room} {line = line} o low) =
       let h = stands o in record {
-        state = step.within room before moves h.outer h.paths;
+        state = step.within room line h.count h.outer h.paths;
         leads = h.leads;
         lacks = inl (omega (arith, low, h.many), refl);
       }

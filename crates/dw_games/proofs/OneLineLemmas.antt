@@ -6,13 +6,16 @@ use Rattle.dw_board.specs.Placement.{Placement}
 use Rattle.dw_moves.specs.Moves.{Move}
 use Rattle.dw_notation.specs.MoveReadingLaws as reading
 use Rattle.dw_games.specs.Tokens.{Token, AreTokens}
-use Rattle.dw_games.specs.Play.{AreComments, IsVariation, IsPassed, empty, passed, move, forced, variation}
+use Rattle.dw_games.specs.Play.{IsPassed}
+use Rattle.dw_games.specs.Printed.{Line, first_line, IsLine, empty, passed, move, aside, AreComments, IsPlay}
+use Rattle.dw_games.specs.Printed.{count_moves}
 use Rattle.dw_games.specs.Movetext.{IsGame}
 use Rattle.dw_games.specs.Faults.{FaultAt}
 use Rattle.dw_games.specs.Lines.{IsStraight, IsPlainGame, going_on, ended, IsWrittenLine, LineFaultAt, begins_variation}
 use Rattle.dw_games.specs.Lines.{other, IsFirstLineFault, too_large, at_token, no_move, even}
 use Rattle.dw_games.specs.Laws.{OneLine}
-use Rattle.dw_games.specs.inner.LineReading.{NoneOpens, beginnings_after}
+use Rattle.dw_games.specs.inner.LineReading.{NoneOpens}
+use Rattle.dw_games.specs.Play.{beginnings_after}
 use Rattle.dw_games.specs.declared.tokens.TokenKind.{TokenKind}
 use Rattle.dw_games.specs.declared.tokens.TokenKind.TheVariants.{Comment, Passed, Written, Opens}
 use Rattle.dw_games.specs.declared.movetext.TheConstants.{MAX_OPEN}
@@ -22,11 +25,12 @@ use Rattle.dw_games.specs.declared.fault.LineFaultKind.{LineFaultKind}
 use Rattle.dw_games.specs.declared.fault.LineFaultKind.TheVariants.{Movetext}
 use Rattle.dw_games.proofs.PathLemmas.{last_same}
 use Rattle.dw_games.proofs.TokenRowLemmas.{one_row}
-use Rattle.dw_games.proofs.StepLemmas.{State, start, Next, IsNext, Leads, varied, leads_one, stopped, fault_one, begun}
+use Rattle.dw_games.proofs.StepLemmas.{State, start, Next, IsNext, Leads, leads_one, stopped, fault_one, begun}
 use Rattle.dw_games.proofs.StepLemmas.{as_kind, ok_err, same_err}
 use Rattle.dw_games.proofs.StepLemmas as step
-use Rattle.dw_games.proofs.OneAnswerLemmas.{whole, fails, state_same, up_to, no_fault}
-use Rattle.dw_games.proofs.LineLemmas.{none_parts, none_more, paths_are}
+use Rattle.dw_games.proofs.OneAnswerLemmas.{from_start, whole, fails, state_same, up_to, no_fault}
+use Rattle.dw_games.proofs.LineLemmas.{main, none_parts, none_more, paths_are}
+use Rattle.dw_games.proofs.PrintedLemmas.{follows_form}
 
 -- ---- no token of a line begins a variation
 no_opening : (what kind : TokenKind) → what ≡ kind → (kind ≡ Opens → ⊥) → what ≢ Opens
@@ -45,43 +49,45 @@ comments_open_none [] h = tt
 comments_open_none (c ∷ cs) h = (no_opening c.what Comment h.0 (λ e. cc), comments_open_none cs h.1)
 
 module _ (g : Geometry) (p : Placement) where
-  play_opens_none : {room : ℕ} {before moves : List Move} {ts : List Token} {paths : List (List Move)}
-      → IsVariation g p room before ts moves paths → room ≡ zero → NoneOpens ts
+  play_opens_none : {room : ℕ} {start line : Line} {ts : List Token} {paths : List (List Move)}
+      → IsLine g p room start ts line paths → room ≡ zero → NoneOpens ts
   play_opens_none empty e = tt
   play_opens_none (passed {ts = ts} t v is) e = none_more ts t (play_opens_none v e) (passed_no_opening t.what is)
-  play_opens_none (move {ts = ts} {t = t} v low is) e =
-      none_more ts t (play_opens_none v e) (no_opening t.what Written is.written (λ e. cc))
-  play_opens_none (forced {ts = ts} {t = t} v low defence is) e =
-      none_more ts t (play_opens_none v e) (no_opening t.what Written is.next.written (λ e. cc))
-  play_opens_none (variation moves last opening closing v o w c) e = absurd (omega (arith, e))
+  play_opens_none (move {ts = ts} {t = t} v follows) e =
+      none_more ts t (play_opens_none v e) (no_opening t.what Written (follows_form g p follows).written (λ e. cc))
+  play_opens_none (aside moves last opening closing v o w c) e = absurd (omega (arith, e))
 
   opens_none : {ts : List Token} {moves : List Move} → IsPlainGame g p ts moves → NoneOpens ts
   opens_none (going_on v) = play_opens_none v.1 refl
   opens_none (ended {ts = ts} {result = t} cs v is comments) = none_join ts (t ∷ cs) (play_opens_none v.1 refl)
       (no_opening t.what Written is.written (λ e. cc), comments_open_none cs comments)
 
-  roomier : {room wanted : ℕ} {before moves : List Move} {ts : List Token} {paths : List (List Move)}
-      → IsVariation g p room before ts moves paths → room ≡ zero → IsVariation g p wanted before ts moves paths
+  roomier : {room wanted : ℕ} {start line : Line} {ts : List Token} {paths : List (List Move)}
+      → IsLine g p room start ts line paths → room ≡ zero → IsLine g p wanted start ts line paths
   roomier empty e = empty
   roomier (passed t v is) e = passed t (roomier v e) is
-  roomier (move v low is) e = move (roomier v e) low is
-  roomier (forced v low defence is) e = forced (roomier v e) low defence is
-  roomier (variation moves last opening closing v o w c) e = absurd (omega (arith, e))
+  roomier (move v follows) e = move (roomier v e) follows
+  roomier (aside moves last opening closing v o w c) e = absurd (omega (arith, e))
 
-  more_room : {room : ℕ} {before moves : List Move} {ts : List Token} {paths : List (List Move)}
-      → IsVariation g p zero before ts moves paths → IsVariation g p room before ts moves paths
+  more_room : {room : ℕ} {start line : Line} {ts : List Token} {paths : List (List Move)}
+      → IsLine g p zero start ts line paths → IsLine g p room start ts line paths
   more_room v = roomier v refl
 
   -- such play is that of a movetext
+  play_of : {ts : List Token} {moves : List Move} → IsStraight g p ts moves → IsPlay g p ts (beginnings_after [] moves)
+  play_of {ts = ts} {moves = moves} v = (
+    main moves,
+    subst (λ x. IsLine g p MAX_OPEN first_line ts (main moves) x) (paths_are g p v.1 (play_opens_none v.1 refl))
+        (more_room v.1),
+  )
+
   game_of : {ts : List Token} {moves : List Move} → IsPlainGame g p ts moves → IsGame g p ts (beginnings_after [] moves)
-  game_of {ts = ts} {moves = moves} (going_on v) =
-      inl (moves, subst (λ x. IsVariation g p MAX_OPEN [] ts moves x) (paths_are g p v.1 refl) (more_room v.1))
-  game_of {moves = moves} (ended {ts = ts} {result = t} cs v is comments) = inr (record {
+  game_of (going_on v) = inl (play_of v)
+  game_of (ended {ts = ts} {result = t} cs v is comments) = inr (record {
     front = ts;
     result = t;
     comments = cs;
-    played =
-        (moves, subst (λ x. IsVariation g p MAX_OPEN [] ts moves x) (paths_are g p v.1 refl) (more_room v.1));
+    played = play_of v;
     is_result = is;
     are_comments = comments;
     joined = refl;
@@ -116,8 +122,8 @@ meets (w ∷ before) (v ∷ front) more others t u e is none =
     ]
 
 -- ---- one answer
-variation_is : (s : State) (moves : List Move) (kind : MovetextFaultKind) → ◌≡◌ {A = Next} (Err kind) (begun s MAX_OPEN
-    moves) → Variation ≡ kind
+variation_is : (s : State) (moves : List Move) (kind : MovetextFaultKind)
+    → ◌≡◌ {A = Next} (Err kind) (begun s MAX_OPEN (main moves)) → Variation ≡ kind
 variation_is s [] kind e = same_err Variation kind (sym e)
 variation_is s (m ∷ moves) kind e = ok_err _ kind (sym e)
 
@@ -128,8 +134,8 @@ module _ (one : reading.HasOneAnswer) (g : Geometry) (p : Placement) where
       → FaultAt g p front u kind → (Variation ≡ kind) × (t ≡ u)
   opening_first before front more others t u kind moves e v is none fault =
       let f = fails g p fault in
-      let s : State = step.within MAX_OPEN [] moves [] v.0 in
-      let leads : Leads g p start before s = varied g p (more_room g p v.1) [] [] in
+      let s : State = step.within MAX_OPEN (main moves) (count_moves before) [] v.0 in
+      let leads : Leads g p start before s = from_start g p (more_room g p v.1) in
       elim (meets before front more others t u e is none) [
         | inl h ↦
             let state : f.state ≡ s =

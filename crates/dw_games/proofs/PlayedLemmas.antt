@@ -1,147 +1,247 @@
 -- The beginnings of a tree are played: each is a shorter one, or none, with a legal move behind it.
-use Rattle.std.proofs.Common.{◌≡◌, ◌⊎◌, ℕ, List, [], ◌∷◌, ◌++◌, refl, sym, ap, subst, ◌∙◌, inl, inr, append-nil}
-use Rattle.std.proofs.Common.{append_assoc}
+use Rattle.std.proofs.Common.{◌≡◌, ◌⊎◌, ℕ, List, [], ◌∷◌, ◌++◌, refl, sym, subst, ◌∙◌, inl, inr, append-nil}
+use Rattle.std.proofs.Common.{append_assoc, Option, Some, None}
+use Rattle.std.specs.Prelude.{◌==◌}
+use Rattle.std.proofs.lemmas.Bool.{cases_Bool}
 use Rattle.dw_board.specs.Geometry.{Geometry}
 use Rattle.dw_board.specs.Placement.{Placement}
 use Rattle.dw_board.specs.Lists.{Member}
 use Rattle.dw_moves.specs.Moves.{Move, Legal, play}
 use Rattle.dw_moves.specs.inner.MemberLemmas.{mem_left, mem_right, mem_cases}
 use Rattle.dw_games.specs.Tokens.{Token}
-use Rattle.dw_games.specs.Play.{after, IsVariation, empty, passed, move, forced, variation, IsPlay}
+use Rattle.dw_games.specs.Play.{after, beginnings_after, StandsFor, named, left_out}
+use Rattle.dw_games.specs.Printed.{Kind, variation, reply, Line, begins, goes_on, Follows, opens_variation, opens_reply}
+use Rattle.dw_games.specs.Printed.{alone, by_play, after_reply, left_out_again, IsLine, empty, passed, move, aside}
+use Rattle.dw_games.specs.Printed.{IsPlay, answer_of, count_moves}
 use Rattle.dw_games.specs.Movetext.{AreDistinct, nothing, again, first, IsGame, IsTree}
 use Rattle.dw_games.specs.Laws.{IsPlayed}
+use Rattle.dw_games.proofs.PrintedLemmas.{IsInside, inside}
 use Rattle.dw_games.proofs.ReadingLemmas.{after_append}
 use Rattle.dw_games.proofs.TakenLemmas.{read_legal}
 
--- a path is played among others, which a beginning may have come before
-record PlayedFrom (g : Geometry) (p : Placement) (before : List Move) (paths : List (List Move)) (path : List Move)
+-- ---- beginnings that are known, or stand among some paths
+abbrev Known : (List Move → Type 0) → List (List Move) → List Move → Type 0
+Known K paths path = K path ⊎ Member path paths
+
+-- some moves after others, and each beginning of them
+abbrev AllKnown : (List Move → Type 0) → List (List Move) → (before moves : List Move) → Type 0
+AllKnown K paths before [] = Known K paths before
+AllKnown K paths before (m ∷ moves) = Known K paths before × AllKnown K paths (before ++ m ∷ []) moves
+
+abbrev LineKnown : (List Move → Type 0) → List (List Move) → Line → Type 0
+LineKnown K paths (begins front last) = Known K paths front × Known K paths (front ++ last ∷ [])
+LineKnown K paths (goes_on kind before moves None) = AllKnown K paths before moves × Unit {0}
+LineKnown K paths (goes_on kind before moves (Some answer)) =
+    AllKnown K paths before moves × AllKnown K paths before (moves ++ answer)
+
+-- a path is played after one of these
+record PlayedFrom (g : Geometry) (p : Placement) (K : List Move → Type 0) (paths : List (List Move)) (path : List Move)
     : Type 0 where
   front : List Move
   last : Move
   is : path ≡ front ++ last ∷ []
   legal : Legal g (after g p front) last
-  there : (front ≡ before) ⊎ Member front paths
+  there : Known K paths front
 
--- the paths with each of these moves in turn behind a beginning
-abbrev Steps : List (List Move) → (before moves : List Move) → Type 0
-Steps paths before [] = Unit {0}
-Steps paths before (m ∷ moves) = Member (before ++ m ∷ []) paths × Steps paths (before ++ m ∷ []) moves
+record Played (g : Geometry) (p : Placement) (K : List Move → Type 0) (line : Line) (paths : List (List Move))
+    : Type 0 where
+  known : LineKnown K paths line
+  each : (path : List Move) → Member path paths → PlayedFrom g p K paths path
 
-steps_left : (paths more : List (List Move)) (before moves : List Move) → Steps paths before moves
-    → Steps (paths ++ more) before moves
-steps_left paths more before [] h = tt
-steps_left paths more before (m ∷ moves) h =
-    (mem_left (before ++ m ∷ []) paths more h.0, steps_left paths more (before ++ m ∷ []) moves h.1)
+module _ (K : List Move → Type 0) where
+  known_left : (paths more : List (List Move)) (path : List Move) → Known K paths path → Known K (paths ++ more) path
+  known_left paths more path (inl k) = inl k
+  known_left paths more path (inr m) = inr (mem_left path paths more m)
 
-steps_more : (paths : List (List Move)) (before moves : List Move) (m : Move) → Steps paths before moves
-    → Member (before ++ (moves ++ m ∷ [])) paths → Steps paths before (moves ++ m ∷ [])
-steps_more paths before [] m h new = (new, tt)
-steps_more paths before (n ∷ moves) m h new = (
-  h.0,
-  steps_more paths (before ++ n ∷ []) moves m h.1
-      (subst (λ z. Member z paths) (sym (append_assoc before (n ∷ []) (moves ++ m ∷ []))) new),
-)
+  all_left : (paths more : List (List Move)) (before moves : List Move) → AllKnown K paths before moves
+      → AllKnown K (paths ++ more) before moves
+  all_left paths more before [] h = known_left paths more before h
+  all_left paths more before (m ∷ moves) h =
+      (known_left paths more before h.0, all_left paths more (before ++ m ∷ []) moves h.1)
 
-steps_fewer : (paths : List (List Move)) (before moves : List Move) (m : Move) → Steps paths before (moves ++ m ∷ [])
-    → Steps paths before moves
-steps_fewer paths before [] m h = tt
-steps_fewer paths before (n ∷ moves) m h = (h.0, steps_fewer paths (before ++ n ∷ []) moves m h.1)
+  all_append : (paths : List (List Move)) (before moves more : List Move) → AllKnown K paths before moves
+      → AllKnown K paths (before ++ moves) more → AllKnown K paths before (moves ++ more)
+  all_append paths before [] more h k = subst (λ z. AllKnown K paths z more) (append-nil before) k
+  all_append paths before (m ∷ moves) more h k = (
+    h.0,
+    all_append paths (before ++ m ∷ []) moves more h.1 (subst (λ z. AllKnown K paths z more)
+        (sym (append_assoc before (m ∷ []) moves)) k),
+  )
 
--- the last of them, if there is one
-steps_last : (paths : List (List Move)) (before moves : List Move) → Steps paths before moves
-    → (before ++ moves ≡ before) ⊎ Member (before ++ moves) paths
-steps_last paths before [] h = inl (append-nil before)
-steps_last paths before (m ∷ moves) h =
-    let joined = append_assoc before (m ∷ []) moves in
-    elim (steps_last paths (before ++ m ∷ []) moves h.1) [
-      | inl e ↦ inr (subst (λ z. Member z paths) (sym e ∙ joined) h.0)
-      | inr there ↦ inr (subst (λ z. Member z paths) joined there)
-    ]
+  all_whole : (paths : List (List Move)) (before moves : List Move) → AllKnown K paths before moves
+      → Known K paths (before ++ moves)
+  all_whole paths before [] h = subst (Known K paths) (sym (append-nil before)) h
+  all_whole paths before (m ∷ moves) h =
+      subst (Known K paths) (append_assoc before (m ∷ []) moves) (all_whole paths (before ++ m ∷ []) moves h.1)
 
-played_left : (g : Geometry) (p : Placement) (before : List Move) (paths more : List (List Move)) (path : List Move)
-    → PlayedFrom g p before paths path → PlayedFrom g p before (paths ++ more) path
-played_left g p before paths more path h = record {
-  front = h.front;
-  last = h.last;
-  is = h.is;
-  legal = h.legal;
-  there = elim h.there [ inl e ↦ inl e | inr m ↦ inr (mem_left h.front paths more m) ];
-}
+  all_front : (paths : List (List Move)) (before moves : List Move) (last : Move)
+      → AllKnown K paths before (moves ++ last ∷ []) → Known K paths (before ++ moves)
+  all_front paths before [] last h = subst (Known K paths) (sym (append-nil before)) h.0
+  all_front paths before (m ∷ moves) last h =
+      subst (Known K paths) (append_assoc before (m ∷ []) moves) (all_front paths (before ++ m ∷ []) moves last h.1)
 
--- what stands behind a beginning that is there already
-played_right : (g : Geometry) (p : Placement) (before inner : List Move) (paths more : List (List Move))
-    (path : List Move) → (inner ≡ before) ⊎ Member inner paths → PlayedFrom g p inner more path
-    → PlayedFrom g p before (paths ++ more) path
-played_right g p before inner paths more path known h = record {
-  front = h.front;
-  last = h.last;
-  is = h.is;
-  legal = h.legal;
-  there = elim h.there [
-    | inl e ↦ elim known [
-      | inl same ↦ inl (e ∙ same)
-      | inr m ↦ inr (mem_left h.front paths more (subst (λ z. Member z paths) (sym e) m))
-    ]
-    | inr m ↦ inr (mem_right h.front paths more m)
-  ];
-}
+  line_moves : (paths : List (List Move)) (kind : Kind) (before moves : List Move) (answer : Option (List Move))
+      → LineKnown K paths (goes_on kind before moves answer) → AllKnown K paths before moves
+  line_moves paths kind before moves None h = h.0
+  line_moves paths kind before moves (Some answer) h = h.0
 
--- a variation goes through its own moves, and all its paths are played
-record Played (g : Geometry) (p : Placement) (before moves : List Move) (paths : List (List Move)) : Type 0 where
-  steps : Steps paths before moves
-  each : (path : List Move) → Member path paths → PlayedFrom g p before paths path
+  line_left : (paths more : List (List Move)) (line : Line) → LineKnown K paths line → LineKnown K (paths ++ more) line
+  line_left paths more (begins front last) h =
+      (known_left paths more front h.0, known_left paths more (front ++ last ∷ []) h.1)
+  line_left paths more (goes_on kind before moves None) h = (all_left paths more before moves h.0, tt)
+  line_left paths more (goes_on kind before moves (Some answer)) h =
+      (all_left paths more before moves h.0, all_left paths more before (moves ++ answer) h.1)
 
--- a legal move is played after a variation
-played_more : (g : Geometry) (p : Placement) (before moves : List Move) (paths : List (List Move)) (m : Move)
-    → Played g p before moves paths → Legal g (after g p (before ++ moves)) m
-    → Played g p before (moves ++ m ∷ []) (paths ++ (before ++ (moves ++ m ∷ [])) ∷ [])
-played_more g p before moves paths m old legal =
-    let new : List Move = before ++ (moves ++ m ∷ []) in
-    record {
-      steps = steps_more (paths ++ new ∷ []) before moves m (steps_left paths (new ∷ []) before moves old.steps)
-          (mem_right new paths (new ∷ []) (inl refl));
-      each = λ path there. elim (mem_cases path paths (new ∷ []) there) [
-        | inl early ↦ played_left g p before paths (new ∷ []) path (old.each path early)
-        | inr (inl e) ↦ record {
-          front = before ++ moves;
-          last = m;
-          is = e ∙ sym (append_assoc before moves (m ∷ []));
-          legal = legal;
-          there = elim (steps_last paths before moves old.steps) [
-            | inl same ↦ inl same
-            | inr found ↦ inr (mem_left (before ++ moves) paths (new ∷ []) found)
-          ];
-        }
-        | inr (inr gone) ↦ absurd gone
-      ];
+  -- after moves that are added in turn
+  all_new : (paths : List (List Move)) (path more : List Move) → Known K paths path
+      → AllKnown K (paths ++ beginnings_after path more) path more
+  all_new paths path [] k = known_left paths [] path k
+  all_new paths path (m ∷ more) k =
+      let one : List Move = path ++ m ∷ [] in
+      let rest = all_new (paths ++ one ∷ []) one more (inr (mem_right one paths (one ∷ []) (inl refl))) in (
+        known_left paths (beginnings_after path (m ∷ more)) path k,
+        subst (λ z. AllKnown K z one more) (append_assoc paths (one ∷ []) (beginnings_after one more)) rest,
+      )
+
+-- what is known within parentheses is known around them
+module _ (K : List Move → Type 0) (paths more : List (List Move)) where
+  outward : (path : List Move) → Known (Known K paths) more path → Known K (paths ++ more) path
+  outward path (inl known) = known_left K paths more path known
+  outward path (inr m) = inr (mem_right path paths more m)
+
+  all_outward : (before moves : List Move) → AllKnown (Known K paths) more before moves
+      → AllKnown K (paths ++ more) before moves
+  all_outward before [] h = outward before h
+  all_outward before (m ∷ moves) h = (outward before h.0, all_outward (before ++ m ∷ []) moves h.1)
+
+-- ---- legal moves, one after another
+abbrev AllLegal : Geometry → Placement → (path moves : List Move) → Type 0
+AllLegal g p path [] = Unit {0}
+AllLegal g p path (m ∷ moves) = Legal g (after g p path) m × AllLegal g p (path ++ m ∷ []) moves
+
+module _ (g : Geometry) (p : Placement) where
+  stands_legal : {path more : List Move} {t : Token} → StandsFor g p path t more → AllLegal g p path more
+  stands_legal {path = path} (named {m = m} low is) = (read_legal g (after g p path) _ m is.named, tt)
+  stands_legal {path = path} (left_out {reply = r} {m = m} low odd is) = (
+    is.only.legal,
+    (subst (λ z. Legal g z m) (sym (after_append g p path r)) (read_legal g _ _ m is.next.named), tt),
+  )
+
+  follows_legal : {line : Line} {t : Token} {kind : Kind} {before moves more : List Move}
+      → Follows g p line t kind before moves more → AllLegal g p (before ++ moves) more
+  follows_legal (opens_variation {front = front} {m = m} is) =
+      subst (λ z. AllLegal g p z (m ∷ [])) (sym (append-nil front)) (read_legal g (after g p front) _ m is.named, tt)
+  follows_legal {before = before} {more = more} (opens_reply none is) =
+      subst (λ z. AllLegal g p z more) (sym (append-nil before)) (stands_legal is)
+  follows_legal (alone is) = stands_legal is
+  follows_legal {before = before} {moves = moves} (by_play {m = m} low is) =
+      (read_legal g (after g p (before ++ moves)) _ m is.named, tt)
+  follows_legal (after_reply none is) = stands_legal is
+  follows_legal {t = t} (left_out_again none low odd is) = stands_legal {t = t} (left_out low odd is)
+
+  module _ (K : List Move → Type 0) where
+    follows_known : {line : Line} {t : Token} {kind : Kind} {before moves more : List Move} (paths : List (List Move))
+        → Follows g p line t kind before moves more → LineKnown K paths line → AllKnown K paths before moves
+    follows_known paths (opens_variation is) h = h.0
+    follows_known paths (opens_reply none is) h = h.1
+    follows_known paths (alone is) h = h.0
+    follows_known paths (by_play low is) h = h.0
+    follows_known paths (after_reply none is) h = h.1
+    follows_known paths (left_out_again none low odd is) h = h.0
+
+    played_left : (paths more : List (List Move)) (path : List Move) → PlayedFrom g p K paths path
+        → PlayedFrom g p K (paths ++ more) path
+    played_left paths more path h = record {
+      front = h.front;
+      last = h.last;
+      is = h.is;
+      legal = h.legal;
+      there = known_left K paths more h.front h.there;
     }
 
--- the position after one more move
-after_more : (g : Geometry) (p : Placement) (before moves : List Move) (m : Move)
-    → play g (after g p (before ++ moves)) m ≡ after g p (before ++ (moves ++ m ∷ []))
-after_more g p before moves m =
-    sym (after_append g p (before ++ moves) m) ∙ ap (after g p) (append_assoc before moves (m ∷ []))
+    played_new : (paths : List (List Move)) (path more : List Move) → Known K paths path → AllLegal g p path more
+        → (each : List Move) → Member each (beginnings_after path more)
+        → PlayedFrom g p K (paths ++ beginnings_after path more) each
+    played_new paths path [] k legal each there = absurd there
+    played_new paths path (m ∷ more) k legal each (inl e) = record {
+      front = path;
+      last = m;
+      is = e;
+      legal = legal.0;
+      there = known_left K paths (beginnings_after path (m ∷ more)) path k;
+    }
+    played_new paths path (m ∷ more) k legal each (inr there) =
+        let one : List Move = path ++ m ∷ [] in
+        subst (λ z. PlayedFrom g p K z each) (append_assoc paths (one ∷ []) (beginnings_after one more))
+        (played_new (paths ++ one ∷ []) one more (inr (mem_right one paths (one ∷ []) (inl refl))) legal.1 each there)
 
-played : (g : Geometry) (p : Placement) {room : ℕ} {before moves : List Move} {ts : List Token}
-    {paths : List (List Move)} → IsVariation g p room before ts moves paths → Played g p before moves paths
-played g p empty = record { steps = tt; each = λ path m. absurd m }
-played g p (passed t h what) = played g p h
-played g p (move {before = before} {moves = moves} {paths = paths} {m = m} h short is) =
-    played_more g p before moves paths m (played g p h) (read_legal g (after g p (before ++ moves)) _ m is.named)
-played g p (forced {before = before} {moves = moves} {paths = paths} {reply = r} {m = m} h short defence is) =
-    let one = played_more g p before moves paths r (played g p h) is.only.legal in
-    let legal : Legal g (after g p (before ++ (moves ++ r ∷ []))) m =
-    subst (λ z. Legal g z m) (after_more g p before moves r) (read_legal g _ _ m is.next.named) in
-    played_more g p before (moves ++ r ∷ []) (paths ++ (before ++ (moves ++ r ∷ [])) ∷ []) m one legal
-played g p (variation {before = before} {paths = paths} {more = more} moves last opening closing h opens k closes) =
-    let outer = played g p h in
-    let inner = played g p k in
-    let known = steps_last paths before moves (steps_fewer paths before moves last outer.steps) in
+    -- a line after parentheses
+    after_known : (paths more : List (List Move)) (kind : Kind) (before moves : List Move) (last : Move)
+        (answer : Option (List Move)) (inner : Line) (many : ℕ)
+        → LineKnown K paths (goes_on kind before (moves ++ last ∷ []) answer)
+        → LineKnown (Known K paths) more inner → IsInside (before ++ moves) last inner
+        → LineKnown K (paths ++ more) (goes_on kind before (moves ++ last ∷ []) (answer_of inner many answer))
+    after_known paths more kind before moves last answer (begins front end) many h k i =
+        line_left K paths more (goes_on kind before (moves ++ last ∷ []) answer) h
+    after_known paths more kind before moves last answer (goes_on variation start own a) many h k i =
+        line_left K paths more (goes_on kind before (moves ++ last ∷ []) answer) h
+    after_known paths more kind before moves last answer (goes_on reply start own a) many h k i =
+        let now : List Move = moves ++ last ∷ [] in
+        let all : AllKnown K (paths ++ more) before now =
+        all_left K paths more before now (line_moves K paths kind before now answer h) in
+        let begin : start ≡ before ++ now = i.0 ∙ append_assoc before moves (last ∷ []) in
+        let others : AllKnown K (paths ++ more) (before ++ now) own =
+        subst (λ z. AllKnown K (paths ++ more) z own) begin
+        (all_outward K paths more start own (line_moves (Known K paths) more reply start own a k)) in
+        elim (cases_Bool (many == 1)) [
+          | inl one ↦ rw one (all, all_append K (paths ++ more) before now own all others)
+          | inr other ↦ rw other (all, tt)
+        ]
+
+played : (g : Geometry) (p : Placement) (K : List Move → Type 0) {room : ℕ} {start line : Line} {ts : List Token}
+    {paths : List (List Move)} → IsLine g p room start ts line paths → LineKnown K [] start → Played g p K line paths
+played g p K empty h = record { known = h; each = λ path there. absurd there }
+played g p K (passed t v is) h = played g p K v h
+played g p K (move {line = line} {paths = paths} {before = before} {moves = moves} {more = more} v follows) h =
+    let old = played g p K v h in
+    let path : List Move = before ++ moves in
+    let new : List (List Move) = beginnings_after path more in
+    let all = follows_known g p K paths follows old.known in
+    let here = all_whole K paths before moves all in
     record {
-      steps = steps_left paths more before (moves ++ last ∷ []) outer.steps;
+      known = (
+        all_append K (paths ++ new) before moves more (all_left K paths new before moves all)
+            (all_new K paths path more here),
+        tt,
+      );
+      each = λ each there. elim (mem_cases each paths new there) [
+        | inl early ↦ played_left g p K paths new each (old.each each early)
+        | inr late ↦ played_new g p K paths path more here (follows_legal g p follows) each late
+      ];
+    }
+played g p K (aside {inner = inner} {us = us} {paths = paths} {others = more} {kind = kind} {before = before}
+    {answer = answer} moves last opening closing v o w c) h =
+    let now : List Move = moves ++ last ∷ [] in
+    let outer = played g p K v h in
+    let all = line_moves K paths kind before now answer outer.known in
+    let front = all_front K paths before moves last all in
+    let whole = subst (Known K paths) (sym (append_assoc before moves (last ∷ [])))
+    (all_whole K paths before now all) in
+    let own = played g p (Known K paths) w (inl front, inl whole) in
+    record {
+      known = after_known g p K paths more kind before moves last answer inner (count_moves us) outer.known own.known
+          (inside g p (before ++ moves) last w (refl, refl));
       each = λ path there. elim (mem_cases path paths more there) [
-        | inl early ↦ played_left g p before paths more path (outer.each path early)
-        | inr late ↦ played_right g p before (before ++ moves) paths more path known (inner.each path late)
+        | inl early ↦ played_left g p K paths more path (outer.each path early)
+        | inr late ↦
+            let k = own.each path late in
+            record {
+              front = k.front;
+              last = k.last;
+              is = k.is;
+              legal = k.legal;
+              there = outward K paths more k.front k.there;
+            }
       ];
     }
 
@@ -177,7 +277,7 @@ pub tree_played : (g : Geometry) (p : Placement) (text : List ℕ) (tree : List 
     → (path : List Move) → Member path tree → IsPlayed g p tree path
 tree_played g p text tree is path member =
     let play = (play_of g p is.tokens is.paths is.game).1 in
-    let h = (played g p play.1).each path (in_paths path is.distinct member) in
+    let h = (played g p (λ z. z ≡ []) play.1 (inl refl, tt)).each path (in_paths path is.distinct member) in
     record {
       front = h.front;
       last = h.last;

@@ -15,7 +15,7 @@ use Rattle.dw_games.specs.inner.Keeping.{IsKept, spaces_on, row_of}
 use Rattle.dw_games.specs.inner.Sectioning.{ReadsOn, ReadsSection, EndsWell}
 use Rattle.dw_games.specs.declared.games.GameFault.{GameFault}
 use Rattle.dw_games.specs.declared.bounded_buf.BoundedBuf.{BoundedBuf}
-use Rattle.dw_games.proofs.InputLemmas.{Passes-refl, Passes-trans}
+use Rattle.dw_games.proofs.InputLemmas.{Passes-trans}
 use Rattle.dw_games.proofs.SectionLemmas.{first, cut_at, last_at, cut_games, last_games, empty_games, spaces_on-append}
 use Rattle.dw_games.proofs.SectionLemmas.{cut_ends_well, last_ends_well}
 
@@ -28,18 +28,6 @@ module _ {B S : Type 0} (g : Geometry) (supply : S → Supply) (is_failed : S �
     (pulls : S → ℕ) where
   abbrev On : Input S → Input S → BoundedBuf → BoundedBuf → BoundedBuf → BoundedBuf → SectionReader B → Type 0
   On = ReadsOn g supply is_failed pulls
-
-  pub ReadsOn-start : (old : Input S) (begun before : BoundedBuf) (reader : SectionReader B)
-      → ((over : Bool) (bytes : List ℕ) → SectionsSay g over bytes (ahead_of reader g over bytes))
-      → ahead_of reader g false [] ≡ [] → On old old begun begun before before reader
-  ReadsOn-start old begun before reader said unsaid = record {
-    passed = [];
-    passes = Passes-refl supply is_failed pulls old;
-    rows = λ limit is. is;
-    keeps = λ limit is. is;
-    said = said;
-    unsaid = unsaid;
-  }
 
   -- the next bytes are known
   pub ReadsOn-fill : (old mid now : Input S) (begun row before kept : BoundedBuf) (reader : SectionReader B)

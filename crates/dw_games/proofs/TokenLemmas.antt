@@ -82,9 +82,6 @@ lone_cross_token fresh text h =
     let some : 0 < width crosses text = some_width (width crosses text) both.0 in
     (some, lone_cross ((width_whole crosses text).1 some) (eqb-true _ 0 both.1))
 
-pub cross_within : (text : List ℕ) → width crosses text ≤ length text
-cross_within text = (width_whole crosses text).0
-
 -- a token of some bytes, by its first byte and how many follow
 pub token_front : (fresh : Bool) (text : List ℕ) (first : ℕ) (bytes : List ℕ) (n : ℕ) → text ≡ first ∷ bytes → 0 < n
     → IsToken fresh Passed (take n text) (drop n text)

@@ -10,7 +10,8 @@ use Rattle.dw_moves.specs.Moves.{Move}
 use Rattle.dw_games.specs.Walk.{PlayedTree}
 use Rattle.dw_games.specs.Tokens as of
 use Rattle.dw_games.specs.Tokens.{Token, AreTokens}
-use Rattle.dw_games.specs.Play.{IsResult, IsOver, AreComments}
+use Rattle.dw_games.specs.Play.{IsResult}
+use Rattle.dw_games.specs.Printed.{IsOver, AreComments}
 use Rattle.dw_games.specs.Movetext.{IsGame, AreDistinct, nothing, again, first}
 use Rattle.dw_games.specs.Faults.{IsFirstFault, IsAnswer, at_token, at_end, unclosed, no_move, cut_off, behind_result}
 use Rattle.dw_games.specs.inner.Ahead.{AreAhead, bytes_ahead}

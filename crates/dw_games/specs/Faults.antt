@@ -1,17 +1,15 @@
 -- The first fault of a movetext, by the grammar: a token that may not follow the tokens before.
 use Rattle.std.specs.Prelude.{◌≡◌, ◌≢◌, ◌⊎◌, ℕ, ◌+◌, ◌<◌, ◌≤◌, true, Result, Ok, Err, List, [], ◌∷◌, ◌++◌, codes}
-use Rattle.std.specs.Prelude.{length}
+use Rattle.std.specs.Prelude.{length, Option}
 use Rattle.std.proofs.Common.{zero, suc}
 use Rattle.dw_board.specs.Geometry.{Geometry}
 use Rattle.dw_board.specs.Placement.{Placement}
-use Rattle.dw_moves.specs.Moves.{Legal, Move, play}
-use Rattle.dw_notation.specs.MoveReading.{Named, Names, IsRead}
-use Rattle.dw_notation.specs.declared.read_move.MoveFault.{MoveFault}
-use Rattle.dw_notation.specs.declared.read_move.MoveFault.TheVariants as reading
+use Rattle.dw_moves.specs.Moves.{Move}
 use Rattle.dw_games.specs.Tokens.{Token, AreTokens}
-use Rattle.dw_games.specs.Play.{IsResult, IsDefence, IsOnlyMove, plain, after, IsVariation, IsPlay, IsOver}
+use Rattle.dw_games.specs.Play.{IsResult, HasForm}
+use Rattle.dw_games.specs.Printed.{Kind, Line, begins, goes_on, first_line, CannotFollow, IsLine, IsPlay, IsOver}
 use Rattle.dw_games.specs.declared.tokens.TokenKind.TheVariants.{Comment, Written, Opens, Closes, CutOff, Unknown}
-use Rattle.dw_games.specs.declared.movetext.TheConstants.{MAX_PATH, MAX_OPEN, MAX_MOVETEXT}
+use Rattle.dw_games.specs.declared.movetext.TheConstants.{MAX_OPEN, MAX_MOVETEXT}
 use Rattle.dw_games.specs.Movetext.{IsTree}
 use Rattle.dw_games.specs.Walk.{PlayedTree}
 use Rattle.dw_games.specs.declared.fault.MovetextFault.{MovetextFault}
@@ -49,28 +47,15 @@ name_of TooLarge = codes "too large"
 name_of Empty = codes "empty"
 name_of Reply = codes "reply"
 
--- These tokens have no result so far. The number says how many more variations may be opened after them; `before` are
--- the moves before the innermost open variation, and `moves` are its own.
-pub data IsOpen (g : Geometry) (p : Placement) : ℕ → List Token → (before moves : List Move) → Type 0 where
-  outermost : {ts : List Token} {moves : List Move} {paths : List (List Move)}
-      → IsVariation g p MAX_OPEN [] ts moves paths → IsOpen g p MAX_OPEN ts [] moves
-  inner : {room : ℕ} {ts us : List Token} {before others : List Move} {paths : List (List Move)}
-      (moves : List Move) (last : Move) (opening : Token)
-      → IsOpen g p (suc room) ts before (moves ++ last ∷ []) → opening.what ≡ Opens
-      → IsVariation g p room (before ++ moves) us others paths
-      → IsOpen g p room (ts ++ opening ∷ us) (before ++ moves) others
-
--- a token is no result, and its text has the form of a move
-pub record HasForm (g : Geometry) (t : Token) : Type 0 where
-  pub written : t.what ≡ Written
-  pub no_result : IsResult t → ⊥
-  pub named : Named
-  pub form : Names g (plain t.text) named
-
--- a token has the form of a move, but it names no legal move of this position, or several
-pub record IsRefused (g : Geometry) (p : Placement) (t : Token) (why : MoveFault) : Type 0 where
-  pub form : HasForm g t
-  pub refused : IsRead g p (plain t.text) (Err why)
+-- These tokens have no result so far. The number says how many more parentheses may be opened after them, and the line
+-- is that of the innermost open one.
+pub data IsOpen (g : Geometry) (p : Placement) : ℕ → List Token → Line → Type 0 where
+  outermost : {ts : List Token} {line : Line} {paths : List (List Move)} → IsLine g p MAX_OPEN first_line ts line paths
+      → IsOpen g p MAX_OPEN ts line
+  inner : {room : ℕ} {ts us : List Token} {kind : Kind} {before : List Move} {answer : Option (List Move)} {line : Line}
+      {paths : List (List Move)} (moves : List Move) (last : Move) (opening : Token)
+      → IsOpen g p (suc room) ts (goes_on kind before (moves ++ last ∷ []) answer) → opening.what ≡ Opens
+      → IsLine g p room (begins (before ++ moves) last) us line paths → IsOpen g p room (ts ++ opening ∷ us) line
 
 -- a token is neither a result nor of the form of a move
 pub record IsNeither (g : Geometry) (t : Token) : Type 0 where
@@ -82,66 +67,35 @@ pub record IsNeither (g : Geometry) (t : Token) : Type 0 where
 abbrev pub IsUnreadable : Geometry → Token → Type 0
 IsUnreadable g t = (t.what ≡ Unknown) ⊎ ((t.what ≡ CutOff) ⊎ IsNeither g t)
 
--- a text names a legal move of a position, or several
-abbrev pub IsNamed : Geometry → Placement → List ℕ → Type 0
-IsNamed g p text = ((m : Move) × IsRead g p text (Ok m)) ⊎ IsRead g p text (Err reading.Ambiguous)
-
--- a text names no legal move after any legal reply
-abbrev pub NamesNoneBehind : Geometry → Placement → List ℕ → Type 0
-NamesNoneBehind g p text = (reply : Move) → Legal g p reply
-    → IsRead g (play g p reply) text (Err reading.NoSuchMove)
-
--- two legal moves
-pub record HasTwoMoves (g : Geometry) (p : Placement) : Type 0 where
-  pub first : Move
-  pub second : Move
-  pub legal : Legal g p first
-  pub legal_too : Legal g p second
-  pub differ : first ≡ second → ⊥
+-- no move of a line precedes
+abbrev pub HasNoMove : Line → Type 0
+HasNoMove (begins front last) = Unit {0}
+HasNoMove (goes_on kind before moves answer) = moves ≡ []
 
 -- after these tokens, the next one has a fault of this kind
 pub data FaultAt (g : Geometry) (p : Placement) : List Token → Token → MovetextFaultKind → Type 0 where
-  unreadable : {room : ℕ} {ts : List Token} {before moves : List Move} {t : Token}
-      → IsOpen g p room ts before moves → IsUnreadable g t → FaultAt g p ts t NoToken
-  no_such_move : {room : ℕ} {ts : List Token} {before moves : List Move} {t : Token}
-      → IsOpen g p room ts before moves → length (before ++ moves) < MAX_PATH
-      → IsRefused g (after g p (before ++ moves)) t reading.NoSuchMove
-      → (IsDefence (before ++ moves) → NamesNoneBehind g (after g p (before ++ moves)) (plain t.text))
-      → FaultAt g p ts t NoSuchMove
-  ambiguous : {room : ℕ} {ts : List Token} {before moves : List Move} {t : Token}
-      → IsOpen g p room ts before moves → length (before ++ moves) < MAX_PATH
-      → IsRefused g (after g p (before ++ moves)) t reading.Ambiguous → FaultAt g p ts t Ambiguous
-  ambiguous_after_reply : {room : ℕ} {ts : List Token} {before moves : List Move} {t : Token} (reply : Move)
-      → IsOpen g p room ts before moves → length (before ++ moves) < MAX_PATH → IsDefence (before ++ moves)
-      → IsRefused g (after g p (before ++ moves)) t reading.NoSuchMove
-      → IsOnlyMove g (after g p (before ++ moves)) reply
-      → IsRead g (play g (after g p (before ++ moves)) reply) (plain t.text) (Err reading.Ambiguous)
-      → FaultAt g p ts t Ambiguous
-  no_reply : {room : ℕ} {ts : List Token} {before moves : List Move} {t : Token} (reply : Move)
-      → IsOpen g p room ts before moves → length (before ++ moves) < MAX_PATH → IsDefence (before ++ moves)
-      → IsRefused g (after g p (before ++ moves)) t reading.NoSuchMove → HasTwoMoves g (after g p (before ++ moves))
-      → Legal g (after g p (before ++ moves)) reply
-      → IsNamed g (play g (after g p (before ++ moves)) reply) (plain t.text) → FaultAt g p ts t Reply
-  no_move_before : {room : ℕ} {ts : List Token} {before : List Move} {t : Token} → IsOpen g p room ts before []
+  unreadable : {room : ℕ} {ts : List Token} {line : Line} {t : Token} → IsOpen g p room ts line → IsUnreadable g t
+      → FaultAt g p ts t NoToken
+  refused : {room : ℕ} {ts : List Token} {line : Line} {t : Token} {what : MovetextFaultKind} → IsOpen g p room ts line
+      → CannotFollow g p line t what → FaultAt g p ts t what
+  no_move_before : {room : ℕ} {ts : List Token} {line : Line} {t : Token} → IsOpen g p room ts line → HasNoMove line
       → t.what ≡ Opens → FaultAt g p ts t Variation
   none_open : {ts : List Token} {paths : List (List Move)} {t : Token} → IsPlay g p ts paths → t.what ≡ Closes
       → FaultAt g p ts t Variation
-  within : {room : ℕ} {ts : List Token} {before moves : List Move} {t : Token} → IsOpen g p room ts before moves
-      → room < MAX_OPEN → IsResult t → FaultAt g p ts t Unclosed
+  within : {room : ℕ} {ts : List Token} {line : Line} {t : Token} → IsOpen g p room ts line → room < MAX_OPEN
+      → IsResult t → FaultAt g p ts t Unclosed
   behind_result : {ts : List Token} {paths : List (List Move)} {t : Token} → IsOver g p ts paths → t.what ≢ Comment
       → t.what ≢ CutOff → FaultAt g p ts t Rest
   cut_off : {ts : List Token} {paths : List (List Move)} {t : Token} → IsOver g p ts paths → t.what ≡ CutOff
       → FaultAt g p ts t NoToken
-  too_deep : {ts : List Token} {before : List Move} {t : Token} (moves : List Move) (last : Move)
-      → IsOpen g p zero ts before (moves ++ last ∷ []) → t.what ≡ Opens → FaultAt g p ts t TooDeep
-  too_long : {room : ℕ} {ts : List Token} {before moves : List Move} {t : Token}
-      → IsOpen g p room ts before moves → length (before ++ moves) ≡ MAX_PATH → HasForm g t
-      → FaultAt g p ts t TooLong
+  too_deep : {ts : List Token} {kind : Kind} {before : List Move} {answer : Option (List Move)} {t : Token}
+      (moves : List Move) (last : Move) → IsOpen g p zero ts (goes_on kind before (moves ++ last ∷ []) answer)
+      → t.what ≡ Opens → FaultAt g p ts t TooDeep
 
 -- after all tokens something is missing: the end of a variation, or any move
 pub data FaultAtEnd (g : Geometry) (p : Placement) : List Token → MovetextFaultKind → Type 0 where
-  unclosed : {room : ℕ} {ts : List Token} {before moves : List Move} → IsOpen g p room ts before moves
-      → room < MAX_OPEN → FaultAtEnd g p ts Unclosed
+  unclosed : {room : ℕ} {ts : List Token} {line : Line} → IsOpen g p room ts line → room < MAX_OPEN
+      → FaultAtEnd g p ts Unclosed
   no_move : {ts : List Token} → IsPlay g p ts [] ⊎ IsOver g p ts [] → FaultAtEnd g p ts Empty
 
 -- The first fault of a text, and its place: that of the token at fault, or the place after the end of the text. A text

@@ -1,10 +1,13 @@
 pub mod Signs
 pub mod Tokens
 pub mod Play
+pub mod Printed
 pub mod Movetext
 pub mod Faults
 pub mod Lines
 pub mod Laws
+pub mod Rules
+pub mod Pdn
 pub mod Walk
 pub mod Games
 pub mod GameReading

@@ -1,11 +1,12 @@
 -- A written line: a movetext without variations, of an odd number of moves.
-use Rattle.std.specs.Prelude.{◌≡◌, ℕ, ◌+◌, ◌%◌, ◌<◌, ◌≤◌, true, List, [], ◌∷◌, ◌++◌, length, codes}
+use Rattle.std.specs.Prelude.{None, ◌≡◌, ℕ, ◌+◌, ◌%◌, ◌<◌, ◌≤◌, true, List, [], ◌∷◌, ◌++◌, length, codes}
 use Rattle.std.proofs.Common.{zero}
 use Rattle.dw_board.specs.Geometry.{Geometry}
 use Rattle.dw_board.specs.Placement.{Placement}
 use Rattle.dw_moves.specs.Moves.{Move}
 use Rattle.dw_games.specs.Tokens.{Token, AreTokens}
-use Rattle.dw_games.specs.Play.{IsResult, IsVariation, AreComments}
+use Rattle.dw_games.specs.Play.{IsResult}
+use Rattle.dw_games.specs.Printed.{first_line, goes_on, variation, IsLine, AreComments}
 use Rattle.dw_games.specs.Faults.{FaultAt, name_of, number_of}
 use Rattle.dw_games.specs.declared.tokens.TokenKind.TheVariants.{Opens}
 use Rattle.dw_games.specs.declared.movetext.TheConstants.{MAX_MOVETEXT}
@@ -18,9 +19,10 @@ use Rattle.dw_games.specs.declared.fault.LineFaultKind.TheVariants.{Movetext, Ev
 use Rattle.dw_games.specs.declared.fault.LineFault.{LineFault}
 use Rattle.dw_games.specs.declared.fault.LineFault.TheVariants.{Refused, Memory}
 
--- tokens of play in which no variation may be open, and its moves
+-- tokens of play in which no parenthesis may be open, and its moves
 abbrev pub IsStraight : Geometry → Placement → List Token → List Move → Type 0
-IsStraight g p ts moves = (paths : List (List Move)) × IsVariation g p zero [] ts moves paths
+IsStraight g p ts moves =
+    (paths : List (List Move)) × IsLine g p zero first_line ts (goes_on variation [] moves None) paths
 
 -- play without variations: without a result, or with one and then comments alone
 pub data IsPlainGame (g : Geometry) (p : Placement) : List Token → (moves : List Move) → Type 0 where

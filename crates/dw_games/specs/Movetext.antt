@@ -5,7 +5,7 @@ use Rattle.dw_board.specs.Placement.{Placement}
 use Rattle.dw_board.specs.Lists.{Member}
 use Rattle.dw_moves.specs.Moves.{Move}
 use Rattle.dw_games.specs.Tokens.{Token, AreTokens}
-use Rattle.dw_games.specs.Play.{IsPlay, IsOver}
+use Rattle.dw_games.specs.Printed.{IsPlay, IsOver}
 use Rattle.dw_games.specs.declared.movetext.TheConstants.{MAX_MOVETEXT}
 
 -- the play, without a result or with one

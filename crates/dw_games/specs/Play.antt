@@ -1,20 +1,22 @@
--- The play of a movetext: its variations, as a grammar on its tokens, and the paths that they go through.
+-- Moves, results and marks of a movetext: what a token of a move stands for after the moves before it.
 use Rattle.std.specs.Prelude.{Bool, ◌≡◌, ◌⊎◌, ℕ, ◌%◌, ◌==◌, ◌<◌, if◌then◌else◌, List, [], ◌∷◌, ◌++◌, length, codes}
 use Rattle.std.specs.Prelude.{Ok, Err}
 use Rattle.std.specs.List.{list_any}
-use Rattle.std.proofs.Common.{suc}
 use Rattle.dw_board.specs.Geometry.{Geometry}
 use Rattle.dw_board.specs.Placement.{Placement}
 use Rattle.dw_board.specs.FenTokens.{colon, dash}
 use Rattle.dw_board.specs.Lists.{Member}
 use Rattle.dw_moves.specs.Moves.{Legal, Move, play}
 use Rattle.dw_notation.specs.Text.{cross}
-use Rattle.dw_notation.specs.MoveReading.{IsRead}
-use Rattle.dw_notation.specs.declared.read_move.MoveFault.TheVariants.{NoSuchMove}
+use Rattle.dw_notation.specs.MoveReading.{Named, Names, IsRead}
+use Rattle.dw_notation.specs.declared.read_move.MoveFault.{MoveFault}
+use Rattle.dw_notation.specs.declared.read_move.MoveFault.TheVariants as reading
 use Rattle.dw_games.specs.Tokens.{Token}
 use Rattle.dw_games.specs.declared.tokens.TokenKind.{TokenKind}
-use Rattle.dw_games.specs.declared.tokens.TokenKind.TheVariants.{Comment, Passed, Written, Opens, Closes}
-use Rattle.dw_games.specs.declared.movetext.TheConstants.{MAX_PATH, MAX_OPEN}
+use Rattle.dw_games.specs.declared.tokens.TokenKind.TheVariants.{Comment, Passed, Written}
+use Rattle.dw_games.specs.declared.fault.MovetextFaultKind.{MovetextFaultKind}
+use Rattle.dw_games.specs.declared.fault.MovetextFaultKind.TheVariants.{NoSuchMove, Ambiguous, TooLong, Reply}
+use Rattle.dw_games.specs.declared.movetext.TheConstants.{MAX_PATH}
 
 -- the texts of results
 abbrev pub results : List (List ℕ)
@@ -63,53 +65,66 @@ pub record IsOnlyMove (g : Geometry) (p : Placement) (m : Move) : Type 0 where
 
 -- a token leaves a reply out: it names no legal move here, but this one after the only legal reply
 pub record IsLeftOut (g : Geometry) (p : Placement) (t : Token) (reply m : Move) : Type 0 where
-  pub none : IsRead g p (plain t.text) (Err NoSuchMove)
+  pub none : IsRead g p (plain t.text) (Err reading.NoSuchMove)
   pub only : IsOnlyMove g p reply
   pub next : IsMove g (play g p reply) t m
 
--- a token without effect within a variation: a comment, a number or a mark
+-- the beginnings of moves after other moves, each one move longer
+abbrev pub beginnings_after : List Move → List Move → List (List Move)
+beginnings_after before [] = []
+beginnings_after before (m ∷ moves) = (before ++ m ∷ []) ∷ beginnings_after (before ++ m ∷ []) moves
+
+-- after a path a token stands for a move that it names, or for a reply that it leaves out and the move after it
+pub data StandsFor (g : Geometry) (p : Placement) (path : List Move) (t : Token) : List Move → Type 0 where
+  named : {m : Move} → length path < MAX_PATH → IsMove g (after g p path) t m → StandsFor g p path t (m ∷ [])
+  left_out : {reply m : Move} → length path < MAX_PATH → IsDefence path → IsLeftOut g (after g p path) t reply m
+      → StandsFor g p path t (reply ∷ m ∷ [])
+
+-- a token is no result, and its text has the form of a move
+pub record HasForm (g : Geometry) (t : Token) : Type 0 where
+  pub written : t.what ≡ Written
+  pub no_result : IsResult t → ⊥
+  pub named : Named
+  pub form : Names g (plain t.text) named
+
+-- a token has the form of a move, but it names no legal move of this position, or several
+pub record IsRefused (g : Geometry) (p : Placement) (t : Token) (why : MoveFault) : Type 0 where
+  pub form : HasForm g t
+  pub refused : IsRead g p (plain t.text) (Err why)
+
+-- a text names a legal move of a position, or several
+abbrev pub IsNamed : Geometry → Placement → List ℕ → Type 0
+IsNamed g p text = ((m : Move) × IsRead g p text (Ok m)) ⊎ IsRead g p text (Err reading.Ambiguous)
+
+-- a text names no legal move after any legal reply
+abbrev pub NamesNoneBehind : Geometry → Placement → List ℕ → Type 0
+NamesNoneBehind g p text = (reply : Move) → Legal g p reply
+    → IsRead g (play g p reply) text (Err reading.NoSuchMove)
+
+-- two legal moves
+pub record HasTwoMoves (g : Geometry) (p : Placement) : Type 0 where
+  pub first : Move
+  pub second : Move
+  pub legal : Legal g p first
+  pub legal_too : Legal g p second
+  pub differ : first ≡ second → ⊥
+
+-- after a path a token of the form of a move stands for nothing, and has a fault of this kind
+pub data IsRefusedAfter (g : Geometry) (p : Placement) (path : List Move) (t : Token) : MovetextFaultKind → Type 0 where
+  no_such_move : length path < MAX_PATH → IsRefused g (after g p path) t reading.NoSuchMove
+      → (IsDefence path → NamesNoneBehind g (after g p path) (plain t.text)) → IsRefusedAfter g p path t NoSuchMove
+  ambiguous : length path < MAX_PATH → IsRefused g (after g p path) t reading.Ambiguous
+      → IsRefusedAfter g p path t Ambiguous
+  ambiguous_after_reply : (reply : Move) → length path < MAX_PATH → IsDefence path
+      → IsRefused g (after g p path) t reading.NoSuchMove → IsOnlyMove g (after g p path) reply
+      → IsRead g (play g (after g p path) reply) (plain t.text) (Err reading.Ambiguous)
+      → IsRefusedAfter g p path t Ambiguous
+  no_reply : (reply : Move) → length path < MAX_PATH → IsDefence path
+      → IsRefused g (after g p path) t reading.NoSuchMove → HasTwoMoves g (after g p path)
+      → Legal g (after g p path) reply → IsNamed g (play g (after g p path) reply) (plain t.text)
+      → IsRefusedAfter g p path t Reply
+  too_long : length path ≡ MAX_PATH → HasForm g t → IsRefusedAfter g p path t TooLong
+
+-- a token without effect: a comment, a number or a mark
 abbrev pub IsPassed : TokenKind → Type 0
 IsPassed what = (what ≡ Comment) ⊎ (what ≡ Passed)
-
--- A variation: the number of variations that may be open in it, the moves before it, its tokens, its own moves, and all
--- paths through it, in turn. It is empty, or a variation followed by a token without effect, or by a move, or by a move
--- before which a reply is left out, or by another variation in parentheses, which begins before the last move.
-pub data IsVariation (g : Geometry) (p : Placement)
-    : ℕ → (before : List Move) → List Token → (moves : List Move) → (paths : List (List Move)) → Type 0 where
-  empty : {room : ℕ} {before : List Move} → IsVariation g p room before [] [] []
-  passed : {room : ℕ} {before moves : List Move} {ts : List Token} {paths : List (List Move)} (t : Token)
-      → IsVariation g p room before ts moves paths → IsPassed t.what
-      → IsVariation g p room before (ts ++ t ∷ []) moves paths
-  move : {room : ℕ} {before moves : List Move} {ts : List Token} {paths : List (List Move)} {t : Token} {m : Move}
-      → IsVariation g p room before ts moves paths → length (before ++ moves) < MAX_PATH
-      → IsMove g (after g p (before ++ moves)) t m
-      → IsVariation g p room before (ts ++ t ∷ []) (moves ++ m ∷ []) (paths ++ (before ++ (moves ++ m ∷ [])) ∷ [])
-  forced : {room : ℕ} {before moves : List Move} {ts : List Token} {paths : List (List Move)} {t : Token}
-      {reply m : Move} → IsVariation g p room before ts moves paths → length (before ++ moves) < MAX_PATH
-      → IsDefence (before ++ moves) → IsLeftOut g (after g p (before ++ moves)) t reply m
-      → IsVariation g p room before (ts ++ t ∷ []) ((moves ++ reply ∷ []) ++ m ∷ [])
-      ((paths ++ (before ++ (moves ++ reply ∷ [])) ∷ []) ++ (before ++ ((moves ++ reply ∷ []) ++ m ∷ [])) ∷ [])
-  variation : {room : ℕ} {before others : List Move} {ts us : List Token} {paths more : List (List Move)}
-      (moves : List Move) (last : Move) (opening closing : Token)
-      → IsVariation g p (suc room) before ts (moves ++ last ∷ []) paths → opening.what ≡ Opens
-      → IsVariation g p room (before ++ moves) us others more → closing.what ≡ Closes
-      → IsVariation g p (suc room) before (ts ++ opening ∷ (us ++ closing ∷ [])) (moves ++ last ∷ []) (paths ++ more)
-
--- comments alone
-abbrev pub AreComments : List Token → Type 0
-AreComments [] = Unit {0}
-AreComments (t ∷ ts) = (t.what ≡ Comment) × AreComments ts
-
--- the play that is not within parentheses, and the paths that it goes through
-abbrev pub IsPlay : Geometry → Placement → List Token → List (List Move) → Type 0
-IsPlay g p ts paths = (moves : List Move) × IsVariation g p MAX_OPEN [] ts moves paths
-
--- the play with its result, and then comments alone
-pub record IsOver (g : Geometry) (p : Placement) (ts : List Token) (paths : List (List Move)) : Type 0 where
-  pub front : List Token
-  pub result : Token
-  pub comments : List Token
-  pub played : IsPlay g p front paths
-  pub is_result : IsResult result
-  pub are_comments : AreComments comments
-  pub joined : ts ≡ front ++ result ∷ comments

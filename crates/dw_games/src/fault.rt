@@ -18,13 +18,13 @@ pub enum MovetextFaultKind {
     NoSuchMove,
     /// Several legal moves have this text.
     Ambiguous,
-    /// A `(` before the first move of its variation, or a `)` while no variation is open.
+    /// A `(` before the first move of its line, or a `)` while no parenthesis is open.
     Variation,
-    /// The text ends, or its result comes, within a variation.
+    /// The text ends, or its result comes, within parentheses.
     Unclosed,
     /// Something else than a comment follows the result.
     Rest,
-    /// More than 40 variations are open.
+    /// More than 40 parentheses are open.
     TooDeep,
     /// The 40th move of a path.
     TooLong,

@@ -1,6 +1,8 @@
 //! Laws of the definitions, each the contract of a function that does nothing.
 ghost use Rattle.dw_games.specs.GameLaws.{GamesSayProblems, GamesTellSections, TextsHaveGames, PrefixIsEnough};
 ghost use Rattle.dw_games.specs.Laws.{OneRow, OneAnswer, OneLine, TreesArePlayed};
+ghost use Rattle.dw_games.specs.Pdn.{PdnIsRead};
+ghost use Rattle.dw_games.specs.Rules.{FitsOneRule, NamesOneSide};
 ghost use Rattle.dw_games.specs.TagRowLaws.{OneRowOfTags, SectionsHaveTheirTags};
 
 /// Each text has exactly one row of tokens.
@@ -61,4 +63,23 @@ pub fn prefix_is_enough()
 /// Each path of a tree that is read at a position can be played from it, and its beginnings stand in the tree too.
 pub fn trees_are_played()
     ensures { TreesArePlayed }
+{}
+
+/// No text names a legal move of a position, and one after some legal move of it.
+pub fn names_one_side()
+    ensures { NamesOneSide }
+{
+    dw_notation::laws::texts_have_one_answer();
+}
+
+/// No token fits two of the rules by which it may stand for moves at a position.
+pub fn fits_one_rule()
+    ensures { FitsOneRule }
+{
+    dw_notation::laws::texts_have_one_answer();
+}
+
+/// Play as PDN has it, without replies in parentheses, is read as play with the same paths.
+pub fn pdn_is_read()
+    ensures { PdnIsRead }
 {}

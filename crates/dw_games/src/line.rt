@@ -2,7 +2,8 @@
 ghost use Rattle.std.specs.Prelude.{◌≡◌, ◌≤◌, ◌↔◌, ◌%◌, [], length, MatchResult, IsTrue};
 ghost use Rattle.dw_games.specs.Lines.{IsWrittenLine, IsLineRefusal};
 ghost use Rattle.dw_games.specs.inner.Reading.{IsReading, HasRead};
-ghost use Rattle.dw_games.specs.inner.LineReading.{LineHasEnded, IsNoOddNumber, beginnings_after};
+ghost use Rattle.dw_games.specs.Play.{beginnings_after};
+ghost use Rattle.dw_games.specs.inner.LineReading.{LineHasEnded, IsNoOddNumber};
 
 use crate::fault::{LineFault, LineFaultKind, MovetextFault, MovetextFaultKind};
 use crate::movetext::{MAX_MOVETEXT, MAX_PATH, behind, read_comments};

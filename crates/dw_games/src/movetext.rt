@@ -17,7 +17,7 @@ pub const MAX_MOVETEXT: usize = 1_048_576;
 /// The most moves of a path, 39: those of the longest line.
 pub const MAX_PATH: usize = MAX_MOVES;
 
-/// The most variations that may be open at once.
+/// The most parentheses that may be open at once.
 pub const MAX_OPEN: usize = 40;
 
 /// Reads the movetext of a solution to a position: the tree of its moves, or the first fault. By `laws::one_answer` a

@@ -1,13 +1,15 @@
 //! Reading a movetext token by token.
 ghost use Rattle.std.specs.Prelude.{◌≡◌, ◌↔◌, ◌≤◌, ◌<◌, [], true, false, Bool};
-ghost use Rattle.std.specs.Prelude.{Result, Ok, Err, MatchOption, OnOk, length, ◌+◌, ◌%◌, ◌∷◌};
+ghost use Rattle.std.specs.Prelude.{Result, Ok, Err, MatchOption, IfOk, length, ◌%◌, ◌∷◌, ◌++◌, Some, None};
 ghost use Rattle.std.specs.Prelude.{IsTrue};
 ghost use Rattle.dw_board.specs.Lists.{Member};
 ghost use Rattle.dw_notation.specs.MoveReading.{IsRead};
 ghost use Rattle.dw_moves.specs.Moves.{Legal};
 ghost use Rattle.dw_moves.specs.Moves as of;
 ghost use Rattle.dw_games.specs.inner.Ahead.{token_value};
-ghost use Rattle.dw_games.specs.inner.Reading.{IsForcedOr, IsSearched};
+ghost use Rattle.dw_games.specs.inner.Reading.{CanNote, CanNoteStep, HasNoted, HasNotedStep, IsAt, IsCursor, is_reply};
+ghost use Rattle.dw_games.specs.inner.Reading.{IsForcedOr, IsFoundOr, IsMissedAt, IsSearched, IsStepAt, moves_of};
+ghost use Rattle.dw_games.specs.Printed.{begins, goes_on};
 ghost use Rattle.dw_games.specs.inner.Refusals.{refusal_of, searched_of};
 ghost use Rattle.dw_games.specs.Play.{IsResult, IsOnlyMove, is_leading, plain, plain_byte, results};
 
@@ -32,32 +34,119 @@ struct Cursor<B: Board> {
     moves: usize,
 }
 
-/// An open variation: its present place, and the place before its last move, if it has one.
+/// An open line: the main line, or one in parentheses.
 #[derive(Clone, Copy)]
 struct OpenLine<B: Board> {
+    /// The place after its last move, or where it begins.
     now: Cursor<B>,
+    /// The place before its last move, if it has one.
     before: Option<Cursor<B>>,
+    /// In parentheses without a move so far, the place after the move that they follow. `now` is before that move.
+    behind: Option<Cursor<B>>,
+    /// The place after a reply in parentheses that follows the last move, if that reply is one move token.
+    answer: Option<Cursor<B>>,
+    /// Whether it is a reply in parentheses.
+    is_reply: bool,
+    /// In parentheses, whether exactly one move token was read.
+    is_single: bool,
 }
 
 /// What a token stands for: the move that it names, or the only reply, which it leaves out, and the move after that.
+#[derive(Clone, Copy)]
 enum Step<B: Board> {
     Played(Move<B>),
     Forced(Move<B>, Move<B>),
 }
 
+/// How a token goes on with a line: from a place, by a step, and whether the line is a reply in parentheses.
+#[derive(Clone, Copy)]
+struct Found<B: Board> {
+    from: Cursor<B>,
+    step: Step<B>,
+    is_reply: bool,
+}
+
 impl<B: Board> OpenLine<B> {
-    /// Returns a variation without moves.
-    fn from(now: Cursor<B>) -> Self
-        ensures { result ≡ record { now = now; before = None } }
+    ghost use Rattle.dw_games.specs.inner.Reading.{answer_after, line_after};
+
+    /// Returns the main line without moves.
+    fn main(now: Cursor<B>) -> Self
+        ensures { result ≡ record {
+          now = now;
+          before = None;
+          behind = None;
+          answer = None;
+          is_reply = false;
+          is_single = false;
+        } }
     {
-        OpenLine { now, before: None }
+        OpenLine {
+            now,
+            before: None,
+            behind: None,
+            answer: None,
+            is_reply: false,
+            is_single: false,
+        }
+    }
+
+    /// Returns a line in parentheses without moves, between the places before and after the move that they follow.
+    fn in_parentheses(now: Cursor<B>, behind: Cursor<B>) -> Self
+        ensures { result ≡ record {
+          now = now;
+          before = None;
+          behind = Some behind;
+          answer = None;
+          is_reply = false;
+          is_single = false;
+        } }
+    {
+        OpenLine {
+            now,
+            before: None,
+            behind: Some(behind),
+            answer: None,
+            is_reply: false,
+            is_single: false,
+        }
+    }
+
+    /// Returns the line after one in parentheses. The last reply counts, and parentheses without a move say nothing.
+    fn after(&self, inner: &OpenLine<B>) -> Self
+        ensures { result ≡ line_after self.entry.now inner.entry.now }
+    {
+        if inner.behind.is_some() {
+            return *self;
+        }
+        OpenLine {
+            now: self.now,
+            before: self.before,
+            behind: self.behind,
+            answer: self.answer_after(inner),
+            is_reply: self.is_reply,
+            is_single: false,
+        }
+    }
+
+    /// Returns the place after the reply that counts after parentheses with a move.
+    fn answer_after(&self, inner: &OpenLine<B>) -> Option<Cursor<B>>
+        ensures { result ≡ answer_after self.entry.now inner.entry.now }
+    {
+        if !inner.is_reply {
+            return self.answer;
+        }
+        if inner.is_single {
+            Some(inner.now)
+        } else {
+            None
+        }
     }
 }
 
-/// A variation on the empty board, to fill an array with.
+/// A line on the empty board, to fill an array with.
 impl<B: Board> Default for OpenLine<B> {
     fn default() -> Self {
-        OpenLine::from(Cursor {
+        OpenLine::main(Cursor {
             node: None,
             position: Position::empty(Side::White),
             moves: 0,
@@ -65,7 +154,7 @@ impl<B: Board> Default for OpenLine<B> {
     }
 }
 
-/// The tree of the moves that were read, the innermost variation that is open, and those around it.
+/// The tree of the moves that were read, the innermost line that is open, and those around it.
 #[derive(Drop)]
 pub(crate) struct Reader<B: Board> {
     alloc: Global,
@@ -75,16 +164,16 @@ pub(crate) struct Reader<B: Board> {
 }
 
 impl<B: Board> Reader<B> {
-    ghost use Rattle.dw_games.specs.inner.Reading.{CanNote, HasNoted, HasRead, IsReading, IsStepOf, IsTaken};
+    ghost use Rattle.dw_games.specs.inner.Reading.{HasRead, IsReading, IsFoundOr, IsTaken};
 
-    /// Makes a reader at the start, with no open variation.
+    /// Makes a reader at the start, with no open parenthesis.
     pub(crate) fn new(alloc: Global, position: Position<B>) -> Self
         ensures { HasRead B.geometry position [] result }
     {
         Reader {
             alloc,
             tree: Tree::new(alloc, position),
-            line: OpenLine::from(Cursor {
+            line: OpenLine::main(Cursor {
                 node: None,
                 position,
                 moves: 0,
@@ -93,7 +182,7 @@ impl<B: Board> Reader<B> {
         }
     }
 
-    /// Returns whether a variation in parentheses is open.
+    /// Returns whether a parenthesis is open.
     pub(crate) fn is_within(&self) -> bool
         ensures { IsTrue result ↔ (0 < length self.now.outer.items) }
     {
@@ -129,7 +218,7 @@ impl<B: Board> Reader<B> {
         }
     }
 
-    /// Begins a variation before the last move.
+    /// Begins a parenthesis after the last move.
     fn open(&mut self, token: Token<'_>) -> Result<bool, MovetextFault>
         requires { token.what ≡ TokenKind.Opens }
         ensures { (p : _) (ts : _) → HasRead B.geometry p ts self.old
@@ -142,11 +231,11 @@ impl<B: Board> Reader<B> {
             return Err(token.fault(MovetextFaultKind::TooDeep));
         }
         self.outer.push(self.line);
-        self.line = OpenLine::from(before);
+        self.line = OpenLine::in_parentheses(before, self.line.now);
         Ok(false)
     }
 
-    /// Goes back to the variation around this one.
+    /// Goes back to the line around this one.
     fn close(&mut self, token: Token<'_>) -> Result<bool, MovetextFault>
         requires { token.what ≡ TokenKind.Closes }
         ensures { (p : _) (ts : _) → HasRead B.geometry p ts self.old
@@ -155,7 +244,7 @@ impl<B: Board> Reader<B> {
         let Some(line) = self.outer.pop() else {
             return Err(token.fault(MovetextFaultKind::Variation));
         };
-        self.line = line;
+        self.line = line.after(&self.line);
         Ok(false)
     }
 
@@ -180,59 +269,229 @@ impl<B: Board> Reader<B> {
         ensures { (p : _) (ts : _) → HasRead B.geometry p ts self.old
             → IsTaken B.geometry p ts (token_value token.entry) self.new result }
     {
-        match self.step_of(token)? {
-            Step::Played(mv) => {
-                self.note(&mv)?;
-                Ok(false)
-            }
-            Step::Forced(reply, mv) => {
-                self.note(&reply)?;
-                self.note(&mv)?;
-                Ok(false)
-            }
-        }
-    }
-
-    /// Notes a legal move in the tree, and goes on after it.
-    fn note(&mut self, mv: &Move<B>) -> Result<(), AllocError>
-        requires { CanNote B.geometry self.old mv.now }
-        ensures { OnOk result (HasNoted B.geometry self.old self.new mv.now) }
-    {
-        let now = self.line.now;
-        let position = play(&now.position, mv);
-        let node = self.tree.note(now.node, mv, &position)?;
+        let found = self.step_of(token)?;
+        let (before, now) = note_step(&mut self.tree, &found.from, &found.step)?;
         self.line = OpenLine {
-            now: Cursor {
-                node: Some(node),
-                position,
-                moves: now.moves + 1,
-            },
-            before: Some(now),
+            now,
+            before: Some(before),
+            behind: None,
+            answer: None,
+            is_reply: found.is_reply,
+            is_single: self.line.behind.is_some(),
         };
-        Ok(())
+        Ok(false)
     }
 
-    /// Returns the moves that a token stands for, if the path may have more.
-    fn step_of(&self, token: Token<'_>) -> Result<Step<B>, MovetextFault>
+    /// Returns how a token goes on with the innermost line.
+    fn step_of(&self, token: Token<'_>) -> Result<Found<B>, MovetextFault>
         requires reading { IsReading B.geometry self.now }
         requires written { token.what ≡ TokenKind.Written }
         requires no_result { IsResult (token_value token) → ⊥ }
-        ensures { (p : _) (ts : _) → HasRead B.geometry p ts self.now
-            → IsStepOf B.geometry p ts (token_value token.entry) self.now result }
+        ensures { (p : _) (ts : _) (h : HasRead B.geometry p ts self.now)
+            → IsFoundOr B.geometry p self.now.tree.paths h.line (token_value token.entry) result }
     {
-        let now = &self.line.now;
-        let is_full = now.moves >= MAX_PATH;
-        match move_named(self.alloc, &now.position, token.text) {
-            Ok(mv) if !is_full => Ok(Step::Played(mv)),
-            Ok(_) => Err(token.fault(MovetextFaultKind::TooLong)),
-            Err(why) => {
-                if may_be_left_out(why, is_full, now.moves) {
-                    forced_step(self.alloc, &now.position, token)
-                } else {
-                    Err(refusal(token, is_full, why))
-                }
-            }
+        let line = &self.line;
+        if let Some(behind) = line.behind {
+            return first_step(self.alloc, &line.now, &behind, token);
         }
+        if let Some(answer) = line.answer {
+            return step_behind(self.alloc, line, &answer, token);
+        }
+        Ok(Found {
+            from: line.now,
+            step: step_at(self.alloc, &line.now, token)?,
+            is_reply: line.is_reply,
+        })
+    }
+}
+
+/// Notes the moves of a step after a place of a tree, and returns the places before and after the last one.
+fn note_step<B: Board>(
+    tree: &mut Tree<B>,
+    from: &Cursor<B>,
+    step: &Step<B>,
+) -> Result<(Cursor<B>, Cursor<B>), AllocError>
+    requires { CanNoteStep B.geometry tree.old from.now step.now }
+    ensures { IfOk result (λ places. (p : _) (path : _) → tree.old.start ≡ p
+        → IsCursor B.geometry p tree.old.paths from.now path
+        → HasNotedStep B.geometry tree.old tree.new path (moves_of step.now) places.0 places.1) }
+{
+    match step {
+        Step::Played(mv) => Ok((*from, note(tree, from, mv)?)),
+        Step::Forced(reply, mv) => {
+            let middle = note(tree, from, reply)?;
+            let now = note(tree, &middle, mv)?;
+            Ok((middle, now))
+        }
+    }
+}
+
+/// Notes a legal move after a place of a tree, and returns the place after it.
+fn note<B: Board>(
+    tree: &mut Tree<B>,
+    from: &Cursor<B>,
+    mv: &Move<B>,
+) -> Result<Cursor<B>, AllocError>
+    requires { CanNote B.geometry tree.old from.now mv.now }
+    ensures { IfOk result (λ to. (p : _) (path : _) → tree.old.start ≡ p
+        → IsCursor B.geometry p tree.old.paths from.now path
+        → HasNoted B.geometry tree.old tree.new path mv.now to) }
+{
+    let position = play(&from.position, mv);
+    let node = tree.note(from.node, mv, &position)?;
+    Ok(Cursor {
+        node: Some(node),
+        position,
+        moves: from.moves + 1,
+    })
+}
+
+/// Returns how the first move token in parentheses goes on: as a variation, from the place before the move that they
+/// follow, or else as a reply, from the place after it.
+fn first_step<B: Board>(
+    alloc: Global,
+    before: &Cursor<B>,
+    behind: &Cursor<B>,
+    token: Token<'_>,
+) -> Result<Found<B>, MovetextFault>
+    requires short { before.now.moves < MAX_PATH }
+    requires room { behind.now.moves ≤ MAX_PATH }
+    requires written { token.what ≡ TokenKind.Written }
+    requires no_result { IsResult (token_value token) → ⊥ }
+    ensures { (p : _) (tree : _) (front : _) (last : _) → IsCursor B.geometry p tree before.now front
+        → IsCursor B.geometry p tree behind.now (front ++ last ∷ [])
+        → IsFoundOr B.geometry p tree (begins front last) (token_value token.entry) result }
+{
+    match move_named(alloc, &before.position, token.text) {
+        Ok(mv) => Ok(Found {
+            from: *before,
+            step: Step::Played(mv),
+            is_reply: false,
+        }),
+        Err(MoveFault::NoSuchMove) => Ok(Found {
+            from: *behind,
+            step: step_at(alloc, behind, token)?,
+            is_reply: true,
+        }),
+        Err(MoveFault::Ambiguous) => Err(token.fault(MovetextFaultKind::Ambiguous)),
+        Err(MoveFault::Syntax) => Err(token.fault(MovetextFaultKind::Token)),
+        Err(MoveFault::Memory) => Err(MovetextFault::Memory),
+    }
+}
+
+/// Returns how a token goes on after a reply in parentheses of one move token: from the last move of the line, and the
+/// reply was by-play, or from the end of the reply.
+fn step_behind<B: Board>(
+    alloc: Global,
+    line: &OpenLine<B>,
+    answer: &Cursor<B>,
+    token: Token<'_>,
+) -> Result<Found<B>, MovetextFault>
+    requires short { line.now.now.moves < MAX_PATH }
+    requires room { answer.now.moves ≤ MAX_PATH }
+    requires written { token.what ≡ TokenKind.Written }
+    requires no_result { IsResult (token_value token) → ⊥ }
+    ensures { (p : _) (tree : _) (kind : _) (before : _) (moves : _) (answers : _)
+        → IsCursor B.geometry p tree line.entry.now.now (before ++ moves)
+        → IsCursor B.geometry p tree answer.now (before ++ (moves ++ answers)) → line.entry.now.is_reply ≡ is_reply kind
+        → IsFoundOr B.geometry p tree (goes_on kind before moves (Some answers)) (token_value token.entry) result }
+{
+    match move_named(alloc, &line.now.position, token.text) {
+        Ok(mv) => Ok(Found {
+            from: line.now,
+            step: Step::Played(mv),
+            is_reply: line.is_reply,
+        }),
+        Err(MoveFault::NoSuchMove) => {
+            step_past(alloc, line, answer, token, MoveFault::NoSuchMove)
+        }
+        Err(MoveFault::Ambiguous) => step_past(alloc, line, answer, token, MoveFault::Ambiguous),
+        Err(MoveFault::Syntax) => Err(token.fault(MovetextFaultKind::Token)),
+        Err(MoveFault::Memory) => Err(MovetextFault::Memory),
+    }
+}
+
+/// Returns how a token that names no move after the line goes on: from the end of the reply in parentheses, or else
+/// from the last move of the line, after a reply that is left out.
+fn step_past<B: Board>(
+    alloc: Global,
+    line: &OpenLine<B>,
+    answer: &Cursor<B>,
+    token: Token<'_>,
+    why: MoveFault,
+) -> Result<Found<B>, MovetextFault>
+    requires short { line.now.now.moves < MAX_PATH }
+    requires room { answer.now.moves ≤ MAX_PATH }
+    requires written { token.what ≡ TokenKind.Written }
+    requires no_result { IsResult (token_value token) → ⊥ }
+    requires none { IsRead B.geometry line.now.now.position (plain token.text.now) (Err why) }
+    requires kept { why ≡ MoveFault.Memory → ⊥ }
+    ensures { (p : _) (tree : _) (kind : _) (before : _) (moves : _) (answers : _)
+        → IsCursor B.geometry p tree line.entry.now.now (before ++ moves)
+        → IsCursor B.geometry p tree answer.now (before ++ (moves ++ answers)) → line.entry.now.is_reply ≡ is_reply kind
+        → IsFoundOr B.geometry p tree (goes_on kind before moves (Some answers)) (token_value token.entry) result }
+{
+    match step_at(alloc, answer, token) {
+        Ok(step) => Ok(Found {
+            from: *answer,
+            step,
+            is_reply: line.is_reply,
+        }),
+        Err(MovetextFault::Memory) => Err(MovetextFault::Memory),
+        Err(MovetextFault::Refused { what, place }) => match step_missed(
+            alloc, &line.now, token, why,
+        ) {
+            Ok(step) => Ok(Found {
+                from: line.now,
+                step,
+                is_reply: line.is_reply,
+            }),
+            Err(MovetextFault::Memory) => Err(MovetextFault::Memory),
+            Err(MovetextFault::Refused { what: _, place: _ }) => {
+                Err(MovetextFault::Refused { what, place })
+            }
+        },
+    }
+}
+
+/// Returns the moves that a token stands for after a place, if the path may have more.
+fn step_at<B: Board>(
+    alloc: Global,
+    place: &Cursor<B>,
+    token: Token<'_>,
+) -> Result<Step<B>, MovetextFault>
+    requires room { place.now.moves ≤ MAX_PATH }
+    requires written { token.what ≡ TokenKind.Written }
+    requires no_result { IsResult (token_value token) → ⊥ }
+    ensures { (p : _) (path : _) → IsAt B.geometry p place.now path
+        → IsStepAt B.geometry p path (token_value token.entry) result }
+{
+    match move_named(alloc, &place.position, token.text) {
+        Ok(mv) if place.moves < MAX_PATH => Ok(Step::Played(mv)),
+        Ok(_) => Err(token.fault(MovetextFaultKind::TooLong)),
+        Err(why) => step_missed(alloc, place, token, why),
+    }
+}
+
+/// Returns the moves of a token that names no single move after a place: the only reply, and the move after it.
+fn step_missed<B: Board>(
+    alloc: Global,
+    place: &Cursor<B>,
+    token: Token<'_>,
+    why: MoveFault,
+) -> Result<Step<B>, MovetextFault>
+    requires room { place.now.moves ≤ MAX_PATH }
+    requires written { token.what ≡ TokenKind.Written }
+    requires no_result { IsResult (token_value token) → ⊥ }
+    requires none { IsRead B.geometry place.now.position (plain token.text.now) (Err why) }
+    ensures { (p : _) (path : _) → IsAt B.geometry p place.now path
+        → IsMissedAt B.geometry p path (token_value token.entry) result }
+{
+    let is_full = place.moves >= MAX_PATH;
+    if may_be_left_out(why, is_full, place.moves) {
+        forced_step(alloc, &place.position, token)
+    } else {
+        Err(refusal(token, is_full, why))
     }
 }
 

@@ -29,16 +29,6 @@ module _ {V : Type 0} (step : V → Move) where
   drop_more (y ∷ xs) zero = refl
   drop_more (y ∷ xs) (suc i) = drop_more xs i
 
-  drop_over : (xs : List V) (i : ℕ) → length xs ≤ i → drop i (map step xs) ≡ drop 1 (drop i (map step xs))
-  drop_over [] zero high = refl
-  drop_over [] (suc i) high = refl
-  drop_over (y ∷ xs) zero high = absurd (omega arith)
-  drop_over (y ∷ xs) (suc i) high = drop_over xs i (omega arith)
-
-  pub ahead_over : (xs : List V) (i : ℕ) → length xs ≤ i → Some (drop i (map step xs))
-      ≡ Some (drop 1 (drop i (map step xs)))
-  ahead_over xs i high = ap Some (drop_over xs i high)
-
   -- the moves ahead, if one more of the list is passed
   ahead_more : {W : Type 0} (items : W → List V) (o : Option W) (i : ℕ)
       → option_map (λ w. drop (i + 1) (map step (items w))) o

@@ -1,7 +1,6 @@
 -- Looking for a move among those ahead at the last level.
-use Rattle.std.proofs.Common.{◌≡◌, ℕ, ◌<◌, Some, None, Option, List, [], ◌∷◌, ◌++◌, length, drop, refl, sym, ap, ◌∙◌}
-use Rattle.std.proofs.Common.{subst, inl, inr, arith}
-use Rattle.std.specs.Prelude.{option_map}
+use Rattle.std.proofs.Common.{◌≡◌, ℕ, Some, None, Option, List, [], ◌∷◌, ◌++◌, length, refl, sym, ap, ◌∙◌}
+use Rattle.std.proofs.Common.{subst, inl, inr}
 use Rattle.dw_board.specs.Geometry.{Geometry}
 use Rattle.dw_moves.specs.Moves.{Move}
 use Rattle.dw_board.specs.Lists.{Member}
@@ -10,7 +9,7 @@ use Rattle.dw_list.specs.declared.stack.Candidate.{Candidate}
 use Rattle.dw_list.specs.inner.Tasks.{IsCandidate}
 use Rattle.dw_list.specs.LineStack.{Level, LineStack}
 use Rattle.dw_list.specs.inner.Steps.{first_ahead, with_ahead, passed_last}
-use Rattle.dw_list.specs.inner.LineWalk.{ahead_of, SomePassed, IsNotAhead}
+use Rattle.dw_list.specs.inner.LineWalk.{ahead_of}
 
 abbrev pub count_of : Option (List Move) → ℕ
 count_of None = 0

@@ -12,9 +12,9 @@ use Rattle.dw_list.specs.inner.Ways.{left_after, Keeps}
 use Rattle.dw_list.specs.LineStack.{Level, LineStack}
 use Rattle.dw_list.specs.inner.Levels.{AreLevels}
 use Rattle.dw_list.specs.declared.stack.Candidate.{Candidate}
-use Rattle.dw_list.specs.inner.Tasks.{IsCandidate, IsListedLast}
+use Rattle.dw_list.specs.inner.Tasks.{IsCandidate}
 use Rattle.dw_list.specs.inner.Steps.{begun, first_ahead, passed, passed_last, IsListing}
-use Rattle.dw_list.proofs.StackLemmas.{levels_passed, levels_listed, levels_entered, levels_back, room_entered}
+use Rattle.dw_list.proofs.StackLemmas.{levels_passed, levels_entered, levels_back, room_entered}
 
 abbrev pub standing : Placement → ℕ → List Move → List Level → LineStack
 standing p n line levels = record { position = p; moves = n; line = line; levels = levels }
@@ -74,13 +74,6 @@ module _ (g : Geometry) (p : Placement) (n : ℕ) where
       subst (λ z. AreLevels g p n z line) (sym (end_first new outer (passed f) is))
       (levels_passed g p n (f ∷ reverse outer) line (subst (λ z. AreLevels g p n z line) (end_first old outer f was)
       inv))
-
-  pub inside_listed : (old new : List Level) (end : Bool) (line : List Move) → IsListedLast g old new end
-      → AreLevels g p n (reverse old) line → AreLevels g p n (reverse new) line
-  inside_listed old new end line r inv =
-      subst (λ z. AreLevels g p n z line) (sym (end_first new r.outer r.listed r.is))
-      (levels_listed g p n r.last r.listed (reverse r.outer) line
-      (subst (λ z. AreLevels g p n z line) (end_first old r.outer r.last r.was) inv) r.listing)
 
   pub inside_back : (old new : List Level) (line line' : List Move) → reverse new ≡ drop 1 (reverse old)
       → line' ≡ drop 1 line → AreLevels g p n (reverse old) line → AreLevels g p n (reverse new) line'

@@ -5,12 +5,12 @@ use Rattle.std.proofs.Common.{inr, ◌⊎◌, append_assoc, append-nil, length-a
 use Rattle.std.specs.Prelude.{nat_lt, MatchResult}
 use Rattle.arrayvec.specs.ArrayVec.{ArrayVec}
 use Rattle.std.specs.Int.{w64, from_be_bytes}
-use Rattle.std.proofs.lemmas.Bool.{cases_Bool, leb-true, le-leb, lt-leb, eqb-true, and_parts, or_cases}
-use Rattle.dw_board.specs.Geometry.{Geometry, squares, OnBoard, is_square}
+use Rattle.std.proofs.lemmas.Bool.{cases_Bool, le-leb, lt-leb, eqb-true, and_parts, or_cases}
+use Rattle.dw_board.specs.Geometry.{Geometry, squares}
 use Rattle.dw_board.specs.inner.SquareSetLemmas.{is_square-true}
 use Rattle.dw_moves.specs.Moves.{Move}
 use Rattle.dw_list.specs.declared.tokens.TokenFault.{TokenFault}
-use Rattle.dw_list.specs.declared.tokens.TokenFault.TheVariants.{Version, Length, Square, Taken, Board}
+use Rattle.dw_list.specs.declared.tokens.TokenFault.TheVariants.{Version, Length, Board}
 use Rattle.dw_list.specs.Tokens.{number_in, IsMove, AreMoves, IsCounted, IsVersion1, IsVersion2, first_of, move_fault}
 use Rattle.dw_list.specs.Tokens.{moves_fault, counted_fault, board_fault, bytes_fault, are_moves, names_board}
 use Rattle.dw_list.proofs.TokenBitLemmas.{IsNumberOf-small}

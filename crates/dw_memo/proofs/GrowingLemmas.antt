@@ -16,7 +16,7 @@ use Rattle.dw_memo.specs.inner.Buckets.{held, bucket_of, IsTable}
 use Rattle.dw_memo.specs.Content.{Entry, Content, IsMap, SameEntries}
 use Rattle.dw_memo.specs.Noting.{IsPutIn, IsNote}
 use Rattle.dw_memo.specs.inner.Growing.{IsWidened, IsEmptied, IsSplit, IsSplitAt, IsHalfway}
-use Rattle.dw_memo.proofs.BucketLemmas.{set_here, set_other, set_read, same_number, one_there, is_inside, in_bucket}
+use Rattle.dw_memo.proofs.BucketLemmas.{set_here, set_other, same_number, one_there, is_inside, in_bucket}
 use Rattle.dw_memo.proofs.BucketLemmas.{is_held}
 
 -- ---- empty buckets behind a table
@@ -83,13 +83,6 @@ module _ {X : Type 0} (g : Geometry) (entries : X → Content) (count : ℕ) (ol
   none_there : (k : ℕ) (x : X) → slice_get new k ≡ Some x → entries x ≡ []
   none_there k x h = w.empty k x (subst (λ xs. slice_get xs k ≡ Some x) is_more h)
 
-  pub new_table : IsTable g entries new
-  new_table = record {
-    some_bucket = omega (arith, some, w.all, ap length is_more);
-    maps = λ k x h. subst IsMap (sym (none_there k x h)) tt;
-    placed = λ k x e h m. absurd (subst (λ c. Member e c) (none_there k x h) m);
-  }
-
   pub new_empty : held entries new ≡ []
   new_empty = new_held entries new none_there
 
@@ -97,13 +90,6 @@ module _ {X : Type 0} (g : Geometry) (entries : X → Content) (size : ℕ) (xs 
     (e : IsEmptied entries size size xs) where
   none_left : (k : ℕ) (x : X) → slice_get xs k ≡ Some x → entries x ≡ []
   none_left k x h = e.empty k x (omega (arith, is_inside xs k x h, e.all)) h
-
-  pub emptied_table : IsTable g entries xs
-  emptied_table = record {
-    some_bucket = omega (arith, some, e.all);
-    maps = λ k x h. subst IsMap (sym (none_left k x h)) tt;
-    placed = λ k x e h m. absurd (subst (λ c. Member e c) (none_left k x h) m);
-  }
 
   pub emptied_held : held entries xs ≡ []
   emptied_held = new_held entries xs none_left

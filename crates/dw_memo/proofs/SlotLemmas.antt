@@ -13,7 +13,6 @@ use Rattle.dw_memo.specs.inner.Buckets.{bucket_of}
 use Rattle.dw_memo.specs.Content.{Entry, entry, IsMap, IsFound}
 use Rattle.dw_memo.specs.Noting.{IsPutIn, IsNote}
 use Rattle.dw_memo.specs.inner.Slots.{Place, standing}
-use Rattle.dw_memo.specs.inner.Growing.{IsSplit}
 use Rattle.dw_memo.specs.inner.Keeping.{bounds_in, lost}
 use Rattle.dw_memo.proofs.NoteLemmas.{none_missing, one_missing}
 

@@ -122,16 +122,6 @@ none_is_short g heading first text low (words, (tree, played, whole, are, joined
     )
 
 -- ---- the movetext
-pub movetext_all : (g : Geometry) (heading : Heading) (first : LinesFrom) (many : ℕ) (text : List ℕ)
-    → many ≡ length first.lines → IsTextOfFirst g heading first many text → length text ≤ 1000000
-    → IsMovetext g heading first many text
-movetext_all g heading first many text all is short = record {
-  within = omega (arith, all);
-  is = is;
-  short = short;
-  greatest = λ low. absurd (omega (arith, all, low));
-}
-
 pub movetext_cut : (g : Geometry) (heading : Heading) (first : LinesFrom) (many too_many : ℕ) (text longer : List ℕ)
     → many < too_many → too_many ≤ length first.lines → too_many - many ≤ 1
     → IsTextOfFirst g heading first many text → length text ≤ 1000000

@@ -7,7 +7,7 @@ use Rattle.dw_board.specs.Placement.{Placement}
 use Rattle.dw_moves.specs.Moves.{Move, play}
 use Rattle.dw_solution.specs.FirstLines.{LinesFrom, is_cut}
 use Rattle.dw_solution.specs.Movetext.{AreWordsOfFirst, first_half, last_words, result_of}
-use Rattle.dw_solution.specs.Tree.{Tree, IsTreeOf, over, branch}
+use Rattle.dw_solution.specs.Tree.{Tree, IsTreeOf, branch}
 use Rattle.dw_solution.specs.declared.style.Mark.TheVariants.{Gap, Opening, Closing}
 use Rattle.dw_solution.specs.Words.{AreWords, AreVariations, Style, closed, has_move, in_parentheses, mark, move_text}
 use Rattle.dw_solution.specs.Words.{move_words, number_word, number_words, spaced}
@@ -38,19 +38,6 @@ module _ (shown : Style) where
       let end : List ℕ = shown (mark Closing) in
       ap (λ z. front ++ (w ++ z)) (spaced_closed v words)
       ∙ (ap (λ z. front ++ z) (sym (append_assoc w rest end)) ∙ sym (append_assoc front (w ++ rest) end))
-
-  -- nothing was written where no move is
-  pub none_added : (g : Geometry) (p : Placement) (half : ℕ) (due : Bool) (tree : Tree) (text : List ℕ) → tree ≡ over
-      → IsAdded shown (AreWords shown g p half due tree) text text
-  none_added g p half due tree text e =
-      subst (λ z. IsAdded shown (AreWords shown g p half due z) text text) (sym e)
-      (record { words = []; are = refl; added = sym (append-nil text) })
-
-  pub no_variations : (g : Geometry) (p : Placement) (half : ℕ) (tree : Tree) (text : List ℕ) → tree ≡ over
-      → IsAdded shown (AreVariations shown g p half tree) text text
-  no_variations g p half tree text e =
-      subst (λ z. IsAdded shown (AreVariations shown g p half z) text text) (sym e)
-      (record { words = []; are = refl; added = sym (append-nil text) })
 
   -- a move, the others in its place, and what goes on behind it
   pub play_added : (g : Geometry) (p : Placement) (half : ℕ) (due some : Bool) (m : Move) (tree behind others : Tree)

@@ -26,10 +26,6 @@ fed_rest [] more behind whole e = refl
 fed_rest (b ∷ rest) more behind whole e = absurd (feed_breaks b rest whole (sym (heads e)))
 
 -- ---- the next line feed
-pub word_here : (text : List ℕ) (from : ℕ) (w : List ℕ) (words : List (List ℕ)) → IsUnbroken w
-    → drop from text ≡ w ++ feeding words → IsWordFrom text from from w words
-word_here text from w words whole e = record { rest = w; unbroken = whole; ahead = e; same = refl }
-
 none_feeding : (byte : ℕ) (rest : List ℕ) (words : List (List ℕ)) → (byte ≡ 10 → ⊥) → byte ∷ rest ≡ feeding words → ⊥
 none_feeding byte rest [] ne e = cc
 none_feeding byte rest (w ∷ words) ne e = ne (heads e)
@@ -68,18 +64,6 @@ word_fed text from place w words low feed h =
     omega (arith, h.same, ap length none)
 
 -- ---- the next word
-pub filled_first : (text : List ℕ) (w : List ℕ) (words : List (List ℕ)) (feed : ℕ) → AreUnbroken words
-    → text ≡ w ++ feeding words → feed ≡ length w → IsFilledTo text (w ++ filled (length w) words) 0 feed
-filled_first text w words feed whole e at = record {
-  done = w;
-  words = words;
-  unbroken = whole;
-  now = e;
-  at = at;
-  begun = omega arith;
-  ahead = ap (λ z. w ++ filled z words) (omega (arith, at));
-}
-
 next_word : (text whole : List ℕ) (line feed : ℕ) (done : List ℕ) (words : List (List ℕ)) → AreUnbroken words
     → text ≡ done ++ feeding words → feed ≡ length done → line ≤ feed → whole ≡ done ++ filled (feed - line) words
     → feed < length text

@@ -1,6 +1,6 @@
 -- The moves of a tree in their places.
 use Rattle.std.proofs.Common.{◌≡◌, ◌∙◌, ℕ, ◌+◌, List, [], ◌∷◌, ◌++◌, length, map, take, sym, ap, subst, inl, inr}
-use Rattle.std.proofs.Common.{append_assoc, append-nil, arith, ◌≤◌, ◌<◌}
+use Rattle.std.proofs.Common.{append_assoc, arith, ◌≤◌, ◌<◌}
 use Rattle.std.proofs.lemmas.Bool.{cases_lt}
 use Rattle.std.proofs.lemmas.List.{take_all}
 use Rattle.dw_board.specs.Geometry.{Geometry}
@@ -27,12 +27,6 @@ placed_next g p depth m tree behind others a b c whole is pushed more so_far =
     ap (λ z. z ++ outer) (more ∙ ap (λ z. z ++ inner) pushed)
     ∙ (append_assoc (a ++ one ∷ []) inner outer ∙ (append_assoc a (one ∷ []) (inner ++ outer)
     ∙ (sym (ap (λ t. a ++ placed_moves g p depth t) is) ∙ so_far)))
-
--- no move comes
-pub placed_none : (g : Geometry) (p : Placement) (depth : ℕ) (tree : Tree) (a whole : List Placed) → tree ≡ over
-    → a ++ placed_moves g p depth tree ≡ whole → a ≡ whole
-placed_none g p depth tree a whole is so_far =
-    sym (append-nil a) ∙ (sym (ap (λ t. a ++ placed_moves g p depth t) is) ∙ so_far)
 
 -- what stands in one of two lists
 in_either : {X : Type 0} (x : X) (xs ys : List X) (P : Type 0) → Member x (xs ++ ys) → (Member x xs → P)

@@ -14,7 +14,8 @@ use Rattle.dw_moves.specs.inner.MemberLemmas.{mem_left, mem_right, mem_cases, me
 use Rattle.dw_notation.specs.MoveReading.{IsRead}
 use Rattle.dw_notation.specs.MoveReadingLaws.{WrittenMoveIsNamed}
 use Rattle.dw_notation.specs.Text.{IsMoveText}
-use Rattle.dw_games.specs.Play.{results, plain, after, IsMove, IsVariation, empty, passed, move, variation}
+use Rattle.dw_games.specs.Pdn.{IsVariation, empty, passed, move, variation}
+use Rattle.dw_games.specs.Play.{results, plain, after, IsMove}
 use Rattle.dw_games.specs.Tokens.{Token, is_dot}
 use Rattle.dw_games.specs.declared.tokens.TokenKind.{TokenKind}
 use Rattle.dw_games.specs.declared.tokens.TokenKind.TheVariants.{Passed, Written}

@@ -12,7 +12,9 @@ use Rattle.dw_board.specs.declared.piece.Side.TheVariants.{White, Black}
 use Rattle.dw_moves.specs.Laws.{PlayStays, LegalMovesTake}
 use Rattle.dw_moves.specs.Moves.{Move}
 use Rattle.dw_notation.specs.MoveReadingLaws.{WrittenMoveIsNamed}
-use Rattle.dw_games.specs.Play.{plain, results, IsResult, IsVariation, empty, passed, IsOver}
+use Rattle.dw_games.specs.Pdn.{IsVariation, PdnIsRead, empty, passed}
+use Rattle.dw_games.specs.Play.{plain, results, IsResult}
+use Rattle.dw_games.specs.Printed.{IsOver}
 use Rattle.dw_games.specs.Tokens.{Token, AreTokens, is_inside}
 use Rattle.dw_games.specs.declared.tokens.TokenKind.{TokenKind}
 use Rattle.dw_games.specs.declared.tokens.TokenKind.TheVariants.{Comment, Written}
@@ -87,10 +89,10 @@ result_token t result e here = record {
 }
 
 -- play that ends with the words behind it
-over_with : (g : Geometry) (p : Placement) (more : Bool) (result : List ℕ) (ts us : List Token) (moves : List Move)
+over_with : PdnIsRead → (g : Geometry) (p : Placement) (more : Bool) (result : List ℕ) (ts us : List Token) (moves : List Move)
     (paths : List (List Move)) → IsVariation g p 40 [] ts moves paths → Member result results
     → map mark_of us ≡ last_marks more result → IsOver g p (ts ++ us) paths
-over_with g p true result ts us moves paths h here e =
+over_with read g p true result ts us moves paths h here e =
     let c = map_cons us (Comment, codes "{more}") ((Written, result) ∷ []) e in
     let d = map_cons c.1 (Written, result) [] c.4 in
     let whole : us ≡ c.0 ∷ d.0 ∷ [] =
@@ -99,19 +101,19 @@ over_with g p true result ts us moves paths h here e =
       front = ts ++ c.0 ∷ [];
       result = d.0;
       comments = [];
-      played = (moves, passed c.0 h (inl (ap (λ z. z.0) c.3)));
+      played = read g p (ts ++ c.0 ∷ []) moves paths (passed c.0 h (inl (ap (λ z. z.0) c.3)));
       is_result = result_token d.0 result d.3 here;
       are_comments = tt;
       joined = ap (λ z. ts ++ z) whole ∙ sym (append_assoc ts (c.0 ∷ []) (d.0 ∷ []));
     }
-over_with g p false result ts us moves paths h here e =
+over_with read g p false result ts us moves paths h here e =
     let c = map_cons us (Written, result) [] e in
     let whole : us ≡ c.0 ∷ [] = c.2 ∙ ap (λ z. c.0 ∷ z) (map_none c.1 c.4) in
     record {
       front = ts;
       result = c.0;
       comments = [];
-      played = (moves, h);
+      played = read g p ts moves paths h;
       is_result = result_token c.0 result c.3 here;
       are_comments = tt;
       joined = ap (λ z. ts ++ z) whole;
@@ -126,11 +128,11 @@ some_path : (t : Tree) (lines : List (List Move)) → lines_of t ≡ lines → 0
 some_path over lines e some = absurd (omega (arith, some, ap length e))
 some_path (branch m b o) lines e some = (m ∷ [], subst (λ z. IsBeginning z (m ∷ [])) e (begin_first m b o))
 
-pub read_back : WrittenMoveIsNamed → PlayStays → LegalMovesTake → (g : Geometry) → IsBoard g → (heading : Heading)
+pub read_back : PdnIsRead → WrittenMoveIsNamed → PlayStays → LegalMovesTake → (g : Geometry) → IsBoard g → (heading : Heading)
     (first : LinesFrom) (many : ℕ) (text : List ℕ) → IsPosition g first.start.cells
     → ((l : List Move) → Member l first.lines → length l ≤ 39) → (written : IsMovetext g heading first many text)
     → 0 < many → IsReadAs g first.start text (take many first.lines)
-read_back named stays takes g board heading begun many text pos few written some =
+read_back read_pdn named stays takes g board heading begun many text pos few written some =
     let p : Placement = begun.start in
     let lines : List (List Move) = begun.lines in
     let all = written.is.1 in
@@ -157,7 +159,7 @@ read_back named stays takes g board heading begun many text pos few written some
     let fits : Fits 0 tree = fits_lines 0 tree (λ l here. let short = few l (in_take l many lines
     (subst (Member l) whole.lines here)) in omega (arith, short)) in
     let played = play.2 39 [] [] (front.0 ∷ []) split.0 [] [] refl refl (omega arith) fits opened split.3 in
-    let ended = over_with g p flag result (front.0 ∷ split.0) split.1 played.0 played.1 played.2
+    let ended = over_with read_pdn g p flag result (front.0 ∷ split.0) split.1 played.0 played.1 played.2
     (result_member p.turn lines) split.4 in
     let tokens : front.0 ∷ (split.0 ++ split.1) ≡ read.0 = ap (λ z. front.0 ∷ z) (sym split.2) ∙ sym front.2 in
     let once = distinct_some played.1 in

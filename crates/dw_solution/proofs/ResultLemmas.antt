@@ -16,7 +16,7 @@ use Rattle.dw_moves.specs.Moves.{Move, Legal, LegalAt}
 use Rattle.dw_notation.specs.MoveReading.{IsNumber, is_cross, AreCrossed, single, more, Named}
 use Rattle.dw_notation.specs.MoveReading.{QuietMove, Names, by_dash}
 use Rattle.dw_notation.specs.MoveReading.{by_crosses, Fits, IsRead}
-use Rattle.dw_games.specs.Play.{is_leading, plain, plain_byte, results}
+use Rattle.dw_games.specs.Play.{is_leading, plain, results}
 use Rattle.dw_games.specs.Tokens.{is_inside}
 use Rattle.dw_solution.proofs.WordLemmas.{IsMade, names_made, some_and, all_digits}
 

@@ -1,7 +1,7 @@
 -- The tree of steps in a row, as one line's steps are put behind them.
 use Rattle.std.proofs.Common.{◌≡◌, ℕ, ◌+◌, ◌<◌, ◌≤◌, List, [], ◌∷◌, ◌++◌, length, refl, sym, ap, subst, ◌∙◌, inl, inr}
-use Rattle.std.proofs.Common.{arith, eqb, ltb, take, drop, get_or, append_assoc}
-use Rattle.std.proofs.lemmas.List.{length-take-le, take_more, drop_more}
+use Rattle.std.proofs.Common.{arith, eqb, ltb, take, get_or, append_assoc}
+use Rattle.std.proofs.lemmas.List.{length-take-le, take_more}
 use Rattle.std.proofs.lemmas.Bool.{eq-eqb, ne_eqb, lt-ltb, le-ltb, cond-true, cond-false, cases_order}
 use Rattle.dw_moves.specs.Moves.{Move}
 use Rattle.dw_solution.specs.Tree.{Tree, over, branch, lines_of, or_ended}
@@ -107,10 +107,6 @@ module _ (B : Type 0) where
       at_same (record { depth = k; mv = m }) (chain (k + 1) moves) k refl
       ∙ (ap (λ z. branch m z (tree_at (chain {B = B} (k + 1) moves) k)) (chain_here (k + 1) moves)
       ∙ ap (branch m (straight moves)) (chain_deeper (k + 1) k moves (omega arith)))
-
-  deep_shut : (k : ℕ) (steps : List (TreeStep B)) → AreDeep (k + 1) steps → tree_at steps k ≡ over
-  deep_shut k [] h = refl
-  deep_shut k (s ∷ steps) h = at_deeper s steps k (omega (arith, h.0)) ∙ deep_shut k steps h.1
 
   over_deep : (k : ℕ) (steps : List (TreeStep B)) → AreDeep k steps → tree_at steps k ≡ over → AreDeep (k + 1) steps
   over_deep k [] h e = tt
@@ -221,12 +217,4 @@ module _ (B : Type 0) where
       ∙ (append_assoc old (chain d (take place moves)) ((record { depth = d + place; mv = m }) ∷ [])
       ∙ ap (λ z. old ++ z) (ap (λ z. chain d (take place moves) ++ (record { depth = d + z; mv = m }) ∷ []) (sym many)
       ∙ (sym (chain_more d (take place moves) m) ∙ ap (chain d) (sym next)))))
-
   -- ---- the first step that is not deeper
-  pub passed_deeper : (steps : List (TreeStep B)) (place depth : ℕ) (s : TreeStep B) → place < length steps
-      → s ≡ get_or steps place s → depth < s.depth → tree_at (drop place steps) depth ≡ tree_at steps depth
-      → tree_at (drop (place + 1) steps) depth ≡ tree_at steps depth
-  passed_deeper steps place depth s low is high same =
-      let here : drop place steps ≡ s ∷ drop (place + 1) steps =
-      drop_more steps place s low ∙ ap (λ z. z ∷ drop (place + 1) steps) (sym is) in
-      sym (at_deeper s (drop (place + 1) steps) depth high) ∙ (sym (ap (λ z. tree_at z depth) here) ∙ same)

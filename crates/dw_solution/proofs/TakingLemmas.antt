@@ -4,7 +4,7 @@ use Rattle.std.proofs.Common.{ap, subst, ◌∙◌, inl, inr, append_assoc, appe
 use Rattle.std.proofs.Common.{arith, Bool, true, false}
 use Rattle.std.proofs.lemmas.List.{take_at, take_all}
 use Rattle.std.proofs.lemmas.Bool.{true≢false, cases_lt, le-ltb, lt-ltb}
-use Rattle.std.specs.Prelude.{◌↔◌, IsTrue, Result, Ok, Err, IfOk, nat_lt}
+use Rattle.std.specs.Prelude.{◌↔◌, IsTrue, nat_lt}
 use Rattle.dw_board.specs.Geometry.{Geometry}
 use Rattle.dw_board.specs.Placement.{Placement}
 use Rattle.dw_board.specs.Lists.{Member}
@@ -13,7 +13,6 @@ use Rattle.dw_moves.specs.Moves.{Move, play}
 use Rattle.dw_moves.specs.Order.{IsAscending, Precedes}
 use Rattle.dw_moves.specs.inner.MemberLemmas.{mem_right}
 use Rattle.dw_notation.specs.Text.{ArePlayable}
-use Rattle.dw_solve.specs.Searching.{IsCounted}
 use Rattle.dw_list.specs.Laws.{NoneBegins, LinesExist}
 use Rattle.dw_solve.specs.Lines.{Line, Lines, Before}
 use Rattle.dw_list.specs.LineStack.{LineStack, AreToCome}
@@ -212,15 +211,3 @@ stopped exist g p n most true lines taken h many all = (
 stopped exist g p n most false lines taken h many all =
     let whole = first_all exist g p n most lines taken all h (omega (arith, many)) in
     (whole.0, ((λ t. absurd (true≢false (sym t))), (λ low. absurd (whole.1 low))))
-
-pub counted_then : (before limit mid mid_limit after last : ℕ) → IsCounted before limit mid mid_limit
-    → IsCounted mid mid_limit after last → IsCounted before limit after last
-counted_then before limit mid mid_limit after last h k = record {
-  rises = omega (arith, h.rises, k.rises);
-  within = omega (arith, k.within, h.same);
-  same = k.same ∙ h.same;
-}
-
-pub if_ok_map : {A E : Type 0} → (r : Result A E) (P Q : A → Type 0) → ((x : A) → P x → Q x) → IfOk r P → IfOk r Q
-if_ok_map (Ok x) P Q f h = f x h
-if_ok_map (Err e) P Q f h = tt

@@ -47,15 +47,6 @@ onto_digits (suc k) n acc h =
       | false ↦ onto_digits k (n / 10) (digit_glyph false (n % 10) ∷ acc) here
     ]
 
-onto_some : (k n d : ℕ) (acc : List ℕ) → (e : ℕ) × (more : List ℕ) × (digits_onto k 10 false n (d ∷ acc) ≡ e ∷ more)
-onto_some zero n d acc = (d, acc, refl)
-onto_some (suc k) n d acc =
-    elim (n / 10 == 0) as (λ b. (e : ℕ) × (more : List ℕ) × (cond b (digit_glyph false (n % 10) ∷ d ∷ acc)
-    (digits_onto k 10 false (n / 10) (digit_glyph false (n % 10) ∷ d ∷ acc)) ≡ e ∷ more)) [
-      | true ↦ (digit_glyph false (n % 10), d ∷ acc, refl)
-      | false ↦ onto_some k (n / 10) (digit_glyph false (n % 10)) (d ∷ acc)
-    ]
-
 pub decimal_digits : (n : ℕ) → list_all is_digit (decimal n) ≡ true
 unfolding digits
 decimal_digits n = onto_digits 64 n [] refl

@@ -8,4 +8,5 @@ pub fn movetexts_are_read()
     dw_notation::laws::written_moves_are_read();
     dw_moves::laws::play_stays();
     dw_moves::laws::legal_moves_take();
+    dw_games::laws::pdn_is_read();
 }

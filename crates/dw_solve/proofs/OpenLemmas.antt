@@ -30,15 +30,6 @@ pub flip : (c d : Content) → SameEntries c d → SameEntries d c
 flip c d same e = ((same e).1, (same e).0)
 
 module _ {M G : Type 0} (g : Geometry) (content : M → Content) (lost : M → ℕ) where
-  pub looked_none : (a : Search M G) → AreTrue g (content a.memo) → HasLooked g content lost a a
-  looked_none a right = record {
-    right = right;
-    count = refl;
-    limit = refl;
-    same = λ e. ((λ m. m), (λ m. m));
-    work = searched_none g 0 0 (at_time content lost a);
-  }
-
   pub looked_then : (a b c : Search M G) → HasLooked g content lost a b → HasLooked g content lost b c
       → HasLooked g content lost a c
   looked_then a b c h k = record {

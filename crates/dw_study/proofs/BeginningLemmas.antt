@@ -3,7 +3,7 @@ use Rattle.std.proofs.Common.{◌≡◌, ◌⊎◌, ℕ, zero, suc, ◌+◌, ◌
 use Rattle.std.proofs.Common.{sym, ap, ◌∙◌, subst, inl, inr, arith, append_assoc, append-nil, Option, Some, None}
 use Rattle.std.proofs.Common.{slice_get, option_map, reverse, refl}
 use Rattle.std.specs.String.{string_bytes}
-use Rattle.std.proofs.lemmas.List.{take_all, take_more, reverse-append, length-append, length-reverse}
+use Rattle.std.proofs.lemmas.List.{take_more, reverse-append, length-append, length-reverse}
 use Rattle.std.proofs.Math.Seq.{take-append_seam}
 use Rattle.dw_board.specs.Geometry.{Geometry}
 use Rattle.dw_board.specs.Placement.{Placement}
@@ -16,7 +16,7 @@ use Rattle.dw_notation.specs.Text.{ArePlayable, IsLineText}
 use Rattle.dw_verdict.specs.Verdict.{reach}
 use Rattle.dw_study.specs.declared.beginning.Beginning.{Beginning}
 use Rattle.dw_study.specs.inner.Beginnings.{IsBegun}
-use Rattle.dw_study.proofs.ChildLemmas.{same, absent, after_more}
+use Rattle.dw_study.proofs.ChildLemmas.{same, after_more}
 
 -- the beginning before a node is that before another, and the moves that were gathered since, the last one first
 pub record Gathered (g : Geometry) (tree : PlayedTree) (node at : Option ℕ) (moves : List Move) : Type 0 where
@@ -75,14 +75,6 @@ module _ (g : Geometry) (tree : PlayedTree) (node : Option ℕ) where
       → (beginning_at tree.paths node ≡ Some whole) × ArePlayable g tree.start whole
   gathered_all moves whole h e = rw e (h.joined [] refl)
 
-  -- no beginning leads to a node before which none is left
-  pub gathered_lost : (n : ℕ) (moves : List Move) → slice_get tree.paths n ≡ None → Gathered g tree node (Some n) moves
-      → beginning_at tree.paths node ≡ None
-  gathered_lost n moves none h = by (beginning_at tree.paths node) refl where
-    by : (o : Option (List Move)) → beginning_at tree.paths node ≡ o → beginning_at tree.paths node ≡ None
-    by None e = e
-    by (Some b) e = let found = h.left b e in absent found.0 (sym none ∙ found.1)
-
 -- a list that was reversed in its place
 pub reversed : (xs ys zs : List Move) → zs ≡ xs → ys ≡ reverse zs
     → take (length xs) (ys ++ drop (length ys) xs) ≡ reverse xs
@@ -135,10 +127,6 @@ legal_more g p moves i m all low is legal =
     let more : take (i + 1) moves ≡ take i moves ++ m ∷ [] = take_more moves i m low
     ∙ ap (λ z. take i moves ++ z ∷ []) (sym is) in
     λ o here. legal_among g p (take i moves) m all legal o (subst (Member o) more here)
-
-pub legal_all : (g : Geometry) (p : Placement) (moves : List Move) (i : ℕ) → LegalTo g p moves i → length moves ≤ i
-    → (m : Move) → Member m moves → Legal g p m
-legal_all g p moves i all end m here = all m (subst (Member m) (sym (take_all i moves end)) here)
 
 pub legal_no : (g : Geometry) (p : Placement) (moves : List Move) (i : ℕ) (m : Move) → i < length moves
     → m ≡ get_or moves i m → (Legal g p m → ⊥) → ((o : Move) → Member o moves → Legal g p o) → ⊥

@@ -3,7 +3,7 @@ use Rattle.std.proofs.Common.{◌≡◌, ℕ, ◌+◌, ◌-◌, ◌^◌, ◌<◌
 use Rattle.std.proofs.Common.{◌⊎◌, inl, inr, zero-add}
 use Rattle.std.proofs.lemmas.Bool.{cases_Bool, cases_lt}
 use Rattle.std.specs.Prelude.{IfOk}
-use Rattle.std.specs.Result.{IsErrAnd, IsErrOf}
+use Rattle.std.specs.Result.{IsErrAnd}
 use Rattle.dw_board.specs.Geometry.{Geometry}
 use Rattle.dw_board.specs.Placement.{Placement}
 use Rattle.dw_memo.specs.Content.{Content, SameEntries}
@@ -11,7 +11,6 @@ use Rattle.dw_solve.specs.Certificates.{SaysLeast, SaysWin}
 use Rattle.dw_solve.specs.Facts.{IsDecided}
 use Rattle.dw_solve.specs.Laws.{SearchesAddUp}
 use Rattle.dw_solve.specs.Questions.{Asked, moment_of, Idle, LostNothing}
-use Rattle.dw_solve.specs.Searching.{IsCounted}
 use Rattle.dw_solve.specs.Solving.{Solving}
 use Rattle.dw_solve.specs.Work.{Moment, Searched, Stronger, LossIsCounted}
 use Rattle.dw_solve.specs.declared.stop.Stop.{Stop}
@@ -20,7 +19,7 @@ use Rattle.dw_solve.specs.inner.QuestionLemmas.{answered, err_is, searched_loose
 use Rattle.dw_study.specs.Telling.{Sought}
 use Rattle.dw_study.specs.declared.finding.Finding as findings
 use Rattle.dw_study.specs.declared.finding.Finding.TheVariants.{Undecided}
-use Rattle.dw_study.specs.declared.looking.Cut.{Cut}
+use Rattle.dw_study.specs.declared.least.Cut.{Cut}
 use Rattle.dw_study.specs.inner.Looking.{LooksFor}
 
 -- searches after others, of which none was cut off

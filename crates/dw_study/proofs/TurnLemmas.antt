@@ -29,13 +29,6 @@ pub record TurnsTo (tree : List (List Move)) (i n : ℕ) : Type 0 where
   pub met : (n ≡ 0) ⊎ ((path : List Move) × Member path tree × (turns_in path ≡ n))
   pub few : n ≤ 20
 
-pub turns_none : (tree : List (List Move)) → TurnsTo tree 0 0
-turns_none tree = record {
-  most = λ k low path at. absurd (omega (arith, low));
-  met = inl refl;
-  few = omega arith;
-}
-
 some_path : (x y : List Move) → Some x ≡ Some y → x ≡ y
 some_path x y e = ap inside e where
   inside : Option (List Move) → List Move

@@ -17,7 +17,7 @@ use Rattle.dw_games.specs.Walk.{place_of, beginning_at}
 use Rattle.dw_study.specs.Finding.{Finding, judged, undecided}
 use Rattle.std.specs.String.{string_bytes}
 use Rattle.dw_study.specs.RemarkFields.{Words}
-use Rattle.dw_study.specs.declared.worded.RemarkFields.{RemarkFields}
+use Rattle.dw_study.specs.declared.fields.RemarkFields.{RemarkFields}
 use Rattle.dw_study.specs.Remarks.{Remark, fails, also, leaves_open, ends}
 use Rattle.dw_study.specs.declared.finding.Finding as findings
 use Rattle.dw_study.specs.declared.finding.Finding.TheVariants.{Judged, Undecided}

@@ -10,7 +10,7 @@ ghost use Rattle.dw_study.specs.inner.Checking.{Behind, IsAt, IsKept, IsSeen};
 
 use crate::branch::{CheckNode, Seen};
 use crate::remark::{Checked, Remark};
-use crate::seen::{seen_by_attacker, seen_by_defender};
+use crate::remarks::{seen_by_attacker, seen_by_defender};
 use dw_board::Board;
 use dw_games::Tree;
 use dw_memo::Memo;

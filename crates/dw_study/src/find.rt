@@ -6,7 +6,7 @@ ghost use Rattle.dw_study.specs.Finding.{IsFinding};
 ghost use Rattle.dw_study.specs.Telling.{told_by, IsKnownInTime, Sought, StaysOpen};
 
 use crate::finding::{FindBounds, Finding};
-use crate::looking::number_within;
+use crate::least::number_within;
 use dw_board::{Board, Position};
 use dw_memo::Memo;
 use dw_solve::{Guide, Solver, Stop};

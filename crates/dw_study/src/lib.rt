@@ -7,21 +7,21 @@
 mod beginning;
 mod branch;
 pub mod check;
+mod fields;
 pub mod find;
 pub mod finding;
 pub mod laws;
+mod least;
 mod limits;
-mod looking;
 pub mod remark;
 mod remark_texts;
-mod seen;
+mod remarks;
 mod text;
 pub mod turns;
-mod worded;
 
+pub use fields::{RemarkFields, remark_fields};
 pub use finding::{FindBounds, Finding};
 pub use remark::{Checked, Remark};
 pub use remark_texts::remark_text;
 pub use text::found_text;
 pub use turns::turns_of;
-pub use worded::{RemarkFields, remark_fields};

@@ -6,8 +6,8 @@ ghost use Rattle.dw_study.specs.RemarkText.{IsRemarkText, HasTexts, behind_blank
 ghost use Rattle.dw_study.specs.RemarkFields.{AreRemarkFields};
 ghost use Rattle.dw_study.specs.Telling.{remark_in, texts_in};
 
+use crate::fields::{RemarkFields, remark_fields};
 use crate::remark::Remark;
-use crate::worded::{RemarkFields, remark_fields};
 use dw_board::Board;
 use dw_games::Tree;
 use itoa::Buffer;

@@ -24,11 +24,6 @@ abbrev pub NoneOpens : List Token → Type 0
 NoneOpens [] = Unit {0}
 NoneOpens (t ∷ ts) = (t.what ≢ Opens) × NoneOpens ts
 
--- some moves, and each beginning of others after them
-abbrev pub beginnings_after : List Move → List Move → List (List Move)
-beginnings_after before [] = []
-beginnings_after before (m ∷ moves) = (before ++ m ∷ []) ∷ beginnings_after (before ++ m ∷ []) moves
-
 -- a reader has read these tokens, none of which begins a variation
 pub record HasReadLine {B : Type 0} (g : Geometry) (p : Placement) (ts : List Token) (reader : Reader B) : Type 0 where
   pub read : HasRead g p ts reader

@@ -1,5 +1,5 @@
 -- Bytes without a section.
-use Rattle.std.specs.Prelude.{◌≡◌, ℕ, if◌then◌else◌, List, [], ◌∷◌, ◌++◌, drop, Bool, true, false, Option, Result, Err}
+use Rattle.std.specs.Prelude.{◌≡◌, ℕ, if◌then◌else◌, List, [], ◌∷◌, ◌++◌, drop, Bool, true, false, Result, Err}
 use Rattle.std.specs.Prelude.{OnOk, IfOk}
 use Rattle.dw_board.specs.Geometry.{Geometry}
 use Rattle.dw_notation.specs.Tags.{open_bracket, close_brace}

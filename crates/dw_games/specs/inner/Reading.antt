@@ -1,6 +1,6 @@
--- The state of a reader of a movetext: the tree so far, and its place in the variations that are open.
+-- The state of a reader of a movetext: the tree so far, and its place in the lines that are open.
 use Rattle.std.specs.Prelude.{◌≡◌, ◌≢◌, ◌⊎◌, ◌<◌, ℕ, Bool, true, false, Option, Some, None, Result, Ok, Err, List, []}
-use Rattle.std.specs.Prelude.{◌∷◌, ◌++◌, ◌+◌, ◌%◌, length, slice_get}
+use Rattle.std.specs.Prelude.{◌∷◌, ◌++◌, ◌+◌, ◌==◌, if◌then◌else◌, length}
 use Rattle.std.proofs.Common.{suc}
 use Rattle.dw_board.specs.Geometry.{Geometry}
 use Rattle.dw_board.specs.Placement.{Placement}
@@ -9,14 +9,18 @@ use Rattle.dw_moves.specs.Moves.{Legal, Move, play}
 use Rattle.dw_notation.specs.MoveReading.{IsRead}
 use Rattle.dw_notation.specs.declared.read_move.MoveFault.TheVariants as reading
 use Rattle.dw_games.specs.Tokens.{Token}
-use Rattle.dw_games.specs.Play.{IsResult, IsMove, IsLeftOut, IsOnlyMove, plain, after, IsVariation, AreComments}
+use Rattle.dw_games.specs.Play.{IsResult, IsDefence, IsLeftOut, IsOnlyMove, IsNamed, IsRefusedAfter, NamesNoneBehind}
+use Rattle.dw_games.specs.Play.{HasTwoMoves, StandsFor, plain, after, beginnings_after}
+use Rattle.dw_games.specs.Printed.{Kind, variation, reply, Line, begins, goes_on, first_line, Follows, CannotFollow}
+use Rattle.dw_games.specs.Printed.{IsLine, count_moves, AreComments}
 use Rattle.dw_games.specs.Movetext.{AreDistinct}
-use Rattle.dw_games.specs.Faults.{FaultAt, HasTwoMoves, IsNamed, NamesNoneBehind}
+use Rattle.dw_games.specs.Faults.{FaultAt, IsNeither}
 use Rattle.dw_games.specs.inner.Noting.{IsNoted}
-use Rattle.dw_games.specs.Walk.{place_of, beginning_at}
+use Rattle.dw_games.specs.Walk.{PlayedTree, place_of, beginning_at}
 use Rattle.dw_games.specs.inner.Ahead.{AreAhead}
 use Rattle.dw_games.specs.declared.tokens.Tokens.{Tokens}
 use Rattle.dw_games.specs.declared.tokens.TokenKind.TheVariants.{Comment, Opens, CutOff}
+use Rattle.dw_games.specs.declared.fault.MovetextFaultKind.{MovetextFaultKind}
 use Rattle.dw_games.specs.declared.fault.MovetextFaultKind.TheVariants.{Token as NoToken, Rest, NoSuchMove, Ambiguous}
 use Rattle.dw_games.specs.declared.fault.MovetextFaultKind.TheVariants.{Reply}
 use Rattle.dw_games.specs.declared.movetext.TheConstants.{MAX_OPEN, MAX_PATH}
@@ -24,8 +28,8 @@ use Rattle.dw_games.specs.declared.fault.MovetextFault.{MovetextFault}
 use Rattle.dw_games.specs.declared.fault.MovetextFault.TheVariants.{Refused, Memory}
 use Rattle.dw_games.specs.declared.reader.Cursor.{Cursor}
 use Rattle.dw_games.specs.declared.reader.OpenLine.{OpenLine}
-use Rattle.dw_games.specs.declared.branches.Node.{Node}
 use Rattle.dw_games.specs.declared.reader.Reader.{Reader}
+use Rattle.dw_games.specs.declared.reader.Found.{Found}
 use Rattle.dw_games.specs.declared.reader.Step.{Step}
 use Rattle.dw_games.specs.declared.reader.Step.TheVariants.{Played, Forced}
 
@@ -43,33 +47,78 @@ IsBefore g p tree None before moves = moves ≡ []
 IsBefore g p tree (Some cursor) before moves = (front : List Move) × (last : Move) × (moves ≡ front ++ last ∷ [])
     × IsCursor g p tree cursor (before ++ front)
 
--- a line stands in a variation that begins after some moves and has some of its own
-pub record IsLine {B : Type 0} (g : Geometry) (p : Placement) (tree : List (List Move)) (line : OpenLine B)
-    (before moves : List Move) : Type 0 where
+-- a cursor is after the reply that follows some moves, or there is neither
+abbrev pub IsAfter : {B : Type 0} → Geometry → Placement → List (List Move) → Option (Cursor B) → (before moves : List
+    Move) → Option (List Move) → Type 0
+IsAfter g p tree None before moves None = Unit {0}
+IsAfter g p tree (Some cursor) before moves (Some answer) = IsCursor g p tree cursor (before ++ (moves ++ answer))
+IsAfter g p tree None before moves (Some answer) = ⊥
+IsAfter g p tree (Some cursor) before moves None = ⊥
+
+abbrev pub is_reply : Kind → Bool
+is_reply variation = false
+is_reply reply = true
+
+-- a line in parentheses has no move so far
+pub record IsBegun {B : Type 0} (g : Geometry) (p : Placement) (tree : List (List Move)) (line : OpenLine B)
+    (front : List Move) (last : Move) : Type 0 where
+  pub now : IsCursor g p tree line.now front
+  pub none : line.before ≡ None
+  pub after : Cursor B
+  pub behind : line.behind ≡ Some after
+  pub there : IsCursor g p tree after (front ++ last ∷ [])
+
+-- a line has some moves of its own after others
+pub record IsGoing {B : Type 0} (g : Geometry) (p : Placement) (tree : List (List Move)) (line : OpenLine B)
+    (kind : Kind) (before moves : List Move) (answer : Option (List Move)) : Type 0 where
   pub now : IsCursor g p tree line.now (before ++ moves)
   pub earlier : IsBefore g p tree line.before before moves
+  pub behind : line.behind ≡ None
+  pub answered : IsAfter g p tree line.answer before moves answer
+  pub told : line.is_reply ≡ is_reply kind
 
--- the lines of all variations that are open, the innermost one first, and the paths so far
+abbrev pub IsOpenLine : {B : Type 0} → Geometry → Placement → List (List Move) → OpenLine B → Line → Type 0
+IsOpenLine g p tree line (begins front last) = IsBegun g p tree line front last
+IsOpenLine g p tree line (goes_on kind before moves answer) = IsGoing g p tree line kind before moves answer
+
+-- a line after one in parentheses
+abbrev pub answer_after : {B : Type 0} → OpenLine B → OpenLine B → Option (Cursor B)
+answer_after line inner = if inner.is_reply then (if inner.is_single then Some inner.now else None) else line.answer
+
+abbrev pub line_after : {B : Type 0} → OpenLine B → OpenLine B → OpenLine B
+line_after line inner = elim inner.behind [
+  | Some after ↦ line
+  | None ↦ record {
+    now = line.now;
+    before = line.before;
+    behind = line.behind;
+    answer = answer_after line inner;
+    is_reply = line.is_reply;
+    is_single = false;
+  }
+]
+
+-- all lines that are open, the innermost one first, and the paths so far
 pub data Opened {B : Type 0} (g : Geometry) (p : Placement) (tree : List (List Move))
-    : ℕ → List Token → OpenLine B → (outer : List (OpenLine B)) → (before moves : List Move) → List (List Move)
-    → Type 0 where
-  outermost : {ts : List Token} {line : OpenLine B} {moves : List Move} {paths : List (List Move)}
-      → IsVariation g p MAX_OPEN [] ts moves paths → IsLine g p tree line [] moves
-      → Opened g p tree MAX_OPEN ts line [] [] moves paths
-  inner : {room : ℕ} {ts us : List Token} {line around : OpenLine B} {outer : List (OpenLine B)}
-      {before others : List Move} {paths more : List (List Move)} (moves : List Move) (last : Move) (opening : Token)
-      → Opened g p tree (suc room) ts around outer before (moves ++ last ∷ []) paths → opening.what ≡ Opens
-      → IsVariation g p room (before ++ moves) us others more → IsLine g p tree line (before ++ moves) others
-      → Opened g p tree room (ts ++ opening ∷ us) line (outer ++ around ∷ []) (before ++ moves) others (paths ++ more)
+    : ℕ → List Token → OpenLine B → (outer : List (OpenLine B)) → Line → List (List Move) → Type 0 where
+  outermost : {ts : List Token} {open_line : OpenLine B} {line : Line} {paths : List (List Move)}
+      → IsLine g p MAX_OPEN first_line ts line paths → IsOpenLine g p tree open_line line
+      → Opened g p tree MAX_OPEN ts open_line [] line paths
+  inner : {room : ℕ} {ts us : List Token} {open_line around : OpenLine B} {outer : List (OpenLine B)} {kind : Kind}
+      {before : List Move} {answer : Option (List Move)} {line : Line} {paths more : List (List Move)}
+      (moves : List Move) (last : Move) (opening : Token)
+      → Opened g p tree (suc room) ts around outer (goes_on kind before (moves ++ last ∷ []) answer) paths
+      → opening.what ≡ Opens → IsLine g p room (begins (before ++ moves) last) us line more
+      → IsOpenLine g p tree open_line line → open_line.is_single ≡ (count_moves us == 1)
+      → Opened g p tree room (ts ++ opening ∷ us) open_line (outer ++ around ∷ []) line (paths ++ more)
 
 -- a reader has read these tokens, and no result among them
 pub record HasRead {B : Type 0} (g : Geometry) (p : Placement) (ts : List Token) (reader : Reader B) : Type 0 where
   pub room : ℕ
-  pub before : List Move
-  pub moves : List Move
+  pub line : Line
   pub paths : List (List Move)
   pub start : reader.tree.start ≡ p
-  pub opened : Opened g p reader.tree.paths room ts reader.line reader.outer.items before moves paths
+  pub opened : Opened g p reader.tree.paths room ts reader.line reader.outer.items line paths
   pub distinct : AreDistinct paths reader.tree.paths
 
 -- a fault is that of a token after those before it
@@ -84,21 +133,56 @@ IsTaken g p ts t reader (Ok false) = HasRead g p (ts ++ t ∷ []) reader
 IsTaken g p ts t reader (Ok true) = IsResult t × HasRead g p ts reader × (reader.outer.items ≡ [])
 IsTaken g p ts t reader (Err why) = IsFaultOf g p ts t why
 
--- the move that a token names, or the reply that it leaves out and the move after that
-abbrev pub IsStep : {B : Type 0} → Geometry → Token → Cursor B → Step B → Type 0
-IsStep g t cursor (Played m) = IsMove g cursor.position t m
-IsStep g t cursor (Forced reply m) = (cursor.moves % 2 ≡ 1) × IsLeftOut g cursor.position t reply m
+-- a place is after these moves
+pub record IsAt {B : Type 0} (g : Geometry) (p : Placement) (cursor : Cursor B) (path : List Move) : Type 0 where
+  pub position : cursor.position ≡ after g p path
+  pub many : cursor.moves ≡ length path
 
--- a token stands for a move that can be read as one more, or for two, or is at fault
-abbrev pub IsStepOf : {B : Type 0} → Geometry → Placement → List Token → Token → Reader B
-    → Result (Step B) MovetextFault → Type 0
-IsStepOf g p ts t reader (Ok step) = IsStep g t reader.line.now step × (reader.line.now.moves < MAX_PATH)
-IsStepOf g p ts t reader (Err why) = IsFaultOf g p ts t why
+-- the moves of a step
+abbrev pub moves_of : {B : Type 0} → Step B → List Move
+moves_of (Played m) = m ∷ []
+moves_of (Forced answer m) = answer ∷ m ∷ []
+
+-- a token stands for nothing after a path
+abbrev pub IsNoStep : Geometry → Placement → List Move → Token → MovetextFaultKind → Type 0
+IsNoStep g p path t what = ((what ≡ NoToken) × IsNeither g t) ⊎ IsRefusedAfter g p path t what
+
+-- what a token stands for after a path, or its fault
+abbrev pub IsStepAt : {B : Type 0} → Geometry → Placement → List Move → Token → Result (Step B) MovetextFault → Type 0
+IsStepAt g p path t (Ok step) = StandsFor g p path t (moves_of step)
+IsStepAt g p path t (Err (Refused what place)) = IsNoStep g p path t what × (place ≡ t.place)
+IsStepAt g p path t (Err Memory) = Unit {0}
+
+-- the same of a token that names no single move there
+abbrev pub IsMissedAt : {B : Type 0} → Geometry → Placement → List Move → Token → Result (Step B) MovetextFault → Type 0
+IsMissedAt g p path t (Ok (Played m)) = ⊥
+IsMissedAt g p path t (Ok (Forced answer m)) =
+    (length path < MAX_PATH) × IsDefence path × IsLeftOut g (after g p path) t answer m
+IsMissedAt g p path t (Err (Refused what place)) = IsNoStep g p path t what × (place ≡ t.place)
+IsMissedAt g p path t (Err Memory) = Unit {0}
+
+-- how a token goes on with a line, from a place of the tree
+pub record IsFound {B : Type 0} (g : Geometry) (p : Placement) (tree : List (List Move)) (line : Line) (t : Token)
+    (found : Found B) : Type 0 where
+  pub kind : Kind
+  pub before : List Move
+  pub moves : List Move
+  pub follows : Follows g p line t kind before moves (moves_of found.step)
+  pub stands : StandsFor g p (before ++ moves) t (moves_of found.step)
+  pub from : IsCursor g p tree found.from (before ++ moves)
+  pub is_reply : found.is_reply ≡ is_reply kind
+
+abbrev pub IsFoundOr : {B : Type 0} → Geometry → Placement → List (List Move) → Line → Token
+    → Result (Found B) MovetextFault → Type 0
+IsFoundOr g p tree line t (Ok found) = IsFound g p tree line t found
+IsFoundOr g p tree line t (Err (Refused what place)) =
+    (((what ≡ NoToken) × IsNeither g t) ⊎ CannotFollow g p line t what) × (place ≡ t.place)
+IsFoundOr g p tree line t (Err Memory) = Unit {0}
 
 -- a token that names no legal move of the defender: the reply that it leaves out and the move after that, or its fault
 abbrev pub IsForcedOr : {B : Type 0} → Geometry → Placement → Token → Result (Step B) MovetextFault → Type 0
 IsForcedOr g q t (Ok (Played m)) = ⊥
-IsForcedOr g q t (Ok (Forced reply m)) = IsOnlyMove g q reply × IsRead g (play g q reply) (plain t.text) (Ok m)
+IsForcedOr g q t (Ok (Forced answer m)) = IsOnlyMove g q answer × IsRead g (play g q answer) (plain t.text) (Ok m)
 IsForcedOr g q t (Err (Refused NoSuchMove place)) = NamesNoneBehind g q (plain t.text) × (place ≡ t.place)
 IsForcedOr g q t (Err (Refused Ambiguous place)) = (reply : Move) × IsOnlyMove g q reply
     × IsRead g (play g q reply) (plain t.text) (Err reading.Ambiguous) × (place ≡ t.place)
@@ -114,30 +198,39 @@ IsSearched g q text replies (Ok false) = (reply : Move) → Member reply replies
     → IsRead g (play g q reply) text (Err reading.NoSuchMove)
 IsSearched g q text replies (Err why) = why ≡ Memory
 
--- a reader may note a legal move after the place where it is
-pub record CanNote {B : Type 0} (g : Geometry) (reader : Reader B) (m : Move) : Type 0 where
+-- a legal move may be noted after a place of a tree
+pub record CanNote {B : Type 0} (g : Geometry) (tree : PlayedTree) (from : Cursor B) (m : Move) : Type 0 where
   pub path : List Move
-  pub cursor : IsCursor g reader.tree.start reader.tree.paths reader.line.now path
-  pub legal : Legal g reader.line.now.position m
-  pub short : reader.line.now.moves < MAX_PATH
+  pub cursor : IsCursor g tree.start tree.paths from path
+  pub legal : Legal g from.position m
+  pub short : from.moves < MAX_PATH
 
--- a reader has noted a move, and goes on after it
-pub record HasNoted {B : Type 0} (g : Geometry) (old new : Reader B) (m : Move) : Type 0 where
-  pub node : Node
-  pub start : new.tree.start ≡ old.tree.start
-  pub noted : (b : List Move) → beginning_at old.tree.paths (place_of old.line.now.node) ≡ Some b
-      → IsNoted old.tree.paths (b ++ m ∷ []) new.tree.paths
-  pub there : (b : List Move) → beginning_at old.tree.paths (place_of old.line.now.node) ≡ Some b
-      → slice_get new.tree.paths node.0 ≡ Some (b ++ m ∷ [])
-  pub line : new.line ≡ record {
-    now = record {
-      node = Some node;
-      position = play g old.line.now.position m;
-      moves = old.line.now.moves + 1;
-    };
-    before = Some old.line.now;
-  }
-  pub outer : new.outer.items ≡ old.outer.items
+-- the moves of a step may be noted after a place of a tree
+abbrev pub CanNoteStep : {B : Type 0} → Geometry → PlayedTree → Cursor B → Step B → Type 0
+CanNoteStep g tree from (Played m) = CanNote g tree from m
+CanNoteStep g tree from (Forced answer m) =
+    CanNote g tree from answer × Legal g (play g from.position answer) m × (from.moves + 1 < MAX_PATH)
+
+-- a tree has noted a move after a path
+pub record HasNoted {B : Type 0} (g : Geometry) (old new : PlayedTree) (path : List Move) (m : Move) (to : Cursor B)
+    : Type 0 where
+  pub start : new.start ≡ old.start
+  pub noted : IsNoted old.paths (path ++ m ∷ []) new.paths
+  pub there : IsCursor g old.start new.paths to (path ++ m ∷ [])
+
+-- a tree has noted some moves after a path, one or more
+pub record HasNotedStep {B : Type 0} (g : Geometry) (old new : PlayedTree) (path more : List Move) (from to : Cursor B)
+    : Type 0 where
+  pub start : new.start ≡ old.start
+  pub distinct : (paths : List (List Move)) → AreDistinct paths old.paths
+      → AreDistinct (paths ++ beginnings_after path more) new.paths
+  pub kept : (node : Option ℕ) (b : List Move) → beginning_at old.paths node ≡ Some b
+      → beginning_at new.paths node ≡ Some b
+  pub now : IsCursor g old.start new.paths to (path ++ more)
+  pub front : List Move
+  pub last : Move
+  pub is : more ≡ front ++ last ∷ []
+  pub before : IsCursor g old.start new.paths from (path ++ front)
 
 -- a reader has read some tokens, from some position on
 abbrev pub IsReading : {B : Type 0} → Geometry → Reader B → Type 0

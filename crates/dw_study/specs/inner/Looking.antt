@@ -9,7 +9,7 @@ use Rattle.dw_solve.specs.Searching.{IsCounted}
 use Rattle.dw_solve.specs.Solving.{Solving}
 use Rattle.dw_solve.specs.Questions.{moment_of}
 use Rattle.dw_solve.specs.Work.{Searched, cut_off}
-use Rattle.dw_study.specs.declared.looking.Cut.{Cut}
+use Rattle.dw_study.specs.declared.least.Cut.{Cut}
 use Rattle.dw_study.specs.Finding.{IsJudgedAt}
 
 -- the number was found, or it was found that there is no win within some lower number of moves

@@ -1,6 +1,6 @@
 use Rattle.std.proofs.Common.{◌≡◌, ◌++◌, ◌-◌, [], List, length}
 use Rattle.dw_moves.specs.Moves.{Move}
-use Rattle.dw_games.specs.inner.LineReading.{beginnings_after}
+use Rattle.dw_games.specs.Play.{beginnings_after}
 use Rattle.dw_games.proofs.line.moves_of.Given as goal
 
 abbrev pub invariant-moves : goal.invariant-moves

@@ -1,6 +1,6 @@
 use Rattle.std.proofs.Common.{List, length}
 use Rattle.dw_games.specs.Tokens.{Token}
-use Rattle.dw_games.specs.Play.{AreComments}
+use Rattle.dw_games.specs.Printed.{AreComments}
 use Rattle.dw_games.specs.inner.Ahead.{bytes_ahead}
 use Rattle.dw_games.specs.inner.Reading.{ReadOn}
 use Rattle.dw_games.proofs.movetext.read_comments.Given as goal

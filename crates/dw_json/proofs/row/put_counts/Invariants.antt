@@ -9,5 +9,6 @@ abbrev pub invariant-pairs : goal.invariant-pairs
 invariant-pairs l = record {
   before : l.row.before ≡ l.initial.row.before;
   tokens : l.row.tokens ≡ l.initial.row.tokens
-      ++ all_tokens (map (λ pair. array (items_of (string (string_bytes pair.0) ∷ count pair.1 ∷ []))) (take l.pair-index l.all));
+      ++ all_tokens (map (λ pair. array (items_of (string (string_bytes pair.0) ∷ count pair.1 ∷ [])))
+      (take l.pair-index l.all));
 }

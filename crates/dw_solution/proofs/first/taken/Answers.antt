@@ -1,7 +1,8 @@
 use Rattle.std.proofs.Common.{◌∙◌, refl, sym, ap, subst, arith, length}
 use Rattle.dw_list.specs.Listing.{stack_of, solver_of}
 use Rattle.dw_solution.specs.inner.Taking.{AreTaken}
-use Rattle.dw_solution.proofs.TakingLemmas.{took_one, ended, stopped, counted_then}
+use Rattle.dw_solve.specs.inner.CountLemmas.{counted_then}
+use Rattle.dw_solution.proofs.TakingLemmas.{took_one, ended, stopped}
 use Rattle.dw_solution.proofs.first.taken.Goals as goal
 
 pub lines-init : goal.lines-init

@@ -14,4 +14,4 @@ returns-in_default g c = λ p ts h.
 pub returns : goal.returns
 returns g c = λ p ts h.
     taken_closes _ p ts c.args.self.now h (token_value c.args.token) _ c.in-Some.line c.in-Some.ensures.items c.requires
-    refl refl
+    refl c.after-self.ensures

@@ -22,4 +22,4 @@ pub returns : goal.returns
 returns g c = λ p ts h.
     taken_opens _ p ts c.args.self.now h (token_value c.args.token) _ c.in-Some.before c.in-Some.is
     (not_full _ c.if-is_full.ensures.value c.if-is_full.ensures.fits) c.requires refl
-    c.from-self.ensures c.push.ensures.items
+    c.in_parentheses-self.ensures c.push.ensures.items
