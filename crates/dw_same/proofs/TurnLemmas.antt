@@ -1,12 +1,12 @@
 -- Positions that are turned, and their keys.
-use Rattle.std.proofs.Common.{◌≡◌, ◌∙◌, ℕ, ◌+◌, ◌-◌, ◌≤◌, ◌<◌, true, false, cond, Option, Some, None, length, get_or}
+use Rattle.std.proofs.Common.{◌≡◌, ◌∙◌, ℕ, ◌+◌, ◌-◌, ◌≤◌, ◌<◌, true, false, cond, Option, Some, None, length, get_or, List}
 use Rattle.std.proofs.Common.{refl, sym, ap, subst, arith, inl, inr, leb}
 use Rattle.std.specs.Cmp.Lexicographic.{bytes_decides}
 use Rattle.std.proofs.lemmas.Bool.{and_from, cases_lt, eq-eqb, le-leb, leb-true}
 use Rattle.std.proofs.lemmas.List.{ext_get_or}
 use Rattle.std.proofs.lemmas.List.FromFn.{length-map-range_with_len, get_or-map-range_with_len}
 use Rattle.dw_board.specs.Geometry.{Geometry, IsBoard, OnBoard, squares}
-use Rattle.dw_board.specs.Placement.{IsPosition, Placement, at, cell_codes, other, side_code}
+use Rattle.dw_board.specs.Placement.{IsPosition, Placement, at, cell_code, cell_codes, other, side_code}
 use Rattle.dw_board.specs.declared.piece.Piece.{Piece}
 use Rattle.dw_board.specs.declared.piece.Side.{Side}
 use Rattle.dw_board.specs.declared.piece.Side.TheVariants.{Black, White}
@@ -131,3 +131,10 @@ pub transitive : (g : Geometry) → IsBoard g → (p q r : Placement) → IsPosi
 transitive g board p q r rules (inl e) f = subst (λ z. AreSame g z r) (sym e) f
 transitive g board p q r rules (inr e) (inl f) = inr (e ∙ ap (turned g) f)
 transitive g board p q r rules (inr e) (inr f) = inl (e ∙ (ap (turned g) f ∙ turned_twice g board r rules))
+
+-- the number of the cell at an index, which is that of the square after it
+pub code_at : (cells : List (Option Piece)) (i : ℕ) (cell : Option Piece) (code : ℕ) → code ≡ cell_code cell
+    → cell ≡ get_or cells (i + 1 - 1) None → code ≡ cell_code (get_or cells i None)
+code_at cells i cell code is here =
+    let place : i + 1 - 1 ≡ i = omega arith in
+    is ∙ ap cell_code (here ∙ ap (λ k. get_or cells k None) place)
