@@ -278,7 +278,8 @@ def check_rows(folder):
 def check_errors():
     """Arguments that are none, a file that is not there, and one that can not be written."""
     for words in (["find", "--most", "0"], ["find", "--most", "21"], ["find", "--each", "0"], ["find", "-n", "0"],
-                  ["find", "-n", "2", "--most", "3"], ["find", "--later", "0"], ["find", "--later", "20"], ["find", "--solution"], ["find", "-n", "2", "--solution"],
+                  ["find", "-n", "2", "--most", "3"], ["find", "--solution"], ["find", "-n", "2", "--solution"],
+                  ["find", "--later", "0"], ["find", "--later", "20"],
                   ["find", "--problem", "2-1"], ["find", "--problem", "0"], ["find", "--problem", "1-"],
                   ["find", "--problem", "1000001"], ["find", "--problem", "a"], ["find", "a", "b"], ["seek"],
                   ["token"], ["token", "--line", "x", "--problem", "1-2"], ["check", "-n", "21"],

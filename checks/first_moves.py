@@ -6,8 +6,8 @@
 For random small positions (30 on each board by default), within 1, 2 or 3 moves, the recursion of judging.py finds for
 each legal move the least number of moves in which it wins, or all replies that refute it. The output must be the same,
 in the same order, with the same count, with each cache, as text and as JSON. The parts joined must be the whole, and
-the winning moves the keys of `dw judge`. `find --later` must list those moves that win later than the keys, in words and
-in JSON. The errors of the command come last.
+the winning moves the keys of `dw judge`. `find --later` must list those moves that win later than the keys, in words
+and in JSON. The errors of the command come last.
 """
 import json
 import pathlib

@@ -30,8 +30,8 @@ const ABOUT: &str =
     "Compares the solution in each game of a PDN file with all wins: wrong moves, missing moves.";
 
 const EXAMPLES: &str = "\
-A solution is the moves after the tags of a game, with variations in parentheses. Each remark is a
-line:
+A solution is the moves after the tags of a game, with variations and replies in parentheses. Each
+remark is a line:
   fails  a move of the attacker that does not win, with the reply that refutes it
   also   winning moves that the solution lacks
   open   replies that the solution lacks

@@ -21,7 +21,7 @@ use std::alloc::Global;
 /// Between which numbers of moves a later win lies.
 #[derive(Clone, Copy)]
 pub struct LaterBounds {
-    /// A move that wins within so many moves is a key.
+    /// A move that wins within this number of moves is a key.
     pub moves: MoveCount,
     /// The most moves within which a later win is looked for.
     pub most: MoveCount,

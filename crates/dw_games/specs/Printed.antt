@@ -90,7 +90,7 @@ abbrev pub count_moves : List Token → ℕ
 count_moves [] = 0
 count_moves (t ∷ ts) = one_if_move t.what + count_moves ts
 
--- the reply that counts after a parenthesis of so many move tokens: a variation leaves the last one
+-- the reply that counts after a parenthesis with this number of move tokens: a variation leaves the last one
 abbrev pub answer_of : Line → ℕ → Option (List Move) → Option (List Move)
 answer_of (goes_on reply before moves answer) many old = if many == 1 then Some moves else None
 answer_of (goes_on variation before moves answer) many old = old

@@ -64,7 +64,7 @@ impl<B: Board> Field<B> {
         }
     }
 
-    /// Returns these enemies without those behind which, in this direction, a piece stands or the board ends.
+    /// Returns these enemies without those next to which, in this direction, a piece stands or the board ends.
     #[inline]
     pub(crate) fn open_behind(&self, enemies: Squares<B>, direction: Dir) -> Squares<B>
         ensures { (c t : ℕ) → In c enemies → step B.geometry c direction ≡ Some t → OnBoard B.geometry c

@@ -89,8 +89,8 @@ result_token t result e here = record {
 }
 
 -- play that ends with the words behind it
-over_with : PdnIsRead → (g : Geometry) (p : Placement) (more : Bool) (result : List ℕ) (ts us : List Token) (moves : List Move)
-    (paths : List (List Move)) → IsVariation g p 40 [] ts moves paths → Member result results
+over_with : PdnIsRead → (g : Geometry) (p : Placement) (more : Bool) (result : List ℕ) (ts us : List Token)
+    (moves : List Move) (paths : List (List Move)) → IsVariation g p 40 [] ts moves paths → Member result results
     → map mark_of us ≡ last_marks more result → IsOver g p (ts ++ us) paths
 over_with read g p true result ts us moves paths h here e =
     let c = map_cons us (Comment, codes "{more}") ((Written, result) ∷ []) e in
@@ -128,8 +128,8 @@ some_path : (t : Tree) (lines : List (List Move)) → lines_of t ≡ lines → 0
 some_path over lines e some = absurd (omega (arith, some, ap length e))
 some_path (branch m b o) lines e some = (m ∷ [], subst (λ z. IsBeginning z (m ∷ [])) e (begin_first m b o))
 
-pub read_back : PdnIsRead → WrittenMoveIsNamed → PlayStays → LegalMovesTake → (g : Geometry) → IsBoard g → (heading : Heading)
-    (first : LinesFrom) (many : ℕ) (text : List ℕ) → IsPosition g first.start.cells
+pub read_back : PdnIsRead → WrittenMoveIsNamed → PlayStays → LegalMovesTake → (g : Geometry) → IsBoard g
+    → (heading : Heading) (first : LinesFrom) (many : ℕ) (text : List ℕ) → IsPosition g first.start.cells
     → ((l : List Move) → Member l first.lines → length l ≤ 39) → (written : IsMovetext g heading first many text)
     → 0 < many → IsReadAs g first.start text (take many first.lines)
 read_back read_pdn named stays takes g board heading begun many text pos few written some =
