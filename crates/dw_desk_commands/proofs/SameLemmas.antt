@@ -53,7 +53,8 @@ repeated_is : (g : Geometry) (json : Bool) (before : List Noted) (game : Numbere
     → is_repeated (outcome found repeat) ≡ of.is_repeated (record { game = game; repeat = repeat })
 repeated_is g json before game (Ok p) None text is = refl
 repeated_is g json before game (Ok p) (Some r) text is = refl
-repeated_is g json before game (Err f) repeat text is = ap (λ r. of.is_repeated (record { game = game; repeat = r })) (sym is.0)
+repeated_is g json before game (Err f) repeat text is =
+    ap (λ r. of.is_repeated (record { game = game; repeat = r })) (sym is.0)
 
 -- a number with one problem more
 one_more : (test : Compared → Bool) (xs : List Compared) (this : Compared) (old new : ℕ) (yes' : Bool)

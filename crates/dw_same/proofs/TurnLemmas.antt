@@ -1,6 +1,6 @@
 -- Positions that are turned, and their keys.
-use Rattle.std.proofs.Common.{◌≡◌, ◌∙◌, ℕ, ◌+◌, ◌-◌, ◌≤◌, ◌<◌, true, false, cond, Option, Some, None, length, get_or, List}
-use Rattle.std.proofs.Common.{refl, sym, ap, subst, arith, inl, inr, leb}
+use Rattle.std.proofs.Common.{◌≡◌, ◌∙◌, ℕ, ◌+◌, ◌-◌, ◌≤◌, ◌<◌, true, false, cond, Option, Some, None, length, get_or}
+use Rattle.std.proofs.Common.{List, refl, sym, ap, subst, arith, inl, inr, leb}
 use Rattle.std.specs.Cmp.Lexicographic.{bytes_decides}
 use Rattle.std.proofs.lemmas.Bool.{and_from, cases_lt, eq-eqb, le-leb, leb-true}
 use Rattle.std.proofs.lemmas.List.{ext_get_or}

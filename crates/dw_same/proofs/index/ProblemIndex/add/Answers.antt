@@ -55,7 +55,7 @@ returns-clause-added g c problems all =
     let map = c.args.self.now.firsts in
     let absent = sym c.get.ensures.value ∙ ap option_copied c.in_default.is in
     new_pushed geo g.met.B.Board.numbers problems map.entries c.insert.new.self.entries
-    (record { number = c.args.number; position = p }) c.key_of-key.result c.turn-turn.result c.turn-turn.ensures.position
-    c.key_of-key.ensures c.turn-turn.ensures.value absent
+    (record { number = c.args.number; position = p }) c.key_of-key.result c.turn-turn.result
+    c.turn-turn.ensures.position c.key_of-key.ensures c.turn-turn.ensures.value absent
     (c.in_ok-insert.ensures.entries ∙ insert_entry-new (pointwise nat_eq) map c.key_of-key.result
     (record { number = c.args.number; turn = c.turn-turn.result }) absent) all
