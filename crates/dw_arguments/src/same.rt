@@ -24,7 +24,7 @@ file of problems that you know before the new ones.
 
 Examples:
   dw-desk same examples/problems.fen
-  cat archive.pdn entries.pdn | dw-desk same --pdn";
+  cat examples/collection.pdn examples/solutions.pdn | dw-desk same --pdn";
 
 /// Returns the command with its arguments.
 pub(crate) fn same_command<'a>(alloc: Global) -> Result<Command<'a>, AllocError> {
