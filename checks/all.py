@@ -53,6 +53,7 @@ CHECKS = [
     Check("certificates", slow=("--count", "1000")),
     Check("mends", slow=("--count", "100")),
     Check("first_moves", slow=("--count", "2000")),
+    Check("same", slow=("--count", "20000")),
     Check("board_making"),
     Check("refused_memory"),
     Check("long_list"),

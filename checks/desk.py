@@ -286,12 +286,13 @@ def check_errors():
                   ["certify", "-n", "2", "--json"], ["page", "-n", "2", "--json"], ["token", "--line", "x", "--json"],
                   ["solution"], ["solution", "-n", "2", "--most", "3"], ["solution", "--most", "0"],
                   ["check", "-n", "2", "--most", "3"], ["check", "--most", "0"], ["check", "--most", "21"],
-                  ["page", "-n", "2", "--tries", "some"], ["find", "--faults"]):
+                  ["page", "-n", "2", "--tries", "some"], ["find", "--faults"], ["same", "--memo", "lru"],
+                  ["same", "--cache", "5"], ["same", "-n", "2"], ["same", "--problem", "2-1"], ["same", "--progress"]):
         ran = subprocess.run([DESK, *words], capture_output=True, text=True, input="", timeout=60, check=False)
         assert (ran.returncode, ran.stdout) == (2, "") and ran.stderr.startswith("error: "), (words, ran)
     for words in (["find"], ["check"], ["solution", "-n", "2"], ["page", "-n", "2"], ["certify", "-n", "2"],
                   ["mend", "-n", "2"], ["moves", "-n", "2"], ["solution", "--most", "2"], ["check", "--faults"],
-                  ["check", "--most", "2"],
+                  ["check", "--most", "2"], ["same"], ["same", "--json"],
                   ["solution", "-n", "2", "--json"], ["token", "--line", "x"]):
         assert run(DESK, *words, "--problem", "2", text="W:W32:B28\n", status=1,
                    complaint="dw-desk: no problem 2\n") == "", words
@@ -299,7 +300,7 @@ def check_errors():
     text = b'[FEN "W:W32:B28"] 1. 32x23 *\n'
     for words in (["find", "--pdn"], ["check"], ["solution", "--pdn", "-n", "1"], ["page", "--pdn", "-n", "1"],
                   ["solution", "--pdn", "-n", "1", "--json"], ["certify", "--pdn", "-n", "1"],
-                  ["mend", "--pdn", "-n", "1"], ["moves", "--pdn", "-n", "1"],
+                  ["mend", "--pdn", "-n", "1"], ["moves", "--pdn", "-n", "1"], ["same", "--pdn"],
                   ["token", "--pdn", "--line", "32x23"]):
         with open("/dev/full", "w", encoding="ascii") as full:
             ran = subprocess.run([DESK, *words], input=text, stdout=full, stderr=subprocess.PIPE, timeout=60,

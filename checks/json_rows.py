@@ -18,6 +18,8 @@ TOP = pathlib.Path(__file__).resolve().parent.parent
 DW, DESK, EXAMPLES, DOCS = TOP / "dw", TOP / "dw-desk", TOP / "examples", TOP / "docs"
 # Problems of all kinds, two that are refused, and solutions with each kind of remark.
 POSITIONS = ["W:W27,32:B18", "W:W27,45:B16", "W:W27,32,38:B18", "W:W27:B16", "W:W3:B20", "x", "W:W:B18"]
+# The first problem once more, and turned.
+TWICE = "W:W27,32:B18\nB:W33:B19,24\n"
 MOVETEXTS = [" 1. 32-28 18-22 2. 27x18 2-0", " 1. 27-22! {why not} 18x38 *", " 1. 32-28 *", " 1. 32-27", " *"]
 
 
@@ -32,7 +34,7 @@ def written():
     positions = "".join(position + "\n" for position in POSITIONS)
     games = "".join(f'[FEN "W:W27,32:B18"]{movetext}\n\n' for movetext in MOVETEXTS)
     found = {"find": lines_of("find", "--json", "--most", "3", text=positions), "check": [],
-             "solution": [], "moves": []}
+             "solution": [], "moves": [], "same": lines_of("same", "--json", text=positions + TWICE)}
     for more in (["--each", "3"], ["--solution"], ["--solution", "--each", "3"]):
         found["find"] += lines_of("find", "--json", "--most", "3", *more, text=positions)
     for more in ([], ["--solution"]):

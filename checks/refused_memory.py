@@ -38,7 +38,7 @@ DESK_COMMANDS = (["find", "--pdn"], ["find", "--pdn", "--json"], ["find", "--pdn
                  ["mend", "--pdn", "-n", "1", "--json"], ["solution", "--pdn", "--most", "2"],
                  ["solution", "--pdn", "-n", "2", "--json"], ["check", "--faults"], ["check", "--most", "3"],
                  ["page", "--pdn", "-n", "2", "--tries", "none"], ["moves", "--pdn", "-n", "2", "--part", "2/2"],
-                 ["token", "--pdn", "--line", "45-40 16-21 27x16"])
+                 ["same", "--pdn"], ["same", "--pdn", "--json"], ["token", "--pdn", "--line", "45-40 16-21 27x16"])
 GAME = b'[Event "a"]\n[FEN "W:W27,45:B16"]\n\n1. 45-40 (1. 27-21 16x27) 16-21 2. 27x16 *\n'
 # A memo that is refused memory for an entry loses it, and then a certificate may lack a position.
 DESK_STOPPED = re.compile(rb"dw-desk: (stopped: 1 memory, \d+ expanded|too many positions, .*)\n")

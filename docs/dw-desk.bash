@@ -7,7 +7,7 @@
 
 _dw_desk() {
     local current=${COMP_WORDS[COMP_CWORD]} previous=${COMP_WORDS[COMP_CWORD - 1]}
-    local commands="find check solution moves page certify mend token help"
+    local commands="find check solution moves page same certify mend token help"
     local command="" options="" word
     # bash cuts --memo=lru into three words.
     if [ "$current" = "=" ]; then
@@ -17,7 +17,7 @@ _dw_desk() {
     fi
     for word in "${COMP_WORDS[@]:1:COMP_CWORD-1}"; do
         case $word in
-            find | check | solution | moves | page | certify | mend | token | help) command=$word && break ;;
+            find | check | solution | moves | page | same | certify | mend | token | help) command=$word && break ;;
         esac
     done
     case $command in
@@ -32,6 +32,7 @@ _dw_desk() {
             options="$options --cache --progress -h --help"
             ;;
         moves) options="-n --board --pdn --problem --part --json --memo --cache --progress -h --help" ;;
+        same) options="--board --pdn --problem --json -h --help" ;;
         certify) options="-n --board --pdn --problem --memo --cache --progress -h --help" ;;
         mend) options="-n --board --pdn --problem --each --part --json --memo --cache --progress -h --help" ;;
         token) options="--board --pdn --problem --line -h --help" ;;

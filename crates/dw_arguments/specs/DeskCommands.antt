@@ -16,6 +16,7 @@ use Rattle.dw_arguments.specs.declared.mend.MendArgs.{MendArgs}
 use Rattle.dw_arguments.specs.declared.moves.MovesArgs.{MovesArgs}
 use Rattle.dw_arguments.specs.declared.page.PageArgs.{PageArgs}
 use Rattle.dw_arguments.specs.declared.portion.Portion.{Portion}
+use Rattle.dw_arguments.specs.declared.same.SameArgs.{SameArgs}
 use Rattle.dw_arguments.specs.declared.solution.SolutionArgs.{SolutionArgs}
 use Rattle.dw_arguments.specs.declared.desk.DeskArgs.{DeskArgs}
 use Rattle.dw_arguments.specs.declared.desk.Task.{Task}
@@ -66,6 +67,10 @@ pub record AsksPage (options : List Row) (query : PageArgs) : Type 0 where
   pub numbers : query.numbers ≡ flag_option options (codes "numbers")
   pub solutions : query.solutions ≡ placing_named (text_option options (codes "solutions"))
   pub tries : query.tries ≡ tries_named (text_option options (codes "tries"))
+
+-- the request of `same`
+pub record AsksSame (options : List Row) (query : SameArgs) : Type 0 where
+  pub json : query.json ≡ flag_option options (codes "json")
 
 -- the request of `certify`
 pub record AsksCertify (options : List Row) (query : CertifyArgs) : Type 0 where
@@ -121,6 +126,10 @@ IsSolution options task = (query : SolutionArgs) × (task ≡ tasks.Solution que
 abbrev pub IsPage : List Row → Task → Type 0
 IsPage options task = (query : PageArgs) × (task ≡ tasks.Page query) × AsksPage options query
 
+-- the task of `same`
+abbrev pub IsSame : List Row → Task → Type 0
+IsSame options task = (query : SameArgs) × (task ≡ tasks.Same query) × AsksSame options query
+
 -- the task of `certify`
 abbrev pub IsCertify : List Row → Task → Type 0
 IsCertify options task = (query : CertifyArgs) × (task ≡ tasks.Certify query) × AsksCertify options query
@@ -145,6 +154,13 @@ ForPortion options Asks (Ok args) = Searches options args
     × IsPortion (text_option options (codes "problem")) args.portion × Asks options args.task
 ForPortion options Asks (Err refusal) = portion_named (text_option options (codes "problem")) ≡ None
 
+-- a command that reads a portion of the problems and searches nothing; it is refused if the text names none
+abbrev pub ForReading : (options : List Row) → (Asks : List Row → Task → Type 0) → Result DeskArgs (Bor (List ℕ))
+    → Type 0
+ForReading options Asks (Ok args) = Reads options args
+    × IsPortion (text_option options (codes "problem")) args.portion × Asks options args.task
+ForReading options Asks (Err refusal) = portion_named (text_option options (codes "problem")) ≡ None
+
 -- a command for one problem; it is never refused
 abbrev pub ForOne : (options : List Row) → (Asks : List Row → Task → Type 0) → Result DeskArgs (Bor (List ℕ)) → Type 0
 ForOne options Asks (Ok args) = Searches options args × IsOneProblem options args.portion × Asks options args.task
@@ -168,9 +184,10 @@ IsParsedFrom name options answer =
     (MatchBool (bytes_eq name (codes "solution")) (ForPortion options IsSolution answer)
     (MatchBool (bytes_eq name (codes "moves")) (ForPart options IsMoves answer)
     (MatchBool (bytes_eq name (codes "page")) (ForPortion options IsPage answer)
+    (MatchBool (bytes_eq name (codes "same")) (ForReading options IsSame answer)
     (MatchBool (bytes_eq name (codes "certify")) (ForOne options IsCertify answer)
     (MatchBool (bytes_eq name (codes "mend")) (ForPart options IsMend answer)
-    (MatchBool (bytes_eq name (codes "token")) (ForLine options answer) (IsErr answer))))))))
+    (MatchBool (bytes_eq name (codes "token")) (ForLine options answer) (IsErr answer)))))))))
 
 -- the request of a command line, by its command and the options of that
 abbrev pub IsParsed : Option (Text × List Row) → Result DeskArgs (Bor (List ℕ)) → Type 0

@@ -9,6 +9,7 @@ use crate::mend::MendArgs;
 use crate::moves::MovesArgs;
 use crate::page::PageArgs;
 use crate::portion::Portion;
+use crate::same::SameArgs;
 use crate::solution::SolutionArgs;
 use dw_notation::Form;
 
@@ -25,6 +26,8 @@ pub enum Task<'a> {
     Moves(MovesArgs),
     /// The problems are put on a page.
     Page(PageArgs<'a>),
+    /// The problems that repeat an earlier one are written.
+    Same(SameArgs),
     /// The certificate of the first chosen problem is written.
     Certify(CertifyArgs),
     /// The sound neighbours of the first chosen problem are written.

@@ -2,7 +2,7 @@
 ghost use Rattle.std.specs.Prelude.{◌≡◌};
 ghost use Rattle.clap.specs.Words.{subcommand_rows_of};
 ghost use Rattle.dw_arguments.specs.DeskCommands.{ForPart, ForPortion, IsParsed, IsParsedFrom, IsMend, IsMoves};
-ghost use Rattle.dw_arguments.specs.DeskCommands.{IsOneProblem, IsToken, Reads, Searches};
+ghost use Rattle.dw_arguments.specs.DeskCommands.{ForReading, IsOneProblem, IsSame, IsToken, Reads, Searches};
 ghost use Rattle.dw_arguments.specs.Options.{options_of};
 
 use crate::certify::{CertifyArgs, certify_command};
@@ -19,6 +19,7 @@ use crate::options::{
 use crate::page::{PageArgs, page_command};
 use crate::part::NO_PART;
 use crate::portion::{NO_PORTION, Portion};
+use crate::same::{SameArgs, same_command};
 use crate::solution::{SolutionArgs, solution_command};
 use crate::token::token_command;
 use clap::{ArgMatches, Command};
@@ -40,7 +41,7 @@ Examples:
   dw-desk check examples/solutions.pdn
 
 Exit status: 0 done; 1 a problem, solution or line was refused, a solution does not hold, or a
-problem is undecided or missing; 2 wrong arguments; 3 the program was stopped, or a file could not
+problem is repeated, undecided or missing; 2 wrong arguments; 3 the program was stopped, or a file could not
 be read or written.";
 
 /// The commands of `dw-desk`.
@@ -51,6 +52,7 @@ enum DeskCommand {
     Solution,
     Moves,
     Page,
+    Same,
     Certify,
     Mend,
     Token,
@@ -81,6 +83,7 @@ fn subcommands<'a>(alloc: Global) -> Result<Vec<Command<'a>>, AllocError> {
         DeskCommand::Solution,
         DeskCommand::Moves,
         DeskCommand::Page,
+        DeskCommand::Same,
         DeskCommand::Certify,
         DeskCommand::Mend,
         DeskCommand::Token,
@@ -98,6 +101,7 @@ fn subcommand<'a>(alloc: Global, command: DeskCommand) -> Result<Command<'a>, Al
         DeskCommand::Solution => solution_command(alloc),
         DeskCommand::Moves => moves_command(alloc),
         DeskCommand::Page => page_command(alloc),
+        DeskCommand::Same => same_command(alloc),
         DeskCommand::Certify => certify_command(alloc),
         DeskCommand::Mend => mend_command(alloc),
         DeskCommand::Token => token_command(alloc),
@@ -150,6 +154,7 @@ fn from_matches<'a>(name: &str, matches: &ArgMatches<'a>) -> Result<DeskArgs<'a>
         "solution" => for_portion(matches, Task::Solution(SolutionArgs::new(matches))),
         "moves" => for_moves(matches),
         "page" => for_portion(matches, Task::Page(PageArgs::new(matches))),
+        "same" => for_same(matches),
         "certify" => Ok(for_one(matches, Task::Certify(CertifyArgs::new(matches)))),
         "mend" => for_mend(matches),
         "token" => Ok(for_line(matches)),
@@ -193,6 +198,16 @@ fn for_mend<'a>(matches: &ArgMatches<'a>) -> Result<DeskArgs<'a>, &'static str>
     match MendArgs::new(matches) {
         Some(query) => Ok(for_one(matches, Task::Mend(query))),
         None => Err(NO_PART),
+    }
+}
+
+/// Returns the request of the command `same`, which does not search.
+fn for_same<'a>(matches: &ArgMatches<'a>) -> Result<DeskArgs<'a>, &'static str>
+    ensures { ForReading (options_of matches.now) IsSame result }
+{
+    match Portion::named(text_option(matches, "problem")) {
+        Some(portion) => Ok(read(matches, Task::Same(SameArgs::new(matches)), portion)),
+        None => Err(NO_PORTION),
     }
 }
 

@@ -19,6 +19,7 @@ pub mod page;
 mod part;
 pub mod portion;
 pub mod report;
+pub mod same;
 pub mod solution;
 mod token;
 
@@ -34,4 +35,5 @@ pub use moves::MovesArgs;
 pub use page::PageArgs;
 pub use portion::Portion;
 pub use report::{ReportArgs, ReportCommand};
+pub use same::SameArgs;
 pub use solution::SolutionArgs;

@@ -5,7 +5,9 @@ use Rattle.dw_desk_commands.specs.Commands.{FailsAt, IsDone, IsLeft, Leaves, Run
 use Rattle.dw_desk_commands.specs.Commands.{form_for}
 use Rattle.dw_desk_commands.specs.Ending.{ending_after}
 use Rattle.dw_desk_commands.specs.Page.{IsPageOf, IsPageStop}
+use Rattle.dw_desk_commands.specs.Same.{IsSameOf, IsSamePart, none_compared}
 use Rattle.dw_arguments.specs.declared.page.PageArgs.{PageArgs}
+use Rattle.dw_arguments.specs.declared.same.SameArgs.{SameArgs}
 use Rattle.dw_desk_commands.specs.ProblemText.{IsPartOfFirst, IsPartOfReport, IsReport, IsReportOnAll, IsReportOnOne}
 use Rattle.dw_desk_commands.specs.ProblemText.{nothing}
 use Rattle.dw_desk_commands.specs.declared.chosen.Chosen.{Chosen}
@@ -129,6 +131,23 @@ page_left T g portion other task query MayBe Coming old new fault is same stands
       (page.0, subst (λ z. IsPageOf g query z games page.0 text) same page.1, refl),
     )) stands)
 
+-- of the problems that repeat an earlier one
+pub same_left : (T : Type 0) (g : Geometry) (portion other : Portion) (task : Task) (query : SameArgs)
+    (MayBe : List ℕ → Type 0) (Coming : List ℕ → List NumberedGame → Type 0) (old new : List ℕ) (fault : DeskFault)
+    → task ≡ tasks.Same query → other ≡ portion
+    → StandsOf (IsSamePart g query) (λ games text. (counts : Counts) × IsSameOf g query other games counts text) MayBe
+    Coming old new fault
+    → StandsOf (Leaves g task) (IsAll T g portion task) MayBe Coming old new fault
+same_left T g portion other task query MayBe Coming old new fault is same stands =
+    subst (λ t. StandsOf (Leaves g t) (IsAll T g portion t) MayBe Coming old new fault) (sym is)
+    (stands_so (IsSamePart g query) (λ games text. (counts : Counts) × IsSameOf g query other games counts text)
+    (IsSamePart g query) (IsAll T g portion (tasks.Same query)) MayBe Coming old new fault (λ games text left. left)
+    (λ games text all. (
+      ending_after all.0.shown all.0.refused portion,
+      0,
+      (all.0, subst (λ z. IsSameOf g query z games all.0 text) same all.1, refl),
+    )) stands)
+
 -- nothing is left of a game
 pub nothing_left : (games : List NumberedGame) (text : List ℕ)
     → IsPartOfFirst (λ (game : NumberedGame) (one : List ℕ). one ≡ []) games text → text ≡ []
@@ -213,6 +232,12 @@ leaves_nothing g (tasks.Find query) games = nothing_of_all games
 leaves_nothing g (tasks.Check query) games = nothing_of_all games
 leaves_nothing g (tasks.Solution query) games = nothing_of_all games
 leaves_nothing g (tasks.Page query) games = inl refl
+leaves_nothing g (tasks.Same query) games = record {
+  problems = [];
+  behind = games;
+  are = refl;
+  each = none_compared;
+}
 leaves_nothing g (tasks.Certify query) games = refl
 leaves_nothing g (tasks.Moves query) games = no_part _ games
 leaves_nothing g (tasks.Mend query) games = no_part _ games

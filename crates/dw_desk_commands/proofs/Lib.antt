@@ -1,5 +1,6 @@
 mod ProblemLemmas
 mod ReportLemmas
+mod SameLemmas
 mod StandingLemmas
 mod CheckLemmas
 mod ChosenLemmas

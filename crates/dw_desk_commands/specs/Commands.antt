@@ -11,6 +11,7 @@ use Rattle.dw_desk_commands.specs.Moves.{IsMovesOf}
 use Rattle.dw_desk_commands.specs.Page.{IsPageOf, IsPageStop}
 use Rattle.dw_desk_commands.specs.ProblemText.{IsHeading, IsPartOfFirst, IsPartOfReport, IsReportOnAll}
 use Rattle.dw_desk_commands.specs.ProblemText.{IsReportOnOne}
+use Rattle.dw_desk_commands.specs.Same.{IsSameOf, IsSamePart}
 use Rattle.dw_desk_commands.specs.Solution.{IsSolutionOf}
 use Rattle.dw_desk_commands.specs.Token.{IsTokenFor}
 use Rattle.dw_desk_commands.specs.declared.desk.Counts.{Counts}
@@ -45,6 +46,9 @@ Tells g portion (task.Solution query) expanded games ending text =
     IsReportOnAll (λ spent. IsSolutionOf g query) expanded portion games ending text
 Tells g portion (task.Page query) expanded games ending text =
     (counts : Counts) × IsPageOf g query portion games counts text
+    × (ending ≡ ending_after counts.shown counts.refused portion)
+Tells g portion (task.Same query) expanded games ending text =
+    (counts : Counts) × IsSameOf g query portion games counts text
     × (ending ≡ ending_after counts.shown counts.refused portion)
 Tells g portion (task.Certify query) expanded games ending text =
     IsReportOnOne (λ game. IsCertifyOf g query.n.value (problem_of game)) portion.first games ending text
@@ -81,6 +85,7 @@ Leaves g (task.Check query) games text = IsPartOfReport (λ spent. IsCheckOf g q
 Leaves g (task.Solution query) games text =
     IsPartOfReport (λ spent. IsSolutionOf g query) (IsHeading g false) games text
 Leaves g (task.Page query) games text = IsPageStop g query games text
+Leaves g (task.Same query) games text = IsSamePart g query games text
 Leaves g (task.Certify query) games text = text ≡ []
 Leaves g (task.Moves query) games text = IsPartOfFirst (IsHeading g (not query.json)) games text
 Leaves g (task.Mend query) games text = IsPartOfFirst (λ game. IsMendPart g query (problem_of game)) games text

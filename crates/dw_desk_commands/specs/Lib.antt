@@ -10,6 +10,7 @@ pub mod Mend
 pub mod Moves
 pub mod Page
 pub mod ProblemText
+pub mod Same
 pub mod Solution
 pub mod Token
 pub mod inner

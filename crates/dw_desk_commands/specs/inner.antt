@@ -4,6 +4,7 @@ pub mod Comparing
 pub mod Faults
 pub mod LaterTold
 pub mod NextGame
+pub mod Repeating
 pub mod Searching
 pub mod Standing
 pub mod Tallies

@@ -13,6 +13,7 @@ ghost use Rattle.dw_solve.specs.declared.stop.Stop.TheVariants as stops;
 use crate::chosen::Chosen;
 use crate::page::page_problems;
 use crate::reporting::{InText, report_all, report_first};
+use crate::same::same_problems;
 use crate::token::Line;
 use dw_arguments::{DeskArgs, Task};
 use dw_board::Board;
@@ -257,6 +258,9 @@ fn dispatch<'a, B: Board, G: Guide<B>, S: Source, K: Sink>(
         }
         Task::Page(query) => {
             return Ok(page_problems(desk, chosen, &query, sink)?.ending(args));
+        }
+        Task::Same(query) => {
+            return Ok(same_problems(desk.alloc, chosen, &query, sink)?.ending(args));
         }
         Task::Certify(query) => {
             let command = InText { command: &query };

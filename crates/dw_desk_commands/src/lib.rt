@@ -14,6 +14,7 @@ mod moves;
 mod page;
 mod page_rows;
 mod reporting;
+mod same;
 mod solution;
 mod token;
 

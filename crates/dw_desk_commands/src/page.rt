@@ -128,7 +128,7 @@ fn begin_page<B: Board, K: Sink>(
 }
 
 /// Writes a piece of a page.
-fn write_piece<K: Sink>(piece: &[u8], sink: &mut K) -> Result<(), DeskFault>
+pub(crate) fn write_piece<K: Sink>(piece: &[u8], sink: &mut K) -> Result<(), DeskFault>
     requires { K.is_failed sink.old ≡ false }
     ensures text { OnOk result (Appends (K.accepted sink.old) (K.accepted sink.new) piece.now) }
     ensures works { OnOk result (K.is_failed sink.new ≡ false) }

@@ -9,6 +9,7 @@ use Rattle.dw_desk_commands.specs.Mend.{IsMendOf}
 use Rattle.dw_desk_commands.specs.Moves.{IsMovesOf}
 use Rattle.dw_desk_commands.specs.Page.{IsPageOf}
 use Rattle.dw_desk_commands.specs.ProblemText.{IsHeading, IsPartOfFirst, IsReportOnOne}
+use Rattle.dw_desk_commands.specs.Same.{IsSameOf}
 use Rattle.dw_desk_commands.specs.Solution.{IsSolutionOf}
 use Rattle.dw_desk_commands.specs.Token.{IsTokenFor}
 use Rattle.dw_desk_commands.specs.inner.Choosing.{AreToCome, MayBe, source_of}
@@ -16,7 +17,7 @@ use Rattle.dw_desk_commands.specs.inner.Standing.{StandsOf}
 use Rattle.dw_arguments.specs.declared.desk.Task.TheVariants as tasks
 use Rattle.dw_desk_commands.specs.inner.NextGame.{IsNext, as_list}
 use Rattle.dw_desk_commands.proofs.CommandLemmas.{IsAll, all_left, does_all, does_it, does_one, nothing_left}
-use Rattle.dw_desk_commands.proofs.CommandLemmas.{one_left, page_left}
+use Rattle.dw_desk_commands.proofs.CommandLemmas.{one_left, page_left, same_left}
 use Rattle.dw_desk_commands.proofs.ProblemLemmas.{is_err, ok_so}
 use Rattle.dw_games.specs.Games.{NumberedGame, problem_of}
 use Rattle.dw_notation.specs.Streams.{Appends}
@@ -79,6 +80,27 @@ returns-in-Page-clause-does g c =
         counts,
         subst (λ z. IsPageOf geo c.in-Page.query z r.0 counts r.1) c.requires.fresh.portion r.3,
         c.ending-in-Page.ensures,
+      ),
+    ))
+
+pub returns-in-Same-clause-does : goal.returns-in-Same-clause-does
+returns-in-Same-clause-does g c =
+    let geo = g.B.Board.geometry in
+    let args = c.args.args.now in
+    let expanded = c.args.desk.now.solver.expanded - c.args.desk.now.solver.expanded in
+    let all = c.in_ok-same_problems-in-Same in
+    let counts = all.field-0 in
+    let r = all.ensures.report in
+    does_it geo g.S.Source.supply args expanded c.args.chosen.now c.same_problems.new.chosen
+    (g.K.Sink.accepted c.args.sink.now) (g.K.Sink.accepted c.same_problems.new.sink) c.ending-in-Same.result r.1
+    c.requires.fresh all.ensures.on r.4
+    (λ whole may. (
+      r.0,
+      r.2 whole may,
+      subst (λ t. Tells geo args.portion t expanded r.0 c.ending-in-Same.result r.1) (sym c.in-Same.is) (
+        counts,
+        subst (λ z. IsSameOf geo c.in-Same.query z r.0 counts r.1) c.requires.fresh.portion r.3,
+        c.ending-in-Same.ensures,
       ),
     ))
 
@@ -232,6 +254,24 @@ returns-in_err-page_problems-in-Page-clause-stands g c =
     c.from_residual-in_err-page_problems-in-Page.result why.0 fault why.1 why.2
     (page_left (Bor (List ℕ)) geo args.portion c.args.chosen.now.portion args.task query may Old start new fault
     c.in-Page.is c.requires.fresh.portion c.in_err-page_problems-in-Page.ensures.stands)
+
+pub returns-in_err-same_problems-in-Same-clause-stands : goal.returns-in_err-same_problems-in-Same-clause-stands
+returns-in_err-same_problems-in-Same-clause-stands g c =
+    let geo = g.B.Board.geometry in
+    let supply = g.S.Source.supply in
+    let args = c.args.args.now in
+    let start = g.K.Sink.accepted c.args.sink.now in
+    let new = g.K.Sink.accepted c.same_problems.new.sink in
+    let may = MayBe supply c.same_problems.new.chosen in
+    let Old = AreToCome geo supply c.args.chosen.now in
+    let query = c.in-Same.query in
+    let fault = c.in_err-same_problems-in-Same.field-0.0 in
+    let why = err_from_is_err_and c.from_residual-in_err-same_problems-in-Same.result
+    c.from_residual-in_err-same_problems-in-Same.ensures.1 in
+    is_err (StandsOf (Leaves geo args.task) (IsAll (Bor (List ℕ)) geo args.portion args.task) may Old start new)
+    c.from_residual-in_err-same_problems-in-Same.result why.0 fault why.1 why.2
+    (same_left (Bor (List ℕ)) geo args.portion c.args.chosen.now.portion args.task query may Old start new fault
+    c.in-Same.is c.requires.fresh.portion c.in_err-same_problems-in-Same.ensures.stands)
 
 pub returns-in-Certify-clause-stands : goal.returns-in-Certify-clause-stands
 returns-in-Certify-clause-stands g c =

@@ -1,0 +1,2 @@
+pub mod TurnLemmas
+pub mod IndexLemmas

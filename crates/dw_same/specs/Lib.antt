@@ -1,0 +1,5 @@
+pub mod Laws
+pub mod RepeatText
+pub mod Repeats
+pub mod Turning
+pub mod inner
