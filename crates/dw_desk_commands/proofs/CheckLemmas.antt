@@ -17,8 +17,7 @@ use Rattle.dw_games.specs.Faults.{IsAnswer}
 use Rattle.dw_games.specs.Walk.{PlayedTree}
 use Rattle.dw_arguments.specs.declared.check.CheckArgs.{CheckArgs}
 use Rattle.dw_study.specs.Remarks.{Remark, fails, also, leaves_open, ends, AreRemarks}
-use Rattle.dw_games.specs.declared.fault.MovetextFaultKind.{MovetextFaultKind}
-use Rattle.dw_desk_commands.specs.Check.{Counted, counted, is_fail, is_end, is_open, is_also, solution_fault_line}
+use Rattle.dw_desk_commands.specs.Check.{Counted, counted, is_fail, is_end, is_open, is_also}
 use Rattle.dw_desk_commands.specs.Check.{IsChecked, IsCheckedAt, IsCheckFor}
 use Rattle.dw_desk_commands.specs.inner.Tallies.{one_more}
 

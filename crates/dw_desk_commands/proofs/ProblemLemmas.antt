@@ -1,7 +1,7 @@
 -- The text of a problem.
-use Rattle.std.proofs.Common.{◌≡◌, ℕ, ◌-◌, Bool, Option, Some, None, Result, Ok, Err, sym, subst}
+use Rattle.std.proofs.Common.{◌≡◌, ℕ, ◌-◌, Option, Some, None, Result, Ok, Err, sym, subst}
 use Rattle.std.proofs.Common.{arith}
-use Rattle.std.specs.Prelude.{IfErr, IfOk, IfSome, OnOk, is_some, true}
+use Rattle.std.specs.Prelude.{IfErr, IfOk, OnOk}
 use Rattle.dw_mend.specs.Mending.{AreBounded}
 
 -- of an answer something holds that follows from what holds of it

@@ -1,5 +1,5 @@
 -- Problems that are compared in turn.
-use Rattle.std.proofs.Common.{◌≡◌, ◌∙◌, ◌+◌, ◌<◌, ◌≤◌, ◌⊎◌, ◌++◌, ◌∷◌, ◌||◌, ℕ, Bool, List, [], Option, Some, None, Ok}
+use Rattle.std.proofs.Common.{◌≡◌, ◌∙◌, ◌+◌, ◌<◌, ◌≤◌, ◌⊎◌, ◌++◌, ◌∷◌, ℕ, Bool, List, [], Option, Some, None, Ok}
 use Rattle.std.proofs.Common.{Err, cond, flat_map, length, map, true, false, nat_eq}
 use Rattle.std.proofs.Common.{refl, sym, ap, subst, arith, append-nil, append_assoc, inl, inr, length-append}
 use Rattle.std.specs.List.{count_by}
@@ -92,9 +92,6 @@ counts_more xs this old new yes' shown_is refused_is same with few =
     )
 
 -- ---- the loop
-
-
-
 
 -- the problems of games with one game more
 noted_more : (xs : List Compared) (this : Compared)

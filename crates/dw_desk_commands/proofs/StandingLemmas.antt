@@ -8,7 +8,7 @@ use Rattle.dw_desk_commands.specs.inner.Standing.{IsAfter, Stands, StandsOf}
 use Rattle.dw_games.specs.Games.{NumberedGame}
 use Rattle.dw_notation.specs.Streams.{Appends}
 use Rattle.dw_notation.specs.Writes.{IsBeginning, StopsShort}
-use Rattle.dw_notation.specs.inner.StreamLemmas.{Appends-nil, Appends-trans}
+use Rattle.dw_notation.specs.inner.StreamLemmas.{Appends-trans}
 
 -- what is left stands after any fault
 pub left_stands : (Leaves Whole : List ℕ → Type 0) (fault : DeskFault) (text : List ℕ) → Leaves text

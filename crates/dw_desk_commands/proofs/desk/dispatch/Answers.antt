@@ -4,6 +4,7 @@ use Rattle.std.specs.Borrow.{Bor}
 use Rattle.dw_desk_commands.specs.Certify.{IsCertifyOf}
 use Rattle.dw_desk_commands.specs.Check.{IsCheckOf}
 use Rattle.dw_desk_commands.specs.Commands.{Leaves, RunsCommand, Tells}
+use Rattle.dw_desk_commands.specs.Ending.{HasCause}
 use Rattle.dw_desk_commands.specs.Find.{IsFindOf}
 use Rattle.dw_desk_commands.specs.Mend.{IsMendOf}
 use Rattle.dw_desk_commands.specs.Moves.{IsMovesOf}
@@ -13,6 +14,7 @@ use Rattle.dw_desk_commands.specs.Same.{IsSameOf}
 use Rattle.dw_desk_commands.specs.Solution.{IsSolutionOf}
 use Rattle.dw_desk_commands.specs.Token.{IsTokenFor}
 use Rattle.dw_desk_commands.specs.inner.Choosing.{AreToCome, MayBe, source_of}
+use Rattle.dw_desk_commands.specs.inner.Faults.{run_fault}
 use Rattle.dw_desk_commands.specs.inner.Standing.{StandsOf}
 use Rattle.dw_arguments.specs.declared.desk.Task.TheVariants as tasks
 use Rattle.dw_desk_commands.specs.inner.NextGame.{IsNext, as_list}
@@ -338,3 +340,24 @@ returns-in-Token-clause-stands g c =
     (λ game text. text ≡ [])) One c.args.chosen.now.portion.first c.in-Token.is
     (ap (λ z. z.first) c.requires.fresh.portion) nothing_left (λ games text expanded ending one. one) stands)
     c.report_first-in-Token.ensures.stands
+
+pub returns-in-Same-clause-ends : goal.returns-in-Same-clause-ends
+returns-in-Same-clause-ends g c = record {
+  source = (c.same_problems.ensures.ends c.args.desk.now.solver.expanded).source;
+  cause = tt;
+}
+
+pub returns-in_err-same_problems-in-Same-clause-ends : goal.returns-in_err-same_problems-in-Same-clause-ends
+returns-in_err-same_problems-in-Same-clause-ends g c =
+    let expanded = c.args.desk.now.solver.expanded in
+    let fault = c.in_err-same_problems-in-Same.field-0.0 in
+    let read_failed = g.S.Source.is_failed (source_of c.same_problems.new.chosen.text) in
+    let write_failed = g.K.Sink.is_failed c.same_problems.new.sink in
+    let why = err_from_is_err_and c.from_residual-in_err-same_problems-in-Same.result
+    c.from_residual-in_err-same_problems-in-Same.ensures.1 in
+    record {
+      source = (c.same_problems.ensures.ends expanded).source;
+      cause = is_err (λ f. HasCause read_failed write_failed (run_fault f expanded))
+          c.from_residual-in_err-same_problems-in-Same.result why.0 fault why.1 why.2
+          (c.in_err-same_problems-in-Same.ensures.ends expanded).cause;
+    }

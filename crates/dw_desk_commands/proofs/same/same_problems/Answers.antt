@@ -1,8 +1,7 @@
-use Rattle.std.proofs.Common.{◌≡◌, ◌∙◌, ℕ, List, ap, refl, subst}
+use Rattle.std.proofs.Common.{◌∙◌, ap, refl, subst}
 use Rattle.std.specs.Prelude.{IfSome, option_map}
 use Rattle.std.proofs.lemmas.Result.{err_from_is_err_and}
 use Rattle.dw_games.specs.GameReading.{numbered_game}
-use Rattle.dw_games.specs.Games.{NumberedGame}
 use Rattle.dw_desk_commands.specs.Same.{IsSamePart}
 use Rattle.dw_desk_commands.specs.inner.Choosing.{AreToCome, HandsOut, HaveGames, MayBe}
 use Rattle.dw_desk_commands.specs.inner.Standing.{StandsOf}
