@@ -85,6 +85,7 @@ say(await desk.moves(fen, { n: 2 }));
 say(await desk.check(`[FEN "${fen}"] 1. 32-28 18-22 2. 27x18 2-0`));
 say(await desk.solution(new TextEncoder().encode(`${fen}\\n`), { n: 2 }));
 say((await desk.mend(fen, { n: 2 })).at(-1));
+say(await desk.same([fen, 'B:W33:B19,24', fen]));
 say(await desk.show('W:W22:B18', { board: 8 }));
 say(await desk.legal('W:W32:B28'));
 const lines = [];
@@ -250,6 +251,7 @@ def check_calls(made):
         rows("dw-desk", "find", "--json", "-n", "3"), rows("dw-desk", "moves", "--json", "-n", "2")[0],
         rows("dw-desk", "check", "--json", text=game), rows("dw-desk", "solution", "--json", "-n", "2"),
         rows("dw-desk", "mend", "--json", "-n", "2")[-1],
+        rows("dw-desk", "same", "--json", text="W:W27,32:B18\nB:W33:B19,24\nW:W27,32:B18\n"),
         rows("dw", "show", "--json", "--board", "8", text="W:W22:B18\n"),
         rows("dw", "moves", "--json", text="W:W32:B28\n"), listed, "win in 2", True, [2, 3, 4] * 4, "AbortError",
         "AbortError", [True, 2], 2,

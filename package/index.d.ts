@@ -119,6 +119,18 @@ export interface Mended {
     undecided: number;
 }
 
+/** A problem that repeats an earlier one: the number of that one. */
+export interface Repeated extends Shown {
+    same_as?: number;
+    /** Of a problem that is the earlier one turned by 180 degrees, with the colours and the side to move exchanged. */
+    turned?: number;
+}
+
+export interface Repeats {
+    repeated: number;
+    of: number;
+}
+
 export interface PageOptions extends CallOptions {
     n?: number;
     most?: number;
@@ -155,6 +167,7 @@ export class Desk {
         Promise<(Solution | Refused)[]>;
     mend(problem: string | Uint8Array, options: CallOptions & Bounded & { n: number }):
         Promise<(Neighbour | Mended | Refused)[]>;
+    same(problems: Problems, options?: CallOptions): Promise<(Repeated | Repeats | Refused)[]>;
     moves(problem: string | Uint8Array, options: CallOptions & { n: number }): Promise<FirstMoves | Refused>;
     list(problem: string | Uint8Array, options: CallOptions & { n: number; after?: string }): AsyncGenerator<string>;
     certify(problem: string | Uint8Array, options: CallOptions & { n: number; cache?: number }): Promise<string>;

@@ -128,6 +128,11 @@ export class Desk {
         return this.#rows('mend', problem, options);
     }
 
+    /** The problems that repeat an earlier one, as it is or turned, and how many they are. */
+    same(problems, options = {}) {
+        return this.#rows('same', problems, options);
+    }
+
     /** What each first move of one problem does, shared by all workers. */
     async moves(problem, options) {
         const count = this.#workers.most, parts = Array.from({ length: count }, (_, i) => `${i + 1}/${count}`);

@@ -41,8 +41,8 @@ Examples:
   dw-desk check examples/solutions.pdn
 
 Exit status: 0 done; 1 a problem, solution or line was refused, a solution does not hold, or a
-problem is repeated, undecided or missing; 2 wrong arguments; 3 the program was stopped, or a file could not
-be read or written.";
+problem is repeated, undecided or missing; 2 wrong arguments; 3 the program was stopped, or a file
+could not be read or written.";
 
 /// The commands of `dw-desk`.
 #[derive(Clone, Copy)]
