@@ -44,6 +44,8 @@ def drawn(source, board):
 
 def near(source, board, cells, turn):
     """A position that is like another one, and mostly not the same."""
+    if not cells:
+        return cells, other(turn)
     changed = dict(cells)
     square = source.choice(list(changed))
     side, king = changed.pop(square)
