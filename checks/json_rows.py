@@ -39,6 +39,7 @@ def written():
         found["find"] += lines_of("find", "--json", "--most", "3", *more, text=positions)
     for more in ([], ["--solution"]):
         found["find"] += lines_of("find", "--json", "-n", "2", *more, text=positions)
+        found["find"] += lines_of("find", "--json", "--most", "3", "--later", "1", *more, text=positions)
     for more in ([], ["-n", "2"], ["--most", "3"], ["--faults"]):
         found["check"] += lines_of("check", "--json", *more, text=games)
     for more in (["-n", "3"], ["--most", "3", "--lines", "1"]):

@@ -63,7 +63,7 @@ for each problem. With --later a second winning move shows that a sound problem 
 Examples:
   echo W:W10,16,48:B13 | dw-desk find
   dw-desk find --most 6 --each 1000000 examples/problems.fen
-  dw-desk find --later 2 examples/problems.fen
+  dw-desk find --later 2 --problem 1-3 examples/problems.fen
   dw-desk find --json --problem 1-3 examples/problems.fen";
 
 /// Returns the command with its arguments.
