@@ -3,7 +3,7 @@
 
     checks/same.py [--count FILES]
 
-For random files of few problems on each board (2,000 by default, half of them on each), in which many repeat an earlier
+For random files of few problems on each board (200 by default, half of them on each), in which many repeat an earlier
 one, turned or not, and some are refused, a plain loop finds the first problem that is the same. The output must be the
 same, in words and in JSON, with the same status, for the whole file, for a portion of it, and for a PDN file.
 """
@@ -143,7 +143,7 @@ def check_random(rows, count):
 
 
 def main():
-    count = count_asked(2000)
+    count = count_asked(200)
     for rows in (10, 8):
         check_random(rows, count // 2)
 
